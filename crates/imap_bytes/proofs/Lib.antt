@@ -1,0 +1,16 @@
+pub mod Steps
+pub mod Bytewise
+pub mod Joining
+pub mod Repetition
+pub mod Agreement
+pub mod Stability
+pub mod Consumption
+pub mod Tables
+pub mod Loops
+pub mod Runs
+pub mod Decoding
+pub mod Digits
+pub mod Joins
+pub mod Under
+pub mod Callers
+pub mod Seen

@@ -1,0 +1,86 @@
+-- An `==` that tells the value that a type is seen as: of lists, options, numbers and texts.
+use Rattle.std.proofs.Common.{◌≡◌, ℕ, List, [], ◌∷◌, refl, sym, ap, ◌∙◌, Option, Some, None, Bool, true, false, ◌&&◌, map, nat_eq, eq-eqb, eqb→eq}
+use Rattle.std.specs.Prelude.{option_map}
+use Rattle.std.specs.Option.{option_eq}
+use Rattle.std.specs.Global.{Global}
+use Rattle.std.specs.Cow.{cow_str_bytes}
+use Rattle.std.specs.declared.borrow.CowStr.{CowStr}
+use Rattle.std.specs.declared.borrow.CowStr.TheVariants.{Borrowed, Owned}
+pub use Rattle.imap_bytes.specs.Equality.{Tells}
+use Rattle.imap_bytes.specs.Text.{Text, text_of, as_text, lent_text}
+use Rattle.std.specs.Cmp.Lexicographic.{pointwise, same_text, texts_ties}
+use Rattle.std.proofs.lemmas.Cmp.{nat_list_eq_equiv}
+
+and_left : (a b : Bool) → (a && b) ≡ true → a ≡ true
+and_left true b h = refl
+and_left false b h = cc
+
+and_right : (a b : Bool) → (a && b) ≡ true → b ≡ true
+and_right true b h = h
+and_right false b h = cc
+
+and_both : (a b : Bool) → a ≡ true → b ≡ true → (a && b) ≡ true
+and_both true b p q = q
+and_both false b p q = cc
+
+module _ {A V : Type 0} (eq : A → A → Bool) (view : A → V) (t : Tells eq view) where
+  items_same : (xs ys : List A) → pointwise eq xs ys ≡ true → map view xs ≡ map view ys
+  items_same [] [] h = refl
+  items_same [] (y ∷ ys) h = cc
+  items_same (x ∷ xs) [] h = cc
+  items_same (x ∷ xs) (y ∷ ys) h = let p = t.same x y (and_left (eq x y) (pointwise eq xs ys) h) in let q = items_same xs ys (and_right (eq x y) (pointwise eq xs ys) h) in cc
+
+  items_equal : (xs ys : List A) → map view xs ≡ map view ys → pointwise eq xs ys ≡ true
+  items_equal [] [] h = refl
+  items_equal [] (y ∷ ys) h = cc
+  items_equal (x ∷ xs) [] h = cc
+  items_equal (x ∷ xs) (y ∷ ys) h = and_both (eq x y) (pointwise eq xs ys) (t.equal x y cc) (items_equal xs ys cc)
+
+  pub items_tell : Tells (pointwise eq) (map view)
+  items_tell = record { same = items_same; equal = items_equal }
+
+  option_same : (x y : Option A) → option_eq eq x y ≡ true → option_map view x ≡ option_map view y
+  option_same None None h = refl
+  option_same None (Some y) h = cc
+  option_same (Some x) None h = cc
+  option_same (Some x) (Some y) h = ap Some (t.same x y h)
+
+  option_equal : (x y : Option A) → option_map view x ≡ option_map view y → option_eq eq x y ≡ true
+  option_equal None None h = refl
+  option_equal None (Some y) h = cc
+  option_equal (Some x) None h = cc
+  option_equal (Some x) (Some y) h = t.equal x y cc
+
+  pub option_tells : Tells (option_eq eq) (option_map view)
+  option_tells = record { same = option_same; equal = option_equal }
+
+-- `==` of what f shows of a value
+pub on_tells : {A B V : Type 0} (f : B → A) (eq : A → A → Bool) (view : A → V) → Tells eq view → Tells (λ x y. eq (f x) (f y)) (λ x. view (f x))
+on_tells f eq view t = record { same = λ x y h. t.same (f x) (f y) h; equal = λ x y h. t.equal (f x) (f y) h }
+
+pub numbers_tell : Tells nat_eq (λ n. n)
+numbers_tell = record { same = λ x y h. eqb→eq x y (rw h tt); equal = λ x y h. eq-eqb x y h }
+
+bytes_equal : (xs ys : List ℕ) → xs ≡ ys → pointwise nat_eq xs ys ≡ true
+bytes_equal xs ys h = rw (sym h) (alike xs)
+  where
+    alike : (xs : List ℕ) → pointwise nat_eq xs xs ≡ true
+    alike [] = refl
+    alike (x ∷ xs) = and_both (nat_eq x x) (pointwise nat_eq xs xs) (eq-eqb x x refl) (alike xs)
+
+pub text_tells : Tells (pointwise nat_eq) (λ (bytes : List ℕ). bytes)
+text_tells = record { same = λ x y h. same_text x y (sym h); equal = bytes_equal }
+
+-- `==` of texts, whichever is borrowed
+lent_bytes : (x : CowStr Global) → lent_text (text_of x) ≡ as_text (cow_str_bytes x)
+lent_bytes (Borrowed s) = refl
+lent_bytes (Owned s) = refl
+
+abbrev bytes_of : Text → List ℕ
+bytes_of t = t.bytes
+
+pub texts_tell : Tells (λ (x y : CowStr Global). pointwise nat_eq (cow_str_bytes x) (cow_str_bytes y)) (λ x. lent_text (text_of x))
+texts_tell = record {
+  same = λ x y h. lent_bytes x ∙ ap as_text (text_tells.same (cow_str_bytes x) (cow_str_bytes y) h) ∙ sym (lent_bytes y);
+  equal = λ x y h. text_tells.equal (cow_str_bytes x) (cow_str_bytes y) (ap bytes_of (sym (lent_bytes x) ∙ h ∙ lent_bytes y));
+}

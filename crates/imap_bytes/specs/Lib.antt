@@ -1,0 +1,15 @@
+pub mod Meaning
+pub mod Rule
+pub mod Step
+pub mod Exact
+pub mod Answer
+pub mod Stable
+pub mod Text
+pub mod Classes
+pub mod Tags
+pub mod Numbers
+pub mod Strings
+pub mod Texts
+pub mod Sets
+pub mod Lists
+pub mod Equality

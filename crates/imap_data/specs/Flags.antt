@@ -1,0 +1,29 @@
+-- Flags (RFC 3501, section 9: flag, flag-perm, flag-list). A flag's text has its backslash.
+use Rattle.std.specs.Prelude.{List, codes}
+use Rattle.imap_bytes.specs.Classes.{is_atom_char, is_astring_char}
+use Rattle.imap_bytes.specs.Text.{Bytes, Text, as_text}
+use Rattle.imap_bytes.specs.Rule.{Rule, run0, run1, raw, gives, ◌⨾◌, ◌or◌}
+use Rattle.imap_bytes.specs.Tags.{tag, exactly_names}
+use Rattle.imap_bytes.specs.Strings.{in_utf8}
+use Rattle.imap_bytes.specs.Lists.{list_of}
+
+unfoldable pub backslashed : Rule Bytes
+backslashed = raw (tag "\\" ⨾ run0 is_atom_char)
+
+unfoldable pub backslashed_text : Rule Bytes
+backslashed_text = in_utf8 backslashed
+
+unfoldable pub keyword : Rule Bytes
+keyword = in_utf8 (run1 is_astring_char)
+
+unfoldable pub flag : Rule Bytes
+flag = backslashed_text or keyword
+
+unfoldable pub flag_perm : Rule Bytes
+flag_perm = exactly_names "\\*" (codes "\\*") or flag
+
+unfoldable pub flag_text : Rule Text
+flag_text = gives as_text flag_perm
+
+unfoldable pub flag_list : Rule (List Text)
+flag_list = list_of flag_text

@@ -1,0 +1,4 @@
+pub mod Status
+pub mod Flags
+pub mod MailboxValues
+pub mod Mailbox
