@@ -1,0 +1,28 @@
+//! Reads standard input to its end, and writes a line for each response that it holds.
+#![tactic(auto)]
+
+mod devices;
+mod outcome;
+mod running;
+mod standard;
+mod telling;
+
+use outcome::Finish;
+use running::run;
+use standard::{Reading, Writing};
+use std::io;
+use std::process::ExitCode;
+
+fn main(rt: HostRuntime) -> ExitCode {
+    let mut reader = Reading::new(rt.reader());
+    let mut writer = Writing::new(io::writer(&rt));
+    match run(rt.alloc(), &mut reader, &mut writer) {
+        Ok(Finish::End) => ExitCode::SUCCESS,
+        Ok(Finish::Waiting) => ExitCode::from(2),
+        Ok(Finish::Denied) => ExitCode::from(3),
+        Err(_) => {
+            let _ = eprintln!(rt; "fault");
+            ExitCode::FAILURE
+        }
+    }
+}

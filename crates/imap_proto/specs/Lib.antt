@@ -1,0 +1,3 @@
+pub mod Responses
+pub mod Outcomes
+pub mod Lines

@@ -1,0 +1,158 @@
+//! Lines: continuations, untagged data and tagged statuses.
+
+ghost use Rattle.std.specs.Prelude.{◌≡◌, ◌<◌, length, position, IfSome};
+ghost use Rattle.imap_bytes.specs.Answer.{Exactly, Gives};
+ghost use Rattle.imap_bytes.specs.Step.{step};
+ghost use Rattle.imap_bytes.specs.Meaning.{outside};
+ghost use Rattle.imap_bytes.specs.Rule.{run1, ◌▹◌};
+ghost use Rattle.imap_bytes.specs.Tags.{sp};
+ghost use Rattle.imap_proto.specs.Responses.{response_value, outcome_value};
+ghost use Rattle.imap_proto.specs.Outcomes as outcomes;
+ghost use Rattle.imap_proto.specs.Lines as rule;
+
+use crate::outcome::Outcome;
+use crate::response::{RequestId, Response};
+use imap_bytes::strings::as_utf8;
+use imap_bytes::tags::{cut0, cut1, maybe_space, tag};
+use imap_bytes::{Err, IResult, first, is_astring_char, text};
+use imap_data::readers::status;
+use std::alloc::Global;
+
+// ---- outcomes
+
+#[tactic(auto, unfolding(crate::specs::Outcomes::outcome))]
+fn outcome(alloc: Global, i: &[u8]) -> IResult<&[u8], Outcome<'_>>
+    ensures { Gives outcome_value result (step outcomes.outcome i.now) }
+{
+    let (rest, text) = text(alloc, i)?;
+    let information = if text.is_empty() { None } else { Some(text) };
+    Ok((rest, Outcome { information }))
+}
+
+fn behind_space(alloc: Global, i: &[u8]) -> IResult<&[u8], Outcome<'_>>
+    ensures { Gives outcome_value result (step (sp ▹ outcomes.outcome) i.now) }
+{
+    let (rest, _) = tag(b" ", i)?;
+    outcome(alloc, rest)
+}
+
+#[tactic(auto, unfolding(crate::specs::Outcomes::spaced_outcome))]
+fn spaced_outcome(alloc: Global, i: &[u8]) -> IResult<&[u8], Outcome<'_>>
+    ensures { Gives outcome_value result (step outcomes.spaced_outcome i.now) }
+{
+    first!(behind_space(alloc, i));
+    Ok((i, Outcome { information: None }))
+}
+
+// ---- the three kinds of lines
+
+#[tactic(auto, unfolding(crate::specs::Lines::continuation))]
+fn continuation(alloc: Global, i: &[u8]) -> IResult<&[u8], Response<'_>>
+    ensures { Gives response_value result (step rule.continuation i.now) }
+{
+    let (i, _) = tag(b"+", i)?;
+    let (i, _) = maybe_space(i)?;
+    let (i, outcome) = outcome(alloc, i)?;
+    let (i, _) = tag(b"\r\n", i)?;
+    Ok((i, Response::Continue(outcome)))
+}
+
+#[tactic(auto, unfolding(crate::specs::Lines::status_data))]
+fn status_data(alloc: Global, i: &[u8]) -> IResult<&[u8], Response<'_>>
+    ensures { Gives response_value result (step rule.status_data i.now) }
+{
+    let (i, status) = status(i)?;
+    let (i, outcome) = spaced_outcome(alloc, i)?;
+    Ok((i, Response::Data { status, outcome }))
+}
+
+#[tactic(auto, unfolding(crate::specs::Lines::datum))]
+fn datum(alloc: Global, i: &[u8]) -> IResult<&[u8], Response<'_>>
+    ensures { Gives response_value result (step rule.datum i.now) }
+{
+    status_data(alloc, i)
+}
+
+fn is_space(c: u8) -> bool
+    ensures { result ≡ rule.is_space c }
+{
+    c == b' '
+}
+
+fn spaces_end(i: &[u8]) -> Option<usize>
+    ensures at { result ≡ position (outside rule.is_space) i.now }
+    ensures within { IfSome result (λ n. n < length i.now) }
+{
+    i.iter().position(|c| !is_space(*c))
+}
+
+#[tactic(auto, unfolding(crate::specs::Lines::spaces))]
+fn spaces(i: &[u8]) -> IResult<&[u8], &[u8]>
+    ensures { Exactly (λ x. x.now) result (step rule.spaces i.now) }
+{
+    cut0(spaces_end(i), i)
+}
+
+#[tactic(auto, unfolding(crate::specs::Lines::data_line))]
+fn data_line(alloc: Global, i: &[u8]) -> IResult<&[u8], Response<'_>>
+    ensures { Gives response_value result (step rule.data_line i.now) }
+{
+    let (i, _) = tag(b"* ", i)?;
+    let (i, response) = datum(alloc, i)?;
+    let (i, _) = spaces(i)?;
+    let (i, _) = tag(b"\r\n", i)?;
+    Ok((i, response))
+}
+
+fn is_tag_char(c: u8) -> bool
+    ensures { result ≡ rule.is_tag_char c }
+{
+    is_astring_char(c) && c != b'+'
+}
+
+fn tag_end(i: &[u8]) -> Option<usize>
+    ensures at { result ≡ position (outside rule.is_tag_char) i.now }
+    ensures within { IfSome result (λ n. n < length i.now) }
+{
+    i.iter().position(|c| !is_tag_char(*c))
+}
+
+fn tag_chars(i: &[u8]) -> IResult<&[u8], &[u8]>
+    ensures { Exactly (λ x. x.now) result (step (run1 rule.is_tag_char) i.now) }
+{
+    cut1(tag_end(i), i)
+}
+
+#[tactic(auto, unfolding(crate::specs::Lines::request_tag))]
+fn request_tag(i: &[u8]) -> IResult<&[u8], &str>
+    ensures { Exactly (λ x. x.now) result (step rule.request_tag i.now) }
+{
+    let (rest, bytes) = tag_chars(i)?;
+    match as_utf8(bytes) {
+        None => Err(Err::Error),
+        Some(text) => Ok((rest, text)),
+    }
+}
+
+#[tactic(auto, unfolding(crate::specs::Lines::tagged))]
+fn tagged(alloc: Global, i: &[u8]) -> IResult<&[u8], Response<'_>>
+    ensures { Gives response_value result (step rule.tagged i.now) }
+{
+    let (i, tag_text) = request_tag(i)?;
+    let (i, _) = tag(b" ", i)?;
+    let (i, status) = status(i)?;
+    let (i, outcome) = spaced_outcome(alloc, i)?;
+    let (i, _) = tag(b"\r\n", i)?;
+    let tag = RequestId(String::from_str(alloc, tag_text)?);
+    Ok((i, Response::Done { tag, status, outcome }))
+}
+
+/// A response: a continuation, a data line or a tagged line.
+#[tactic(auto, unfolding(crate::specs::Lines::response))]
+pub(crate) fn response(alloc: Global, i: &[u8]) -> IResult<&[u8], Response<'_>>
+    ensures { Gives response_value result (step rule.response i.now) }
+{
+    first!(continuation(alloc, i));
+    first!(data_line(alloc, i));
+    tagged(alloc, i)
+}

@@ -1,0 +1,62 @@
+//! Responses.
+
+ghost use Rattle.std.specs.Prelude.{◌≡◌, string_bytes, IfOk};
+ghost use Rattle.imap_bytes.specs.Answer.{Answers, Gives};
+ghost use Rattle.imap_bytes.specs.Step.{step};
+ghost use Rattle.imap_proto.specs.Responses.{response_value, EndsLine};
+ghost use Rattle.imap_proto.specs.Lines as rule;
+
+use crate::lines;
+use crate::outcome::Outcome;
+use imap_bytes::IResult;
+use imap_data::Status;
+use std::alloc::Global;
+
+/// The tag of the command that a line answers (RFC 3501, section 2.2.1).
+#[derive(Debug, Drop, PartialEq, Eq)]
+pub struct RequestId(pub String);
+
+impl RequestId {
+    /// The bytes of the tag. No memory.
+    pub fn as_bytes(&self) -> &[u8]
+        ensures { result.now ≡ string_bytes self.now.0 }
+    {
+        self.0.as_bytes()
+    }
+}
+
+/// A response of a server (RFC 3501, section 7).
+#[derive(Debug, Drop, PartialEq, Eq)]
+pub enum Response<'a> {
+    /// `+`: the server waits for the rest of a command.
+    Continue(Outcome<'a>),
+    /// A tagged line: a command is done.
+    Done {
+        tag: RequestId,
+        status: Status,
+        outcome: Outcome<'a>,
+    },
+    /// An untagged status line.
+    Data {
+        status: Status,
+        outcome: Outcome<'a>,
+    },
+}
+
+/// What `Response::parse` answers.
+pub type ParseResult<'a> = IResult<&'a [u8], Response<'a>>;
+
+impl<'a> Response<'a> {
+    /// The response at the front of the message, and the bytes behind it (RFC 3501, section 9: response).
+    ///
+    /// `Error`: no bytes behind these make a response. `Incomplete`: more bytes are needed. `Failure`: memory ran out,
+    /// and nothing else. Texts borrow from the message exactly where their bytes are UTF-8; the message is only read.
+    #[tactic(auto, using(imap_bytes::proofs::Agreement::answered, crate::proofs::Ending::line_ends))]
+    pub fn parse(alloc: Global, msg: &'a [u8]) -> ParseResult<'a>
+        ensures steps { Gives response_value result (step rule.response msg.now) }
+        ensures answer { Answers rule.response response_value msg.now result }
+        ensures line { IfOk result (λ x. EndsLine msg.now x.0.now) }
+    {
+        lines::response(alloc, msg)
+    }
+}
