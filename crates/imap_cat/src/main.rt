@@ -3,15 +3,19 @@
 
 mod devices;
 mod outcome;
+mod readers;
 mod running;
-mod standard;
 mod telling;
+#[cfg(test)]
+mod tests;
+mod writers;
 
 use outcome::Finish;
 use running::run;
-use standard::{Reading, Writing};
+use readers::Reading;
 use std::io;
 use std::process::ExitCode;
+use writers::Writing;
 
 fn main(rt: HostRuntime) -> ExitCode {
     let mut reader = Reading::new(rt.reader());

@@ -1,0 +1,5 @@
+pub mod NextStates
+pub mod Runs
+pub mod Reader
+pub mod ReadBack
+pub mod ToldApart

@@ -1,0 +1,9 @@
+use Rattle.std.proofs.Common.{append-nil, ◌∙◌, sym}
+use Rattle.imap_command.proofs.NextStates.{fetches_modified}
+use Rattle.imap_command.proofs.fetching.CommandFromFetchCommandModifiers.from.Goals as goal
+
+pub returns : goal.returns
+returns c calls s e = record {
+  text = rw (s, append-nil) (c.fetch.view_is ∙ e);
+  next_state = sym (fetches_modified calls s);
+}

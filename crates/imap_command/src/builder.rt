@@ -1,0 +1,102 @@
+//! The calls that begin a command.
+
+ghost use Rattle.std.specs.Prelude.{◌≡◌, [], ◌∷◌, IfOk};
+ghost use Rattle.std.specs.Option.{option_or};
+ghost use Rattle.imap_command.specs.Arguments.{refusal, Judges};
+ghost use Rattle.imap_command.specs.Calls.{begun, Tells};
+ghost use Rattle.imap_command.specs.Calls as call;
+
+use crate::arguments::{with_argument, with_arguments};
+use crate::fetch::Empty;
+use crate::select::NoParams;
+use crate::{BuildError, Command, FetchCommand, SelectCommand, State};
+use std::alloc::{AllocError, Global};
+
+/// Begins commands. Arguments are judged from left to right, the first argument first, and before
+/// any memory is taken.
+#[derive(Drop)]
+pub struct CommandBuilder {}
+
+impl CommandBuilder {
+    /// CHECK (RFC 3501 section 6.4.1). It takes memory.
+    pub fn check(alloc: Global) -> Result<Command, AllocError>
+        ensures { IfOk result (λ command. Tells (call.check ∷ []) command) }
+    {
+        let args = Vec::from_slice(alloc, b"CHECK")?;
+        Ok(Command {
+            args,
+            next_state: None,
+        })
+    }
+
+    /// CLOSE (RFC 3501 section 6.4.2). It takes memory.
+    pub fn close(alloc: Global) -> Result<Command, AllocError>
+        ensures { IfOk result (λ command. Tells (call.close ∷ []) command) }
+    {
+        let args = Vec::from_slice(alloc, b"CLOSE")?;
+        Ok(Command {
+            args,
+            next_state: Some(State::Authenticated),
+        })
+    }
+
+    /// EXAMINE of a mailbox (RFC 3501 section 6.3.2). It takes memory.
+    pub fn examine(alloc: Global, mailbox: &str) -> Result<SelectCommand<NoParams>, BuildError>
+        ensures judged { Judges (refusal mailbox.now) result }
+        ensures text { IfOk result (λ command. command ≡ begun (call.examine mailbox.now ∷ [])) }
+    {
+        let args = with_argument(alloc, b"EXAMINE ", mailbox)?;
+        Ok(SelectCommand::with_text(args))
+    }
+
+    /// FETCH of messages by their numbers (RFC 3501 section 6.4.5). It takes memory.
+    pub fn fetch(alloc: Global) -> Result<FetchCommand<Empty>, AllocError>
+        ensures { IfOk result (λ command. command ≡ begun (call.fetch ∷ [])) }
+    {
+        let args = Vec::from_slice(alloc, b"FETCH ")?;
+        Ok(FetchCommand::with_text(args))
+    }
+
+    /// LIST of the mailboxes that a pattern fits (RFC 3501 section 6.3.8). It takes memory.
+    pub fn list(alloc: Global, reference: &str, glob: &str) -> Result<Command, BuildError>
+        ensures judged { Judges (option_or (refusal reference.now) (refusal glob.now)) result }
+        ensures told { IfOk result (λ command.
+            Tells (call.list reference.now glob.now ∷ []) command) }
+    {
+        let args = with_arguments(alloc, b"LIST ", reference, glob)?;
+        Ok(Command {
+            args,
+            next_state: None,
+        })
+    }
+
+    /// LOGIN (RFC 3501 section 6.2.3). It takes memory.
+    pub fn login(alloc: Global, user_name: &str, password: &str) -> Result<Command, BuildError>
+        ensures judged { Judges (option_or (refusal user_name.now) (refusal password.now)) result }
+        ensures told { IfOk result (λ command.
+            Tells (call.login user_name.now password.now ∷ []) command) }
+    {
+        let args = with_arguments(alloc, b"LOGIN ", user_name, password)?;
+        Ok(Command {
+            args,
+            next_state: Some(State::Authenticated),
+        })
+    }
+
+    /// SELECT of a mailbox (RFC 3501 section 6.3.1). It takes memory.
+    pub fn select(alloc: Global, mailbox: &str) -> Result<SelectCommand<NoParams>, BuildError>
+        ensures judged { Judges (refusal mailbox.now) result }
+        ensures text { IfOk result (λ command. command ≡ begun (call.select mailbox.now ∷ [])) }
+    {
+        let args = with_argument(alloc, b"SELECT ", mailbox)?;
+        Ok(SelectCommand::with_text(args))
+    }
+
+    /// FETCH of messages by their unique identifiers (RFC 3501 section 6.4.8). It takes memory.
+    pub fn uid_fetch(alloc: Global) -> Result<FetchCommand<Empty>, AllocError>
+        ensures { IfOk result (λ command. command ≡ begun (call.uid_fetch ∷ [])) }
+    {
+        let args = Vec::from_slice(alloc, b"UID FETCH ")?;
+        Ok(FetchCommand::with_text(args))
+    }
+}

@@ -1,0 +1,100 @@
+//! FETCH and UID FETCH.
+
+ghost use Rattle.std.specs.Prelude.{◌≡◌, ℕ, List, ◌∷◌, IfOk};
+ghost use Rattle.std.specs.Range.{range_inclusive_start, range_inclusive_end};
+ghost use Rattle.imap_command.specs.Calls.{Call, stage, begun, empty, modifiers, Tells};
+ghost use Rattle.imap_command.specs.Calls as call;
+
+use crate::Command;
+use crate::fetch::{Empty, Messages, Modifiers};
+use crate::numbers::{push_changed_since, push_number, push_open_range, push_range};
+use std::alloc::AllocError;
+use std::marker::{Model, PhantomData};
+use std::ops::{RangeFrom, RangeInclusive};
+
+mod attributes;
+mod messages;
+
+/// A FETCH or UID FETCH that is being built; `T` is what it has been told so far. Where a growth is
+/// refused, the command is given up.
+#[derive(Drop)]
+pub struct FetchCommand<T> {
+    args: Vec<u8>,
+    state: PhantomData<T>,
+}
+
+impl<T> Model for FetchCommand<T> {
+    ghost Value = { List ℕ };
+
+    ghost view = { λ command. command.args.items };
+}
+
+impl<T> FetchCommand<T> {
+    pub(crate) fn with_text(args: Vec<u8>) -> FetchCommand<T>
+        ensures { result ≡ args.items }
+    {
+        FetchCommand {
+            args,
+            state: PhantomData,
+        }
+    }
+}
+
+impl FetchCommand<Empty> {
+    /// Asks for the message with this number. It takes memory.
+    pub fn num(self, number: u32) -> Result<FetchCommand<Messages>, AllocError>
+        ensures { IfOk result (λ command. (calls : List Call) → stage calls ≡ empty
+            → self ≡ begun calls → command ≡ begun (call.num number ∷ calls)) }
+    {
+        let mut args = self.args;
+        push_number(&mut args, number as u64)?;
+        Ok(FetchCommand::with_text(args))
+    }
+
+    /// Asks for the messages from one number to another. It takes memory.
+    pub fn range(self, range: RangeInclusive<u32>) -> Result<FetchCommand<Messages>, AllocError>
+        ensures { IfOk result (λ command. (calls : List Call) → stage calls ≡ empty
+            → self ≡ begun calls → command
+            ≡ begun (call.range (range_inclusive_start range) (range_inclusive_end range) ∷ calls)) }
+    {
+        let mut args = self.args;
+        push_range(&mut args, range)?;
+        Ok(FetchCommand::with_text(args))
+    }
+
+    /// Asks for the messages from a number on. It takes memory.
+    pub fn range_from(self, range: RangeFrom<u32>) -> Result<FetchCommand<Messages>, AllocError>
+        ensures { IfOk result (λ command. (calls : List Call) → stage calls ≡ empty
+            → self ≡ begun calls → command ≡ begun (call.range_from range.start ∷ calls)) }
+    {
+        let mut args = self.args;
+        push_open_range(&mut args, range.start)?;
+        Ok(FetchCommand::with_text(args))
+    }
+}
+
+impl FetchCommand<Modifiers> {
+    /// Asks only for messages that changed after this mod-sequence too (RFC 4551 section 3.3.1). It
+    /// takes memory.
+    pub fn changed_since(self, mod_seq: u64) -> Result<FetchCommand<Modifiers>, AllocError>
+        ensures { IfOk result (λ command. (calls : List Call) → stage calls ≡ modifiers
+            → self ≡ begun calls → command ≡ begun (call.changed_since mod_seq ∷ calls)) }
+    {
+        let mut args = self.args;
+        push_changed_since(&mut args, mod_seq)?;
+        Ok(FetchCommand::with_text(args))
+    }
+}
+
+/// The finished command. It takes no memory.
+impl From<FetchCommand<Modifiers>> for Command {
+    ghost from_gives = { λ fetch command. (calls : List Call) → stage calls ≡ modifiers
+        → fetch ≡ begun calls → Tells calls command };
+
+    fn from(fetch: FetchCommand<Modifiers>) -> Command {
+        Command {
+            args: fetch.args,
+            next_state: None,
+        }
+    }
+}

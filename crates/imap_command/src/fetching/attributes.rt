@@ -1,0 +1,57 @@
+//! A FETCH that has been told attributes.
+
+ghost use Rattle.std.specs.Prelude.{◌≡◌, ◌++◌, List, ◌∷◌, codes, IfOk};
+ghost use Rattle.imap_command.specs.Calls.{Call, stage, begun, attributes, Tells};
+ghost use Rattle.imap_command.specs.Calls as call;
+
+use super::FetchCommand;
+use crate::fetch::{Attributes, Modifiers};
+use crate::numbers::push_changed_since;
+use crate::words::attribute_text;
+use crate::{Attribute, Command};
+use std::alloc::AllocError;
+
+impl FetchCommand<Attributes> {
+    // Its text, with the end of the list.
+    fn closed(self) -> Result<Vec<u8>, AllocError>
+        ensures { IfOk result (λ args. args.items ≡ self ++ codes ")") }
+    {
+        let mut args = self.args;
+        args.push(b')')?;
+        Ok(args)
+    }
+
+    /// Asks for one more attribute. It takes memory.
+    pub fn attr(self, attribute: Attribute) -> Result<FetchCommand<Attributes>, AllocError>
+        ensures { IfOk result (λ command. (calls : List Call) → stage calls ≡ attributes
+            → self ≡ begun calls → command ≡ begun (call.attr attribute ∷ calls)) }
+    {
+        let mut args = self.args;
+        args.push(b' ')?;
+        args.extend_from_slice(attribute_text(attribute))?;
+        Ok(FetchCommand::with_text(args))
+    }
+
+    /// Asks only for messages that changed after this mod-sequence (RFC 4551 section 3.3.1). It
+    /// takes memory.
+    pub fn changed_since(self, mod_seq: u64) -> Result<FetchCommand<Modifiers>, AllocError>
+        ensures { IfOk result (λ command. (calls : List Call) → stage calls ≡ attributes
+            → self ≡ begun calls → command ≡ begun (call.changed_since mod_seq ∷ calls)) }
+    {
+        let mut args = self.closed()?;
+        push_changed_since(&mut args, mod_seq)?;
+        Ok(FetchCommand::with_text(args))
+    }
+
+    /// The finished command. It takes memory.
+    #[tactic(auto, using(crate::proofs::NextStates::fetches_attributes))]
+    pub fn into_command(self) -> Result<Command, AllocError>
+        ensures { IfOk result (λ command. (calls : List Call) → stage calls ≡ attributes
+            → self ≡ begun calls → Tells calls command) }
+    {
+        Ok(Command {
+            args: self.closed()?,
+            next_state: None,
+        })
+    }
+}

@@ -1,0 +1,78 @@
+//! A FETCH that has been told messages.
+
+ghost use Rattle.std.specs.Prelude.{◌≡◌, ◌++◌, List, ◌∷◌, codes, IfOk};
+ghost use Rattle.std.specs.Range.{range_inclusive_start, range_inclusive_end};
+ghost use Rattle.imap_command.specs.Calls.{Call, stage, begun, messages};
+ghost use Rattle.imap_command.specs.Calls as call;
+
+use super::FetchCommand;
+use crate::fetch::{Attributes, Messages, Modifiers};
+use crate::numbers::{push_number, push_open_range, push_range};
+use crate::words::{attribute_text, macro_text};
+use crate::{AttrMacro, Attribute};
+use std::alloc::AllocError;
+use std::ops::{RangeFrom, RangeInclusive};
+
+impl FetchCommand<Messages> {
+    // Its text, ready for a further message.
+    fn continued(self) -> Result<Vec<u8>, AllocError>
+        ensures { IfOk result (λ args. args.items ≡ self ++ codes ",") }
+    {
+        let mut args = self.args;
+        args.push(b',')?;
+        Ok(args)
+    }
+
+    /// Asks for one more message. It takes memory.
+    pub fn num(self, number: u32) -> Result<FetchCommand<Messages>, AllocError>
+        ensures { IfOk result (λ command. (calls : List Call) → stage calls ≡ messages
+            → self ≡ begun calls → command ≡ begun (call.num number ∷ calls)) }
+    {
+        let mut args = self.continued()?;
+        push_number(&mut args, number as u64)?;
+        Ok(FetchCommand::with_text(args))
+    }
+
+    /// Asks for one more range of messages. It takes memory.
+    pub fn range(self, range: RangeInclusive<u32>) -> Result<FetchCommand<Messages>, AllocError>
+        ensures { IfOk result (λ command. (calls : List Call) → stage calls ≡ messages
+            → self ≡ begun calls → command
+            ≡ begun (call.range (range_inclusive_start range) (range_inclusive_end range) ∷ calls)) }
+    {
+        let mut args = self.continued()?;
+        push_range(&mut args, range)?;
+        Ok(FetchCommand::with_text(args))
+    }
+
+    /// Asks also for the messages from a number on. It takes memory.
+    pub fn range_from(self, range: RangeFrom<u32>) -> Result<FetchCommand<Messages>, AllocError>
+        ensures { IfOk result (λ command. (calls : List Call) → stage calls ≡ messages
+            → self ≡ begun calls → command ≡ begun (call.range_from range.start ∷ calls)) }
+    {
+        let mut args = self.continued()?;
+        push_open_range(&mut args, range.start)?;
+        Ok(FetchCommand::with_text(args))
+    }
+
+    /// Asks for a group of attributes of the messages. It takes memory.
+    pub fn attr_macro(self, group: AttrMacro) -> Result<FetchCommand<Modifiers>, AllocError>
+        ensures { IfOk result (λ command. (calls : List Call) → stage calls ≡ messages
+            → self ≡ begun calls → command ≡ begun (call.attr_macro group ∷ calls)) }
+    {
+        let mut args = self.args;
+        args.push(b' ')?;
+        args.extend_from_slice(macro_text(group))?;
+        Ok(FetchCommand::with_text(args))
+    }
+
+    /// Asks for an attribute of the messages. It takes memory.
+    pub fn attr(self, attribute: Attribute) -> Result<FetchCommand<Attributes>, AllocError>
+        ensures { IfOk result (λ command. (calls : List Call) → stage calls ≡ messages
+            → self ≡ begun calls → command ≡ begun (call.attr attribute ∷ calls)) }
+    {
+        let mut args = self.args;
+        args.extend_from_slice(b" (")?;
+        args.extend_from_slice(attribute_text(attribute))?;
+        Ok(FetchCommand::with_text(args))
+    }
+}

@@ -1,0 +1,81 @@
+//! SELECT and EXAMINE.
+
+ghost use Rattle.std.specs.Prelude.{◌≡◌, ℕ, List, ◌∷◌, IfOk};
+ghost use Rattle.imap_command.specs.Calls.{Call, stage, begun, no_params, params, Tells};
+ghost use Rattle.imap_command.specs.Calls as call;
+
+use crate::select::{NoParams, Params};
+use crate::{Command, State};
+use std::alloc::AllocError;
+use std::marker::{Model, PhantomData};
+
+/// A SELECT or EXAMINE that is being built; `T` is what it has been told so far. Where a growth is
+/// refused, the command is given up.
+#[derive(Drop)]
+pub struct SelectCommand<T> {
+    args: Vec<u8>,
+    state: PhantomData<T>,
+}
+
+impl<T> Model for SelectCommand<T> {
+    ghost Value = { List ℕ };
+
+    ghost view = { λ command. command.args.items };
+}
+
+impl<T> SelectCommand<T> {
+    pub(crate) fn with_text(args: Vec<u8>) -> SelectCommand<T>
+        ensures { result ≡ args.items }
+    {
+        SelectCommand {
+            args,
+            state: PhantomData,
+        }
+    }
+}
+
+// The finished command with this text.
+fn selecting(args: Vec<u8>) -> Command
+    ensures text { result.args.items ≡ args.items }
+    ensures next_state { result.next_state ≡ Some State.Selected }
+{
+    Command {
+        args,
+        next_state: Some(State::Selected),
+    }
+}
+
+impl SelectCommand<NoParams> {
+    /// Asks for mod-sequences from now on (RFC 4551 section 3.7). It takes memory.
+    pub fn cond_store(self) -> Result<SelectCommand<Params>, AllocError>
+        ensures { IfOk result (λ command. (calls : List Call) → stage calls ≡ no_params
+            → self ≡ begun calls → command ≡ begun (call.cond_store ∷ calls)) }
+    {
+        let mut args = self.args;
+        args.extend_from_slice(b" (CONDSTORE")?;
+        Ok(SelectCommand::with_text(args))
+    }
+}
+
+impl SelectCommand<Params> {
+    /// The finished command. It takes memory.
+    #[tactic(auto, using(crate::proofs::NextStates::selects_with_params))]
+    pub fn into_command(self) -> Result<Command, AllocError>
+        ensures { IfOk result (λ command. (calls : List Call) → stage calls ≡ params
+            → self ≡ begun calls → Tells calls command) }
+    {
+        let mut args = self.args;
+        args.push(b')')?;
+        Ok(selecting(args))
+    }
+}
+
+/// The finished command. It takes no memory.
+impl From<SelectCommand<NoParams>> for Command {
+    ghost from_gives = { λ select command. (calls : List Call) → stage calls ≡ no_params
+        → select ≡ begun calls → Tells calls command };
+
+    fn from(select: SelectCommand<NoParams>) -> Command {
+        selecting(select.args)
+    }
+}
