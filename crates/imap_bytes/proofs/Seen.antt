@@ -8,8 +8,7 @@ use Rattle.std.specs.declared.borrow.CowStr.{CowStr}
 use Rattle.std.specs.declared.borrow.CowStr.TheVariants.{Borrowed, Owned}
 pub use Rattle.imap_bytes.specs.Equality.{Tells}
 use Rattle.imap_bytes.specs.Text.{Text, text_of, as_text, lent_text}
-use Rattle.std.specs.Cmp.Lexicographic.{pointwise, same_text, texts_ties}
-use Rattle.std.proofs.lemmas.Cmp.{nat_list_eq_equiv}
+use Rattle.std.specs.Cmp.Lexicographic.{pointwise, same_text}
 
 and_left : (a b : Bool) → (a && b) ≡ true → a ≡ true
 and_left true b h = refl

@@ -1,7 +1,6 @@
 -- Where the answers of one meaning are answers of another, its values seen by v, each form joins them alike. P tells which faults count.
-use Rattle.std.proofs.Common.{◌≡◌, ◌≢◌, ℕ, List, [], ◌∷◌, map, true, inl, inr, Option, Some, None, Result, Ok, Err, refl, sym, ap, subst, ◌∙◌}
+use Rattle.std.proofs.Common.{◌≡◌, ◌≢◌, ℕ, List, [], ◌∷◌, map, true, inl, inr, Option, Some, None, Ok, Err, refl, sym, ap, subst, ◌∙◌}
 use Rattle.std.specs.Option.{option_map}
-use Rattle.std.specs.Borrow.{Bor}
 use Rattle.imap_bytes.specs.declared.answer.Err.{Err as Fault}
 use Rattle.imap_bytes.specs.declared.answer.Err.TheVariants.{Incomplete, Error, Failure}
 use Rattle.imap_bytes.specs.Meaning.{Meaning, Cuts, seq_means, alt_means, many_means, gives_means, nothing_means}

@@ -35,7 +35,9 @@ fn number_of(digits: &[u8]) -> Option<u32>
 {
     let mut n: u32 = 0;
     for d in digits {
-        n = n.checked_mul(10)?.checked_add(u32::from(d.saturating_sub(b'0')))?;
+        n = n
+            .checked_mul(10)?
+            .checked_add(u32::from(d.saturating_sub(b'0')))?;
     }
     Some(n)
 }
@@ -62,7 +64,9 @@ fn number_64_of(digits: &[u8]) -> Option<u64>
 {
     let mut n: u64 = 0;
     for d in digits {
-        n = n.checked_mul(10)?.checked_add(u64::from(d.saturating_sub(b'0')))?;
+        n = n
+            .checked_mul(10)?
+            .checked_add(u64::from(d.saturating_sub(b'0')))?;
     }
     Some(n)
 }

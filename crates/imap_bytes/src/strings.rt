@@ -11,8 +11,8 @@ ghost use Rattle.imap_bytes.specs.Classes as classes;
 ghost use Rattle.imap_bytes.specs.Strings as strings;
 
 use crate::answer::{Err, IResult, Needed};
-use crate::first;
 use crate::classes::{is_astring_char, is_atom_char, is_quoted_char};
+use crate::first;
 use crate::numbers::number;
 use crate::tags::{cut0, cut1, tag, word};
 use std::str;
