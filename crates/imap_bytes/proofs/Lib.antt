@@ -14,3 +14,6 @@ pub mod Joins
 pub mod Under
 pub mod Callers
 pub mod Seen
+pub mod Hashing
+pub mod Yields
+pub mod Plain

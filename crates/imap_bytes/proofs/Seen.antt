@@ -6,6 +6,7 @@ use Rattle.std.specs.Global.{Global}
 use Rattle.std.specs.Cow.{cow_str_bytes}
 use Rattle.std.specs.declared.borrow.CowStr.{CowStr}
 use Rattle.std.specs.declared.borrow.CowStr.TheVariants.{Borrowed, Owned}
+use Rattle.std.proofs.lemmas.Simd.{map-map}
 pub use Rattle.imap_bytes.specs.Equality.{Tells}
 use Rattle.imap_bytes.specs.Text.{Text, text_of, as_text, lent_text}
 use Rattle.std.specs.Cmp.Lexicographic.{pointwise, same_text}
@@ -83,3 +84,22 @@ texts_tell = record {
   same = λ x y h. lent_bytes x ∙ ap as_text (text_tells.same (cow_str_bytes x) (cow_str_bytes y) h) ∙ sym (lent_bytes y);
   equal = λ x y h. text_tells.equal (cow_str_bytes x) (cow_str_bytes y) (ap bytes_of (sym (lent_bytes x) ∙ h ∙ lent_bytes y));
 }
+
+-- ---- views in two steps, as texts are seen: by what they hold, and then lent
+
+-- the same content in other words
+pub retold : {A V : Type 0} {eq : A → A → Bool} (view other : A → V) → ((x : A) → view x ≡ other x) → Tells eq view → Tells eq other
+retold view other is t = record {
+  same = λ x y h. sym (is x) ∙ t.same x y h ∙ is y;
+  equal = λ x y h. t.equal x y (is x ∙ h ∙ sym (is y));
+}
+
+pub lists_tell : {A B C : Type 0} (eq : A → A → Bool) (f : A → B) (g : B → C) → Tells eq (λ x. g (f x)) → Tells (pointwise eq) (λ xs. map g (map f xs))
+lists_tell eq f g t = retold (λ xs. map (λ x. g (f x)) xs) (λ xs. map g (map f xs)) (λ xs. sym (map-map g f xs)) (items_tell eq (λ x. g (f x)) t)
+
+pub option_twice : {A B C : Type 0} (f : A → B) (g : B → C) (x : Option A) → option_map (λ v. g (f v)) x ≡ option_map g (option_map f x)
+option_twice f g None = refl
+option_twice f g (Some x) = refl
+
+pub options_tell : {A B C : Type 0} (eq : A → A → Bool) (f : A → B) (g : B → C) → Tells eq (λ x. g (f x)) → Tells (option_eq eq) (λ x. option_map g (option_map f x))
+options_tell eq f g t = retold (option_map (λ x. g (f x))) (λ x. option_map g (option_map f x)) (option_twice f g) (option_tells eq (λ x. g (f x)) t)

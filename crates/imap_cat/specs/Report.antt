@@ -5,7 +5,7 @@ use Rattle.imap_cat.specs.Devices.{AppendsFront}
 use Rattle.std.specs.Fmt.{decimal}
 use Rattle.imap_bytes.specs.Rule.{meaning}
 use Rattle.imap_bytes.specs.Meaning.{Denies}
-use Rattle.imap_proto.specs.Responses.{ResponseValue, Continue, Done, Data}
+use Rattle.imap_proto.specs.Responses.{ResponseValue, Capabilities, Continue, Done, Data, Expunge, Vanished, MailboxData, Quota, QuotaRoot, Id, Acl, ListRights, MyRights}
 use Rattle.imap_proto.specs.Lines.{response}
 use Rattle.std.specs.String.{string_bytes}
 use Rattle.imap_cat.specs.declared.telling.Turn.{Turn}
@@ -15,9 +15,19 @@ use Rattle.imap_cat.specs.declared.outcome.Finish.TheVariants.{End, Waiting, Den
 
 -- the name of a response's kind, in lower case
 abbrev pub name_of : ResponseValue → List ℕ
+name_of (Capabilities capabilities) = codes "capabilities"
 name_of (Continue o) = codes "continue"
 name_of (Done tag status o) = codes "done"
 name_of (Data status o) = codes "data"
+name_of (Expunge n) = codes "expunge"
+name_of (Vanished earlier uids) = codes "vanished"
+name_of (MailboxData datum) = codes "mailboxdata"
+name_of (Quota quota) = codes "quota"
+name_of (QuotaRoot root) = codes "quotaroot"
+name_of (Id map) = codes "id"
+name_of (Acl acl) = codes "acl"
+name_of (ListRights rights) = codes "listrights"
+name_of (MyRights rights) = codes "myrights"
 
 -- a name, SP, a number and byte 10
 abbrev pub line : List ℕ → ℕ → List ℕ

@@ -11,8 +11,8 @@ mod tests;
 mod writers;
 
 use outcome::Finish;
-use running::run;
 use readers::Reading;
+use running::run;
 use std::io;
 use std::process::ExitCode;
 use writers::Writing;

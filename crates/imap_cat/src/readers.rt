@@ -17,7 +17,10 @@ impl<R: Read + Drop> Reading<R> {
     pub fn new(inner: R) -> Self
         ensures { result.has_failed ≡ false }
     {
-        Reading { inner, has_failed: false }
+        Reading {
+            inner,
+            has_failed: false,
+        }
     }
 }
 

@@ -3,8 +3,8 @@ ghost use Rattle.std.specs.Io.KnownBytes.{Consumes, IsAtEnd};
 ghost use Rattle.imap_cat.specs.Report.{ReportsAll, ReportsSome, ReadsAtLeast};
 
 use crate::devices::{Sink, Source};
-use crate::telling::report;
 use crate::outcome::{Fault, Finish};
+use crate::telling::report;
 use std::alloc::Global;
 
 // All that the reader gives.

@@ -12,9 +12,19 @@ fn name(response: &Response<'_>) -> &'static str
     ensures { result.now ≡ name_of (response_value response.now) }
 {
     match response {
+        Response::Capabilities(_) => "capabilities",
         Response::Continue(_) => "continue",
         Response::Done { .. } => "done",
         Response::Data { .. } => "data",
+        Response::Expunge(_) => "expunge",
+        Response::Vanished { .. } => "vanished",
+        Response::MailboxData(_) => "mailboxdata",
+        Response::Quota(_) => "quota",
+        Response::QuotaRoot(_) => "quotaroot",
+        Response::Id(_) => "id",
+        Response::Acl(_) => "acl",
+        Response::ListRights(_) => "listrights",
+        Response::MyRights(_) => "myrights",
     }
 }
 

@@ -80,14 +80,34 @@ struct Limits {
     writes: usize,
 }
 
-const WHOLE: Limits = Limits { read_size: 4096, reads: 1000, write_size: 4096, writes: 1000 };
+const WHOLE: Limits = Limits {
+    read_size: 4096,
+    reads: 1000,
+    write_size: 4096,
+    writes: 1000,
+};
 
 /// A run on these bytes, and what it wrote.
 fn run_on(alloc: Global, bytes: &[u8], limits: Limits) -> (Result<Finish, Fault>, Vec<u8>) {
-    let mut reader = Handing { bytes, size: limits.read_size, calls_left: limits.reads, has_failed: false };
-    let mut writer = Taking { written: Vec::new(alloc), size: limits.write_size, calls_left: limits.writes, has_failed: false };
+    let mut reader = Handing {
+        bytes,
+        size: limits.read_size,
+        calls_left: limits.reads,
+        has_failed: false,
+    };
+    let mut writer = Taking {
+        written: Vec::new(alloc),
+        size: limits.write_size,
+        calls_left: limits.writes,
+        has_failed: false,
+    };
     let result = run(alloc, &mut reader, &mut writer);
-    let Taking { written, size: _, calls_left: _, has_failed: _ } = writer;
+    let Taking {
+        written,
+        size: _,
+        calls_left: _,
+        has_failed: _,
+    } = writer;
     (result, written)
 }
 
@@ -108,8 +128,37 @@ fn reports(rt: HostRuntime) {
 }
 
 #[test]
+fn names_each_kind(rt: HostRuntime) {
+    let (result, written) = run_on(
+        rt.alloc(),
+        b"a1 OK\r\n* OK [BADCHARSET ({5}\r\n* 18 EXISTS\r\nxy",
+        WHOLE,
+    );
+    assert_eq!(rt; result, Ok(Finish::Waiting));
+    assert_eq!(rt;
+        written.as_slice(),
+        b"done 7\ndata 23\nmailboxdata 13\nwaiting 2\n".as_slice()
+    );
+    let (result, written) = run_on(rt.alloc(), b"* CAPABILITY IMAP4rev2\r\n", WHOLE);
+    assert_eq!(rt; result, Ok(Finish::Denied));
+    assert_eq!(rt; written.as_slice(), b"denied 24\n".as_slice());
+    let lines =
+        b"* ENABLED\r\n* 4 EXPUNGE\r\n* VANISHED 1\r\n* QUOTA \"\" ()\r\n* QUOTAROOT x\r\n* ID NIL\r\n* ACL x\r\n* LISTRIGHTS x y l\r\n* MYRIGHTS x l\r\n";
+    let (result, written) = run_on(rt.alloc(), lines, WHOLE);
+    assert_eq!(rt; result, Ok(Finish::End));
+    let told =
+        b"capabilities 11\nexpunge 13\nvanished 14\nquota 15\nquotaroot 15\nid 10\nacl 9\nlistrights 20\nmyrights 16\nend\n";
+    assert_eq!(rt; written.as_slice(), told.as_slice());
+}
+
+#[test]
 fn goes_byte_by_byte(rt: HostRuntime) {
-    let slow = Limits { read_size: 1, reads: 1000, write_size: 1, writes: 1000 };
+    let slow = Limits {
+        read_size: 1,
+        reads: 1000,
+        write_size: 1,
+        writes: 1000,
+    };
     let (result, written) = run_on(rt.alloc(), b"* OK hi\r\na1 OK\r\n", slow);
     assert_eq!(rt; result, Ok(Finish::End));
     assert_eq!(rt; written.as_slice(), b"data 9\ndone 7\nend\n".as_slice());
@@ -117,15 +166,26 @@ fn goes_byte_by_byte(rt: HostRuntime) {
 
 #[test]
 fn breaks_off(rt: HostRuntime) {
-    let reader_fails = Limits { read_size: 1, reads: 10, ..WHOLE };
+    let reader_fails = Limits {
+        read_size: 1,
+        reads: 10,
+        ..WHOLE
+    };
     let (result, written) = run_on(rt.alloc(), b"* OK hi\r\na1 OK\r\n", reader_fails);
     assert_eq!(rt; result, Err(Fault::Read));
     assert!(rt; b"data 9\n".starts_with(written.as_slice()));
-    let writer_fails = Limits { write_size: 3, writes: 2, ..WHOLE };
+    let writer_fails = Limits {
+        write_size: 3,
+        writes: 2,
+        ..WHOLE
+    };
     let (result, written) = run_on(rt.alloc(), b"* OK hi\r\na1 OK\r\n", writer_fails);
     assert_eq!(rt; result, Err(Fault::Write));
     assert_eq!(rt; written.as_slice(), b"data 9".as_slice());
-    let writer_takes_none = Limits { write_size: 0, ..WHOLE };
+    let writer_takes_none = Limits {
+        write_size: 0,
+        ..WHOLE
+    };
     let (result, written) = run_on(rt.alloc(), b"* OK hi\r\n", writer_takes_none);
     assert_eq!(rt; result, Err(Fault::Write));
     assert!(rt; written.is_empty());
@@ -134,8 +194,17 @@ fn breaks_off(rt: HostRuntime) {
 #[test]
 fn tells_faults(rt: HostRuntime) -> Result<(), AllocError> {
     assert_eq!(rt; Fault::Read.to_string(rt.alloc())?.as_str(), "read failed");
-    assert_eq!(rt; Fault::Write.to_string(rt.alloc())?.as_str(), "write failed");
-    assert_eq!(rt; Fault::TooLong.to_string(rt.alloc())?.as_str(), "input too long");
-    assert_eq!(rt; Fault::OutOfMemory.to_string(rt.alloc())?.as_str(), "out of memory");
+    assert_eq!(rt;
+        Fault::Write.to_string(rt.alloc())?.as_str(),
+        "write failed"
+    );
+    assert_eq!(rt;
+        Fault::TooLong.to_string(rt.alloc())?.as_str(),
+        "input too long"
+    );
+    assert_eq!(rt;
+        Fault::OutOfMemory.to_string(rt.alloc())?.as_str(),
+        "out of memory"
+    );
     Ok(())
 }

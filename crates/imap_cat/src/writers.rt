@@ -17,7 +17,10 @@ impl<W: Write + Drop> Writing<W> {
     pub fn new(inner: W) -> Self
         ensures { result.has_failed ≡ false }
     {
-        Writing { inner, has_failed: false }
+        Writing {
+            inner,
+            has_failed: false,
+        }
     }
 }
 

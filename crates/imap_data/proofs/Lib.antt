@@ -1,0 +1,10 @@
+pub mod CapabilityLaws
+pub mod UidSetLaws
+pub mod CodeLaws
+pub mod OrderedUids
+pub mod OrderedCodes
+pub mod MailboxLaws
+pub mod QuotaLaws
+pub mod IdMaps
+pub mod Prefixes
+pub mod AclLaws

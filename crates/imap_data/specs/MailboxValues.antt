@@ -91,3 +91,20 @@ lent_mailbox (MetadataSolicited mailbox values) = MetadataSolicited (lent_text m
 lent_mailbox (MetadataUnsolicited mailbox values) = MetadataUnsolicited (lent_text mailbox) (map lent_text values)
 lent_mailbox (GmailLabels labels) = GmailLabels (map lent_text labels)
 lent_mailbox other = other
+
+-- ---- what `==` tells of the code's values
+
+abbrev pub attribute_content : NameAttribute → NameAttributeValue
+attribute_content a = lent_attribute (attribute_value a)
+
+abbrev pub list_content : MailboxListData → ListValue
+list_content l = lent_list (list_value l)
+
+abbrev pub item_content : StatusAttribute → StatusAttribute
+item_content i = i
+
+abbrev pub metadata_content : Metadata → MetadataValue
+metadata_content m = metadata_value m
+
+abbrev pub mailbox_content : MailboxDatum → MailboxValue
+mailbox_content d = lent_mailbox (mailbox_value d)

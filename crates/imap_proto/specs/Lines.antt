@@ -1,18 +1,28 @@
 -- Lines of a server (RFC 3501, section 9: response, continue-req, response-data, response-tagged).
-use Rattle.std.specs.Prelude.{ℕ, Bool, ◌==◌, ◌&&◌, not}
+use Rattle.std.specs.Prelude.{ℕ, Bool, List, ◌==◌, ◌&&◌, not}
 use Rattle.imap_bytes.specs.Classes.{is_astring_char}
 use Rattle.imap_bytes.specs.Text.{Bytes}
 use Rattle.imap_bytes.specs.Rule.{Rule, run0, run1, gives, ◌⨾◌, ◌▹◌, ◌◃◌, ◌or◌}
-use Rattle.imap_bytes.specs.Tags.{tag, sp, maybe_space, crlf}
+use Rattle.imap_bytes.specs.Tags.{tag, word, sp, maybe_space, crlf}
+use Rattle.imap_bytes.specs.Numbers.{number}
 use Rattle.imap_bytes.specs.Strings.{in_utf8}
 use Rattle.imap_data.specs.declared.types.status.Status.{Status}
 use Rattle.imap_data.specs.Status.{status}
-use Rattle.imap_proto.specs.Responses.{OutcomeValue, ResponseValue, Continue, Done, Data}
+use Rattle.imap_data.specs.Capabilities.{capability_data, enabled_data}
+use Rattle.imap_data.specs.MailboxData.{mailbox_datum}
+use Rattle.imap_data.specs.Metadata.{metadata_solicited, metadata_unsolicited}
+use Rattle.imap_data.specs.Vanished.{vanished}
+use Rattle.imap_data.specs.Quota.{quota, quota_root}
+use Rattle.imap_data.specs.Id.{id}
+use Rattle.imap_data.specs.Acl.{acl, list_rights, my_rights}
+use Rattle.imap_proto.specs.Responses.{OutcomeValue, ResponseValue, Capabilities, Continue, Done, Data, Expunge, Vanished, MailboxData, Quota, QuotaRoot, Id, Acl, ListRights, MyRights}
 use Rattle.imap_proto.specs.Outcomes.{outcome, spaced_outcome}
 
 -- `+`, maybe a space, an outcome
 unfoldable pub continuation : Rule ResponseValue
 continuation = gives Continue (tag "+" ▹ maybe_space ▹ outcome ◃ crlf)
+
+-- ---- data
 
 abbrev pub data_of : Status × OutcomeValue → ResponseValue
 data_of v = Data v.0 v.1
@@ -20,8 +30,39 @@ data_of v = Data v.0 v.1
 unfoldable pub status_data : Rule ResponseValue
 status_data = gives data_of (status ⨾ spaced_outcome)
 
+unfoldable pub expunge : Rule ResponseValue
+expunge = gives Expunge (number ◃ word " EXPUNGE")
+
+abbrev pub vanished_of : Bool × List (ℕ × ℕ) → ResponseValue
+vanished_of v = Vanished v.0 v.1
+
+unfoldable pub vanished_data : Rule ResponseValue
+vanished_data = gives vanished_of vanished
+
+-- the state of the server and of a mailbox
+unfoldable pub state_datum : Rule ResponseValue
+state_datum =
+    status_data
+    or gives MailboxData mailbox_datum
+    or expunge
+    or gives Capabilities capability_data
+    or gives Capabilities enabled_data
+    or gives MailboxData metadata_solicited
+    or gives MailboxData metadata_unsolicited
+
+-- the lines of extensions
+unfoldable pub extension_datum : Rule ResponseValue
+extension_datum =
+    vanished_data
+    or gives Quota quota
+    or gives QuotaRoot quota_root
+    or gives Id id
+    or gives Acl acl
+    or gives ListRights list_rights
+    or gives MyRights my_rights
+
 unfoldable pub datum : Rule ResponseValue
-datum = status_data
+datum = state_datum or extension_datum
 
 abbrev pub is_space : ℕ → Bool
 is_space b = b == 32
@@ -32,6 +73,8 @@ spaces = run0 is_space
 -- `* `, a datum, spaces
 unfoldable pub data_line : Rule ResponseValue
 data_line = tag "* " ▹ datum ◃ spaces ⨾ crlf
+
+-- ---- tagged lines
 
 -- tag-char: an astring-char but `+`
 abbrev pub is_tag_char : ℕ → Bool

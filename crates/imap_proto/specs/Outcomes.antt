@@ -1,24 +1,38 @@
--- What a status line says besides its status (RFC 3501, section 9: resp-text).
-use Rattle.std.specs.Prelude.{[], ◌∷◌, Option, None, Some}
+-- What a status line says besides its status (RFC 3501, section 7.1 and section 9: resp-text).
+use Rattle.std.specs.Prelude.{List, [], ◌∷◌, Option, None, Some, drop, chars, encode_utf8_all}
 use Rattle.imap_bytes.specs.Text.{Bytes, Text}
-use Rattle.imap_bytes.specs.Rule.{Rule, gives, otherwise, ◌▹◌}
+use Rattle.imap_bytes.specs.Rule.{Rule, gives, opt, otherwise, ◌⨾◌, ◌▹◌}
 use Rattle.imap_bytes.specs.Tags.{sp}
 use Rattle.imap_bytes.specs.Texts.{text}
+use Rattle.imap_data.specs.CodeValues.{CodeValue}
+use Rattle.imap_data.specs.Codes.{response_code}
 use Rattle.imap_proto.specs.Responses.{OutcomeValue}
 
--- an empty text is no information
-abbrev pub some_unless_empty : Bytes → Text → Option Text
-some_unless_empty [] t = None
-some_unless_empty (b ∷ bytes) t = Some t
+-- a text without its first character
+abbrev pub bytes_after_first : Bytes → Bytes
+bytes_after_first t = encode_utf8_all (drop 1 (chars t))
 
-abbrev pub outcome_of : Text → OutcomeValue
-outcome_of t = record { information = some_unless_empty t.bytes t }
+abbrev pub after_first : Text → Text
+after_first t = record { bytes = bytes_after_first t.bytes; borrowed = t.borrowed }
+
+-- an empty text is no information
+abbrev pub unless_empty : Bytes → Text → Option Text
+unless_empty [] t = None
+unless_empty (b ∷ bytes) t = Some t
+
+-- behind a code the information begins after one character
+abbrev pub information : Option CodeValue → Text → Option Text
+information None t = unless_empty t.bytes t
+information (Some code) t = unless_empty t.bytes (after_first t)
+
+abbrev pub outcome_of : Option CodeValue × Text → OutcomeValue
+outcome_of v = record { code = v.0; information = information v.0 v.1 }
 
 unfoldable pub outcome : Rule OutcomeValue
-outcome = gives outcome_of text
+outcome = gives outcome_of (opt response_code ⨾ text)
 
 abbrev pub no_outcome : OutcomeValue
-no_outcome = record { information = None }
+no_outcome = record { code = None; information = None }
 
 -- behind a space, or none
 unfoldable pub spaced_outcome : Rule OutcomeValue

@@ -1,30 +1,78 @@
 -- Responses as values: texts by their bytes, and whether they lie in the input.
-use Rattle.std.specs.Prelude.{◌≡◌, List, ◌∷◌, ◌++◌, Option, option_map}
+use Rattle.std.specs.Prelude.{◌≡◌, ℕ, Bool, List, ◌∷◌, ◌++◌, Option, option_map, map}
 use Rattle.std.specs.String.{string_bytes}
-use Rattle.imap_bytes.specs.Text.{Bytes, Text, text_of}
+use Rattle.imap_bytes.specs.Text.{Bytes, Text, text_of, lent_text}
+use Rattle.imap_bytes.specs.Sets.{ends}
 use Rattle.imap_data.specs.declared.types.status.Status.{Status}
+use Rattle.imap_data.specs.CodeValues.{CodeValue, code_value, lent_code}
+use Rattle.imap_data.specs.CapabilityValues.{CapabilityValue, capability_value, lent_capability}
+use Rattle.imap_data.specs.MailboxValues.{MailboxValue, mailbox_value, lent_mailbox}
+use Rattle.imap_data.specs.QuotaValues.{QuotaValue, QuotaRootValue, quota_value, quota_root_value, lent_quota, lent_quota_root}
+use Rattle.imap_data.specs.IdValues.{IdValue, id_value, lent_id}
+use Rattle.imap_data.specs.Acl.{AclValue, ListRightsValue, MyRightsValue, acl_value, list_rights_value, my_rights_value, lent_acl, lent_list_rights, lent_my_rights}
 use Rattle.imap_proto.specs.declared.outcome.Outcome.{Outcome}
 use Rattle.imap_proto.specs.declared.response.Response.{Response}
 use Rattle.imap_proto.specs.declared.response.Response.TheVariants as code
 
 pub record OutcomeValue : Type 0 where
+  pub code : Option CodeValue
   pub information : Option Text
 
 pub data ResponseValue : Type 0 where
+  Capabilities : List CapabilityValue → ResponseValue
   Continue : OutcomeValue → ResponseValue
   Done : Bytes → Status → OutcomeValue → ResponseValue
   Data : Status → OutcomeValue → ResponseValue
+  Expunge : ℕ → ResponseValue
+  Vanished : Bool → List (ℕ × ℕ) → ResponseValue
+  MailboxData : MailboxValue → ResponseValue
+  Quota : QuotaValue → ResponseValue
+  QuotaRoot : QuotaRootValue → ResponseValue
+  Id : Option IdValue → ResponseValue
+  Acl : AclValue → ResponseValue
+  ListRights : ListRightsValue → ResponseValue
+  MyRights : MyRightsValue → ResponseValue
 
 -- ---- of the code's values
 
 abbrev pub outcome_value : Outcome → OutcomeValue
-outcome_value o = record { information = option_map text_of o.information }
+outcome_value o = record { code = option_map code_value o.code; information = option_map text_of o.information }
 
 abbrev pub response_value : Response → ResponseValue
+response_value (code.Capabilities capabilities) = Capabilities (map capability_value capabilities.items)
 response_value (code.Continue o) = Continue (outcome_value o)
 response_value (code.Done tag status o) = Done (string_bytes tag.0) status (outcome_value o)
 response_value (code.«Data» status o) = Data status (outcome_value o)
+response_value (code.Expunge n) = Expunge n
+response_value (code.Vanished earlier uids) = Vanished earlier (map (λ r. ends r) uids.items)
+response_value (code.MailboxData datum) = MailboxData (mailbox_value datum)
+response_value (code.Quota quota) = Quota (quota_value quota)
+response_value (code.QuotaRoot root) = QuotaRoot (quota_root_value root)
+response_value (code.Id map) = Id (option_map id_value map)
+response_value (code.Acl acl) = Acl (acl_value acl)
+response_value (code.ListRights rights) = ListRights (list_rights_value rights)
+response_value (code.MyRights rights) = MyRights (my_rights_value rights)
 
 -- what stands before the rest ends in CRLF
 abbrev pub EndsLine : Bytes → Bytes → Type 0
 EndsLine m rest = (front : Bytes) × (m ≡ front ++ (13 ∷ 10 ∷ rest))
+
+-- ---- with all texts borrowed: two values are the same where these are one
+
+abbrev pub lent_outcome : OutcomeValue → OutcomeValue
+lent_outcome o = record { code = option_map lent_code o.code; information = option_map lent_text o.information }
+
+abbrev pub lent_response : ResponseValue → ResponseValue
+lent_response (Capabilities capabilities) = Capabilities (map lent_capability capabilities)
+lent_response (Continue o) = Continue (lent_outcome o)
+lent_response (Done tag status o) = Done tag status (lent_outcome o)
+lent_response (Data status o) = Data status (lent_outcome o)
+lent_response (Expunge n) = Expunge n
+lent_response (Vanished earlier uids) = Vanished earlier uids
+lent_response (MailboxData datum) = MailboxData (lent_mailbox datum)
+lent_response (Quota quota) = Quota (lent_quota quota)
+lent_response (QuotaRoot root) = QuotaRoot (lent_quota_root root)
+lent_response (Id map) = Id (option_map lent_id map)
+lent_response (Acl acl) = Acl (lent_acl acl)
+lent_response (ListRights rights) = ListRights (lent_list_rights rights)
+lent_response (MyRights rights) = MyRights (lent_my_rights rights)

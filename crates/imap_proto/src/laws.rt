@@ -1,6 +1,7 @@
 //! Laws of the whole grammar, as contracts of functions that do nothing.
 
 ghost use Rattle.imap_bytes.specs.Stable.{Stable};
+ghost use Rattle.imap_command.specs.Apart.{CallsToldApart};
 ghost use Rattle.imap_proto.specs.Outcomes as outcomes;
 ghost use Rattle.imap_proto.specs.Lines as rule;
 
@@ -8,9 +9,20 @@ ghost use Rattle.imap_proto.specs.Lines as rule;
 #[tactic(auto, using(imap_bytes::proofs::Stability::is_stable))]
 pub fn stable()
     ensures outcome { Stable outcomes.outcome }
+    ensures spaced_outcome { Stable outcomes.spaced_outcome }
     ensures continuation { Stable rule.continuation }
+    ensures status_data { Stable rule.status_data }
+    ensures expunge { Stable rule.expunge }
+    ensures vanished_data { Stable rule.vanished_data }
+    ensures datum { Stable rule.datum }
+    ensures request_tag { Stable rule.request_tag }
     ensures data_line { Stable rule.data_line }
     ensures tagged { Stable rule.tagged }
     ensures response { Stable rule.response }
-{
-}
+{}
+
+/// Finished commands with equal bytes were built by equal calls, ranges compared by their printed ends:
+/// so no argument can smuggle in another command.
+pub fn calls_told_apart()
+    ensures { CallsToldApart }
+{}

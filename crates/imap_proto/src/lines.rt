@@ -4,47 +4,18 @@ ghost use Rattle.std.specs.Prelude.{◌≡◌, ◌<◌, length, position, IfSome
 ghost use Rattle.imap_bytes.specs.Answer.{Exactly, Gives};
 ghost use Rattle.imap_bytes.specs.Step.{step};
 ghost use Rattle.imap_bytes.specs.Meaning.{outside};
-ghost use Rattle.imap_bytes.specs.Rule.{run1, ◌▹◌};
-ghost use Rattle.imap_bytes.specs.Tags.{sp};
-ghost use Rattle.imap_proto.specs.Responses.{response_value, outcome_value};
-ghost use Rattle.imap_proto.specs.Outcomes as outcomes;
+ghost use Rattle.imap_bytes.specs.Rule.{run1};
+ghost use Rattle.imap_proto.specs.Responses.{response_value};
 ghost use Rattle.imap_proto.specs.Lines as rule;
 
-use crate::outcome::Outcome;
+use crate::data::datum;
+use crate::outcomes::{outcome, spaced_outcome};
 use crate::response::{RequestId, Response};
 use imap_bytes::strings::as_utf8;
 use imap_bytes::tags::{cut0, cut1, maybe_space, tag};
-use imap_bytes::{Err, IResult, first, is_astring_char, text};
+use imap_bytes::{Err, IResult, first, is_astring_char};
 use imap_data::readers::status;
 use std::alloc::Global;
-
-// ---- outcomes
-
-#[tactic(auto, unfolding(crate::specs::Outcomes::outcome))]
-fn outcome(alloc: Global, i: &[u8]) -> IResult<&[u8], Outcome<'_>>
-    ensures { Gives outcome_value result (step outcomes.outcome i.now) }
-{
-    let (rest, text) = text(alloc, i)?;
-    let information = if text.is_empty() { None } else { Some(text) };
-    Ok((rest, Outcome { information }))
-}
-
-fn behind_space(alloc: Global, i: &[u8]) -> IResult<&[u8], Outcome<'_>>
-    ensures { Gives outcome_value result (step (sp ▹ outcomes.outcome) i.now) }
-{
-    let (rest, _) = tag(b" ", i)?;
-    outcome(alloc, rest)
-}
-
-#[tactic(auto, unfolding(crate::specs::Outcomes::spaced_outcome))]
-fn spaced_outcome(alloc: Global, i: &[u8]) -> IResult<&[u8], Outcome<'_>>
-    ensures { Gives outcome_value result (step outcomes.spaced_outcome i.now) }
-{
-    first!(behind_space(alloc, i));
-    Ok((i, Outcome { information: None }))
-}
-
-// ---- the three kinds of lines
 
 #[tactic(auto, unfolding(crate::specs::Lines::continuation))]
 fn continuation(alloc: Global, i: &[u8]) -> IResult<&[u8], Response<'_>>
@@ -55,22 +26,6 @@ fn continuation(alloc: Global, i: &[u8]) -> IResult<&[u8], Response<'_>>
     let (i, outcome) = outcome(alloc, i)?;
     let (i, _) = tag(b"\r\n", i)?;
     Ok((i, Response::Continue(outcome)))
-}
-
-#[tactic(auto, unfolding(crate::specs::Lines::status_data))]
-fn status_data(alloc: Global, i: &[u8]) -> IResult<&[u8], Response<'_>>
-    ensures { Gives response_value result (step rule.status_data i.now) }
-{
-    let (i, status) = status(i)?;
-    let (i, outcome) = spaced_outcome(alloc, i)?;
-    Ok((i, Response::Data { status, outcome }))
-}
-
-#[tactic(auto, unfolding(crate::specs::Lines::datum))]
-fn datum(alloc: Global, i: &[u8]) -> IResult<&[u8], Response<'_>>
-    ensures { Gives response_value result (step rule.datum i.now) }
-{
-    status_data(alloc, i)
 }
 
 fn is_space(c: u8) -> bool
@@ -144,7 +99,14 @@ fn tagged(alloc: Global, i: &[u8]) -> IResult<&[u8], Response<'_>>
     let (i, outcome) = spaced_outcome(alloc, i)?;
     let (i, _) = tag(b"\r\n", i)?;
     let tag = RequestId(String::from_str(alloc, tag_text)?);
-    Ok((i, Response::Done { tag, status, outcome }))
+    Ok((
+        i,
+        Response::Done {
+            tag,
+            status,
+            outcome,
+        },
+    ))
 }
 
 /// A response: a continuation, a data line or a tagged line.

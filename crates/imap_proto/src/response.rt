@@ -9,8 +9,11 @@ ghost use Rattle.imap_proto.specs.Lines as rule;
 use crate::lines;
 use crate::outcome::Outcome;
 use imap_bytes::IResult;
-use imap_data::Status;
+use imap_data::{Acl, Capability, ListRights, MailboxDatum, MyRights, Quota, QuotaRoot, Status};
 use std::alloc::Global;
+use std::borrow::CowStr;
+use std::collections::HashMap;
+use std::ops::RangeInclusive;
 
 /// The tag of the command that a line answers (RFC 3501, section 2.2.1).
 #[derive(Debug, Drop, PartialEq, Eq)]
@@ -28,19 +31,42 @@ impl RequestId {
 /// A response of a server (RFC 3501, section 7).
 #[derive(Debug, Drop, PartialEq, Eq)]
 pub enum Response<'a> {
-    /// `+`: the server waits for the rest of a command.
+    /// `CAPABILITY` (RFC 3501, section 7.2.1) and `ENABLED` (RFC 5161, section 3.2).
+    Capabilities(Vec<Capability<'a>>),
+    /// `+`: the server waits for the rest of a command (RFC 3501, section 7.5).
     Continue(Outcome<'a>),
-    /// A tagged line: a command is done.
+    /// A tagged line: a command is done (RFC 3501, section 7.1).
     Done {
         tag: RequestId,
         status: Status,
         outcome: Outcome<'a>,
     },
-    /// An untagged status line.
+    /// An untagged status line (RFC 3501, section 7.1).
     Data {
         status: Status,
         outcome: Outcome<'a>,
     },
+    /// `EXPUNGE` (RFC 3501, section 7.4.1).
+    Expunge(u32),
+    /// `VANISHED` (RFC 7162, section 3.2.10).
+    Vanished {
+        earlier: bool,
+        uids: Vec<RangeInclusive<u32>>,
+    },
+    /// Data of a mailbox (RFC 3501, section 7.2; RFC 5464, section 4.4).
+    MailboxData(MailboxDatum<'a>),
+    /// `QUOTA` (RFC 2087, section 5.1).
+    Quota(Quota<'a>),
+    /// `QUOTAROOT` (RFC 2087, section 5.2).
+    QuotaRoot(QuotaRoot<'a>),
+    /// `ID` (RFC 2971, section 3.2).
+    Id(Option<HashMap<CowStr<'a>, CowStr<'a>>>),
+    /// `ACL` (RFC 4314, section 3.6).
+    Acl(Acl<'a>),
+    /// `LISTRIGHTS` (RFC 4314, section 3.7).
+    ListRights(ListRights<'a>),
+    /// `MYRIGHTS` (RFC 4314, section 3.8).
+    MyRights(MyRights<'a>),
 }
 
 /// What `Response::parse` answers.

@@ -1,0 +1,130 @@
+-- What `==` tells of access control lists.
+use Rattle.std.proofs.Common.{◌≡◌, List, Bool, true, false, ◌&&◌, rules, nat_eq, refl, ap, sym, ◌∙◌, [], ◌∷◌, map}
+use Rattle.std.specs.Cow.{cow_str_bytes}
+use Rattle.std.specs.Global.{Global}
+use Rattle.std.specs.declared.borrow.CowStr.{CowStr}
+use Rattle.std.specs.Cmp.Lexicographic.{pointwise}
+use Rattle.std.proofs.lemmas.Bool.{and_parts}
+use Rattle.std.proofs.lemmas.List.{map-id}
+use Rattle.imap_data.specs.declared.types.acl.AclEntry.{AclEntry}
+use Rattle.imap_data.specs.declared.types.acl.Acl.{Acl}
+use Rattle.imap_data.specs.declared.types.acl.ListRights.{ListRights}
+use Rattle.imap_data.specs.declared.types.acl.MyRights.{MyRights}
+use Rattle.imap_data.specs.declared.types.rights.AclRight.{AclRight}
+use Rattle.imap_data.specs.Acl.{acl_entry_value, lent_acl_entry, acl_entry_content, acl_content, list_rights_content, my_rights_content}
+use Rattle.imap_data.specs.Rights.{right_content}
+use Rattle.imap_data.specs.contracts.types.acl.AclEntryPartialEq.TheImpl as entry_eq
+use Rattle.imap_data.specs.contracts.types.acl.AclPartialEq.TheImpl as acl_eq
+use Rattle.imap_data.specs.contracts.types.acl.ListRightsPartialEq.TheImpl as list_eq
+use Rattle.imap_data.specs.contracts.types.acl.MyRightsPartialEq.TheImpl as my_eq
+use Rattle.imap_data.specs.contracts.types.rights.AclRightPartialEq.TheImpl as right_eq
+use Rattle.imap_bytes.proofs.Seen.{Tells, items_tell, texts_tell}
+
+both : (a b : Bool) → a ≡ true → b ≡ true → (a && b) ≡ true
+both true b p q = q
+both false b p q = cc
+
+-- of lists of what is seen as it is
+lists_tell : {A : Type 0} (eq : A → A → Bool) → Tells eq (λ x. x) → Tells (pointwise eq) (λ (xs : List A). xs)
+lists_tell eq t = record {
+  same = λ xs ys h. sym (map-id xs) ∙ (items_tell eq (λ x. x) t).same xs ys h ∙ map-id ys;
+  equal = λ xs ys h. (items_tell eq (λ x. x) t).equal xs ys (ap (map (λ x. x)) h);
+}
+
+pub right_tells : Tells (right_eq.eq-value).it right_content
+right_tells = search rules
+
+rights_tell : Tells (pointwise (right_eq.eq-value).it) (λ (rights : List AclRight). rights)
+rights_tell = lists_tell (right_eq.eq-value).it right_tells
+
+abbrev same_name : CowStr Global → CowStr Global → Bool
+same_name x y = pointwise nat_eq (cow_str_bytes x) (cow_str_bytes y)
+
+abbrev same_rights : List AclRight → List AclRight → Bool
+same_rights x y = pointwise (right_eq.eq-value).it x y
+
+entry_same : (x y : AclEntry) → (entry_eq.eq-value).it x y ≡ true → acl_entry_content x ≡ acl_entry_content y
+entry_same x y h =
+    let p = and_parts (same_name x.identifier y.identifier) (same_rights x.rights.items y.rights.items) h in
+    let identifier = texts_tell.same x.identifier y.identifier p.0 in
+    let rights = rights_tell.same x.rights.items y.rights.items p.1 in
+    cc
+
+entry_equal : (x y : AclEntry) → acl_entry_content x ≡ acl_entry_content y → (entry_eq.eq-value).it x y ≡ true
+entry_equal x y h =
+    both (same_name x.identifier y.identifier) (same_rights x.rights.items y.rights.items)
+    (texts_tell.equal x.identifier y.identifier (ap (λ e. e.identifier) h))
+    (rights_tell.equal x.rights.items y.rights.items (ap (λ e. e.rights) h))
+
+pub entry_tells : Tells (entry_eq.eq-value).it acl_entry_content
+entry_tells = record { same = entry_same; equal = entry_equal }
+
+abbrev same_entries : List AclEntry → List AclEntry → Bool
+same_entries x y = pointwise (entry_eq.eq-value).it x y
+
+entries_tell : Tells same_entries (map acl_entry_content)
+entries_tell = items_tell (entry_eq.eq-value).it acl_entry_content entry_tells
+
+-- seen and lent in one
+one_by_one : (xs : List AclEntry) → map lent_acl_entry (map acl_entry_value xs) ≡ map acl_entry_content xs
+one_by_one [] = refl
+one_by_one (x ∷ xs) = ap (λ entries. acl_entry_content x ∷ entries) (one_by_one xs)
+
+acl_same : (x y : Acl) → (acl_eq.eq-value).it x y ≡ true → acl_content x ≡ acl_content y
+acl_same x y h =
+    let p = and_parts (same_name x.mailbox y.mailbox) (same_entries x.acls.items y.acls.items) h in
+    let mailbox = texts_tell.same x.mailbox y.mailbox p.0 in
+    let entries = one_by_one x.acls.items ∙ entries_tell.same x.acls.items y.acls.items p.1 ∙ sym (one_by_one y.acls.items) in
+    cc
+
+acl_equal : (x y : Acl) → acl_content x ≡ acl_content y → (acl_eq.eq-value).it x y ≡ true
+acl_equal x y h =
+    both (same_name x.mailbox y.mailbox) (same_entries x.acls.items y.acls.items)
+    (texts_tell.equal x.mailbox y.mailbox (ap (λ a. a.mailbox) h))
+    (entries_tell.equal x.acls.items y.acls.items (sym (one_by_one x.acls.items) ∙ ap (λ a. a.acls) h ∙ one_by_one y.acls.items))
+
+pub acl_tells : Tells (acl_eq.eq-value).it acl_content
+acl_tells = record { same = acl_same; equal = acl_equal }
+
+my_same : (x y : MyRights) → (my_eq.eq-value).it x y ≡ true → my_rights_content x ≡ my_rights_content y
+my_same x y h =
+    let p = and_parts (same_name x.mailbox y.mailbox) (same_rights x.rights.items y.rights.items) h in
+    let mailbox = texts_tell.same x.mailbox y.mailbox p.0 in
+    let rights = rights_tell.same x.rights.items y.rights.items p.1 in
+    cc
+
+my_equal : (x y : MyRights) → my_rights_content x ≡ my_rights_content y → (my_eq.eq-value).it x y ≡ true
+my_equal x y h =
+    both (same_name x.mailbox y.mailbox) (same_rights x.rights.items y.rights.items)
+    (texts_tell.equal x.mailbox y.mailbox (ap (λ e. e.mailbox) h))
+    (rights_tell.equal x.rights.items y.rights.items (ap (λ e. e.rights) h))
+
+pub my_rights_tell : Tells (my_eq.eq-value).it my_rights_content
+my_rights_tell = record { same = my_same; equal = my_equal }
+
+abbrev same_sets : ListRights → ListRights → Bool
+same_sets x y = same_rights x.required.items y.required.items && same_rights x.optional.items y.optional.items
+
+list_same : (x y : ListRights) → (list_eq.eq-value).it x y ≡ true → list_rights_content x ≡ list_rights_content y
+list_same x y h =
+    let p = and_parts (same_name x.mailbox y.mailbox) (same_name x.identifier y.identifier && same_sets x y) h in
+    let q = and_parts (same_name x.identifier y.identifier) (same_sets x y) p.1 in
+    let r = and_parts (same_rights x.required.items y.required.items) (same_rights x.optional.items y.optional.items) q.1 in
+    let mailbox = texts_tell.same x.mailbox y.mailbox p.0 in
+    let identifier = texts_tell.same x.identifier y.identifier q.0 in
+    let required = rights_tell.same x.required.items y.required.items r.0 in
+    let optional = rights_tell.same x.optional.items y.optional.items r.1 in
+    cc
+
+list_equal : (x y : ListRights) → list_rights_content x ≡ list_rights_content y → (list_eq.eq-value).it x y ≡ true
+list_equal x y h =
+    both (same_name x.mailbox y.mailbox) (same_name x.identifier y.identifier && same_sets x y)
+    (texts_tell.equal x.mailbox y.mailbox (ap (λ l. l.mailbox) h))
+    (both (same_name x.identifier y.identifier) (same_sets x y)
+    (texts_tell.equal x.identifier y.identifier (ap (λ l. l.identifier) h))
+    (both (same_rights x.required.items y.required.items) (same_rights x.optional.items y.optional.items)
+    (rights_tell.equal x.required.items y.required.items (ap (λ l. l.required) h))
+    (rights_tell.equal x.optional.items y.optional.items (ap (λ l. l.optional) h))))
+
+pub list_rights_tell : Tells (list_eq.eq-value).it list_rights_content
+list_rights_tell = record { same = list_same; equal = list_equal }

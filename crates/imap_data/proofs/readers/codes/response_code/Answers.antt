@@ -1,0 +1,5 @@
+use Rattle.imap_data.proofs.OrderedCodes.{ordered_code}
+use Rattle.imap_data.proofs.readers.codes.response_code.Goals as goal
+
+pub returns-clause-ordered : goal.returns-clause-ordered
+returns-clause-ordered c = ordered_code _ _ _ c.in_ok-i-2.ensures

@@ -1,0 +1,39 @@
+-- Items of STATUS, and numbers that were found (RFC 3501, section 7.2.4, section 7.2.5 and section 9: status-att-list; RFC 4551, section 3.6; RFC 5256, section 4).
+use Rattle.std.specs.Prelude.{ℕ, List}
+use Rattle.imap_bytes.specs.Rule.{Rule, gives, many, ◌▹◌, ◌◃◌, ◌or◌}
+use Rattle.imap_bytes.specs.Tags.{word, sp, maybe_space}
+use Rattle.imap_bytes.specs.Numbers.{number, number_64}
+use Rattle.imap_bytes.specs.Lists.{list_of}
+use Rattle.imap_data.specs.declared.types.mailbox.StatusAttribute.{StatusAttribute}
+use Rattle.imap_data.specs.declared.types.mailbox.StatusAttribute.TheVariants.{HighestModSeq, Messages, Recent, UidNext, UidValidity, Unseen}
+
+unfoldable pub highest_mod_seq : Rule StatusAttribute
+highest_mod_seq = gives HighestModSeq (word "HIGHESTMODSEQ " ▹ number_64)
+
+unfoldable pub messages : Rule StatusAttribute
+messages = gives Messages (word "MESSAGES " ▹ number)
+
+unfoldable pub recent : Rule StatusAttribute
+recent = gives Recent (word "RECENT " ▹ number)
+
+unfoldable pub uid_next : Rule StatusAttribute
+uid_next = gives UidNext (word "UIDNEXT " ▹ number)
+
+unfoldable pub uid_validity : Rule StatusAttribute
+uid_validity = gives UidValidity (word "UIDVALIDITY " ▹ number)
+
+unfoldable pub unseen : Rule StatusAttribute
+unseen = gives Unseen (word "UNSEEN " ▹ number)
+
+unfoldable pub status_item : Rule StatusAttribute
+status_item = highest_mod_seq or messages or recent or uid_next or uid_validity or unseen
+
+unfoldable pub status_items : Rule (List StatusAttribute)
+status_items = list_of status_item
+
+unfoldable pub found_number : Rule ℕ
+found_number = sp ▹ number
+
+-- numbers, each behind a space, maybe none; some servers end them by a space
+unfoldable pub found_numbers : Rule (List ℕ)
+found_numbers = many found_number ◃ maybe_space

@@ -1,0 +1,52 @@
+-- Data of a mailbox (RFC 3501, section 7.2 and section 9: mailbox-data; RFC 5256, section 4; X-GM-EXT-1).
+use Rattle.std.specs.Prelude.{List}
+use Rattle.imap_bytes.specs.Text.{Text}
+use Rattle.imap_bytes.specs.Rule.{Rule, gives, ◌⨾◌, ◌▹◌, ◌◃◌, ◌or◌}
+use Rattle.imap_bytes.specs.Tags.{word, sp}
+use Rattle.imap_bytes.specs.Numbers.{number}
+use Rattle.imap_data.specs.declared.types.mailbox.StatusAttribute.{StatusAttribute}
+use Rattle.imap_data.specs.Flags.{flag_list}
+use Rattle.imap_data.specs.Mailbox.{mailbox}
+use Rattle.imap_data.specs.Names.{list_data}
+use Rattle.imap_data.specs.Counts.{status_items, found_numbers}
+use Rattle.imap_data.specs.Gmail.{gmail_label_list, gmail_msgid, gmail_thrid}
+use Rattle.imap_data.specs.MailboxValues.{MailboxValue, Exists, Flags, Listed, Search, Sort, Status, Recent, GmailLabels, GmailMsgId, GmailThrId}
+
+unfoldable pub flags : Rule MailboxValue
+flags = gives Flags (word "FLAGS " ▹ flag_list)
+
+unfoldable pub exists : Rule MailboxValue
+exists = gives Exists (number ◃ word " EXISTS")
+
+unfoldable pub list : Rule MailboxValue
+list = gives Listed (word "LIST " ▹ list_data)
+
+unfoldable pub lsub : Rule MailboxValue
+lsub = gives Listed (word "LSUB " ▹ list_data)
+
+abbrev pub status_of : Text × List StatusAttribute → MailboxValue
+status_of v = Status v.0 v.1
+
+unfoldable pub status : Rule MailboxValue
+status = gives status_of (word "STATUS " ▹ mailbox ⨾ sp ▹ status_items)
+
+unfoldable pub recent : Rule MailboxValue
+recent = gives Recent (number ◃ word " RECENT")
+
+unfoldable pub search : Rule MailboxValue
+search = gives Search (word "SEARCH" ▹ found_numbers)
+
+unfoldable pub labels : Rule MailboxValue
+labels = gives GmailLabels gmail_label_list
+
+unfoldable pub msgid : Rule MailboxValue
+msgid = gives GmailMsgId gmail_msgid
+
+unfoldable pub thrid : Rule MailboxValue
+thrid = gives GmailThrId gmail_thrid
+
+unfoldable pub sort : Rule MailboxValue
+sort = gives Sort (word "SORT" ▹ found_numbers)
+
+unfoldable pub mailbox_datum : Rule MailboxValue
+mailbox_datum = flags or exists or list or lsub or status or recent or search or labels or msgid or thrid or sort

@@ -1,0 +1,221 @@
+//! Response codes.
+
+ghost use Rattle.std.specs.Prelude.{map, IfOk};
+ghost use Rattle.imap_bytes.specs.Answer.{Answers, Exactly, Gives};
+ghost use Rattle.imap_bytes.specs.Step.{step};
+ghost use Rattle.imap_bytes.specs.Text.{text_of};
+ghost use Rattle.imap_data.specs.Codes as codes;
+ghost use Rattle.imap_data.specs.CodeValues.{code_value, HasOrderedUids};
+
+use crate::readers::capabilities::capability_data;
+use crate::readers::flags::flag_list;
+use crate::readers::uid_sets::uid_set;
+use crate::types::code::ResponseCode;
+use imap_bytes::tags::{tag, word};
+use imap_bytes::{
+    Err, IResult, astring_utf8, first, named, number, number_64, parenthesized_nonempty_list,
+};
+use std::alloc::Global;
+use std::borrow::CowStr;
+
+fn charset_list(alloc: Global, i: &[u8]) -> IResult<&[u8], Vec<CowStr<'_>>>
+    ensures { Gives (λ x. map text_of x.items) result (step codes.charset_list i.now) }
+{
+    let charset = |i|
+        ensures { Gives (λ x. text_of x) result (step codes.charset i.entry.now) }
+    { astring_utf8(alloc, i) };
+    parenthesized_nonempty_list(alloc, charset, i)
+}
+
+#[tactic(auto, unfolding(crate::specs::Codes::charsets))]
+fn charsets(alloc: Global, i: &[u8]) -> IResult<&[u8], Vec<CowStr<'_>>>
+    ensures { Gives (λ x. map text_of x.items) result (step codes.charsets i.now) }
+{
+    let (i, _) = tag(b" ", i)?;
+    charset_list(alloc, i)
+}
+
+#[tactic(auto, unfolding(crate::specs::Codes::bad_charset))]
+fn bad_charset(alloc: Global, i: &[u8]) -> IResult<&[u8], ResponseCode<'_>>
+    ensures { Gives (λ x. code_value x) result (step codes.bad_charset i.now) }
+{
+    let (i, _) = word(b"BADCHARSET", i)?;
+    match charsets(alloc, i) {
+        Ok((rest, charsets)) => Ok((rest, ResponseCode::BadCharset(Some(charsets)))),
+        Err(Err::Error) => Ok((i, ResponseCode::BadCharset(None))),
+        Err(e) => Err(e),
+    }
+}
+
+#[tactic(auto, unfolding(crate::specs::Codes::permanent_flags))]
+fn permanent_flags(alloc: Global, i: &[u8]) -> IResult<&[u8], ResponseCode<'_>>
+    ensures { Gives (λ x. code_value x) result (step codes.permanent_flags i.now) }
+{
+    let (i, _) = word(b"PERMANENTFLAGS ", i)?;
+    let (i, flags) = flag_list(alloc, i)?;
+    Ok((i, ResponseCode::PermanentFlags(flags)))
+}
+
+#[tactic(auto, unfolding(crate::specs::Codes::capabilities))]
+fn capabilities(alloc: Global, i: &[u8]) -> IResult<&[u8], ResponseCode<'_>>
+    ensures { Gives (λ x. code_value x) result (step codes.capabilities i.now) }
+{
+    let (i, capabilities) = capability_data(alloc, i)?;
+    Ok((i, ResponseCode::Capabilities(capabilities)))
+}
+
+#[tactic(auto, unfolding(crate::specs::Codes::uid_validity))]
+fn uid_validity(i: &[u8]) -> IResult<&[u8], ResponseCode<'_>>
+    ensures { Exactly (λ x. code_value x) result (step codes.uid_validity i.now) }
+{
+    let (i, _) = word(b"UIDVALIDITY ", i)?;
+    let (i, n) = number(i)?;
+    Ok((i, ResponseCode::UidValidity(n)))
+}
+
+#[tactic(auto, unfolding(crate::specs::Codes::uid_next))]
+fn uid_next(i: &[u8]) -> IResult<&[u8], ResponseCode<'_>>
+    ensures { Exactly (λ x. code_value x) result (step codes.uid_next i.now) }
+{
+    let (i, _) = word(b"UIDNEXT ", i)?;
+    let (i, n) = number(i)?;
+    Ok((i, ResponseCode::UidNext(n)))
+}
+
+#[tactic(auto, unfolding(crate::specs::Codes::unseen))]
+fn unseen(i: &[u8]) -> IResult<&[u8], ResponseCode<'_>>
+    ensures { Exactly (λ x. code_value x) result (step codes.unseen i.now) }
+{
+    let (i, _) = word(b"UNSEEN ", i)?;
+    let (i, n) = number(i)?;
+    Ok((i, ResponseCode::Unseen(n)))
+}
+
+#[tactic(auto, unfolding(crate::specs::Codes::highest_mod_seq))]
+fn highest_mod_seq(i: &[u8]) -> IResult<&[u8], ResponseCode<'_>>
+    ensures { Exactly (λ x. code_value x) result (step codes.highest_mod_seq i.now) }
+{
+    let (i, _) = word(b"HIGHESTMODSEQ ", i)?;
+    let (i, n) = number_64(i)?;
+    Ok((i, ResponseCode::HighestModSeq(n)))
+}
+
+#[tactic(auto, unfolding(crate::specs::Codes::long_entries))]
+fn long_entries(i: &[u8]) -> IResult<&[u8], ResponseCode<'_>>
+    ensures { Exactly (λ x. code_value x) result (step codes.long_entries i.now) }
+{
+    let (i, _) = word(b"METADATA LONGENTRIES ", i)?;
+    let (i, n) = number_64(i)?;
+    Ok((i, ResponseCode::MetadataLongEntries(n)))
+}
+
+#[tactic(auto, unfolding(crate::specs::Codes::max_size))]
+fn max_size(i: &[u8]) -> IResult<&[u8], ResponseCode<'_>>
+    ensures { Exactly (λ x. code_value x) result (step codes.max_size i.now) }
+{
+    let (i, _) = word(b"METADATA MAXSIZE ", i)?;
+    let (i, n) = number_64(i)?;
+    Ok((i, ResponseCode::MetadataMaxSize(n)))
+}
+
+#[tactic(auto, unfolding(crate::specs::Codes::too_many))]
+fn too_many(i: &[u8]) -> IResult<&[u8], ResponseCode<'_>>
+    ensures { Exactly (λ x. code_value x) result (step codes.too_many i.now) }
+{
+    let (i, _) = word(b"METADATA TOOMANY", i)?;
+    Ok((i, ResponseCode::MetadataTooMany))
+}
+
+#[tactic(auto, unfolding(crate::specs::Codes::no_private))]
+fn no_private(i: &[u8]) -> IResult<&[u8], ResponseCode<'_>>
+    ensures { Exactly (λ x. code_value x) result (step codes.no_private i.now) }
+{
+    let (i, _) = word(b"METADATA NOPRIVATE", i)?;
+    Ok((i, ResponseCode::MetadataNoPrivate))
+}
+
+#[tactic(auto, unfolding(crate::specs::Codes::append_uid))]
+fn append_uid(alloc: Global, i: &[u8]) -> IResult<&[u8], ResponseCode<'_>>
+    ensures { Gives (λ x. code_value x) result (step codes.append_uid i.now) }
+{
+    let (i, _) = word(b"APPENDUID ", i)?;
+    let (i, uid_validity) = number(i)?;
+    let (i, _) = tag(b" ", i)?;
+    let (i, uids) = uid_set(alloc, i)?;
+    Ok((i, ResponseCode::AppendUid(uid_validity, uids)))
+}
+
+#[tactic(auto, unfolding(crate::specs::Codes::copy_uid))]
+fn copy_uid(alloc: Global, i: &[u8]) -> IResult<&[u8], ResponseCode<'_>>
+    ensures { Gives (λ x. code_value x) result (step codes.copy_uid i.now) }
+{
+    let (i, _) = word(b"COPYUID ", i)?;
+    let (i, uid_validity) = number(i)?;
+    let (i, _) = tag(b" ", i)?;
+    let (i, sources) = uid_set(alloc, i)?;
+    let (i, _) = tag(b" ", i)?;
+    let (i, copies) = uid_set(alloc, i)?;
+    Ok((i, ResponseCode::CopyUid(uid_validity, sources, copies)))
+}
+
+#[tactic(auto, unfolding(crate::specs::Codes::basic_code))]
+fn basic_code(alloc: Global, i: &[u8]) -> IResult<&[u8], ResponseCode<'_>>
+    ensures { Gives (λ x. code_value x) result (step codes.basic_code i.now) }
+{
+    named!(b"ALERT", i, ResponseCode::Alert);
+    first!(bad_charset(alloc, i));
+    first!(capabilities(alloc, i));
+    named!(b"PARSE", i, ResponseCode::Parse);
+    first!(permanent_flags(alloc, i));
+    first!(uid_validity(i));
+    first!(uid_next(i));
+    first!(unseen(i));
+    named!(b"READ-ONLY", i, ResponseCode::ReadOnly);
+    named!(b"READ-WRITE", i, ResponseCode::ReadWrite);
+    named!(b"TRYCREATE", i, ResponseCode::TryCreate);
+    Err(Err::Error)
+}
+
+#[tactic(auto, unfolding(crate::specs::Codes::uid_code))]
+fn uid_code(alloc: Global, i: &[u8]) -> IResult<&[u8], ResponseCode<'_>>
+    ensures { Gives (λ x. code_value x) result (step codes.uid_code i.now) }
+{
+    first!(highest_mod_seq(i));
+    first!(append_uid(alloc, i));
+    first!(copy_uid(alloc, i));
+    named!(b"UIDNOTSTICKY", i, ResponseCode::UidNotSticky);
+    Err(Err::Error)
+}
+
+#[tactic(auto, unfolding(crate::specs::Codes::metadata_code))]
+fn metadata_code(i: &[u8]) -> IResult<&[u8], ResponseCode<'_>>
+    ensures { Exactly (λ x. code_value x) result (step codes.metadata_code i.now) }
+{
+    first!(long_entries(i));
+    first!(max_size(i));
+    first!(too_many(i));
+    no_private(i)
+}
+
+fn any_code(alloc: Global, i: &[u8]) -> IResult<&[u8], ResponseCode<'_>>
+    ensures { Gives (λ x. code_value x) result (step codes.any_code i.now) }
+{
+    first!(basic_code(alloc, i));
+    first!(uid_code(alloc, i));
+    metadata_code(i)
+}
+
+/// A code in brackets (RFC 3501, section 9: resp-text-code; RFC 4551, RFC 4315, RFC 5464).
+///
+/// Each range of its UIDs starts not above its end. It takes memory for lists, and for texts that are no UTF-8.
+#[tactic(auto, using(imap_bytes::proofs::Agreement::answered), unfolding(crate::specs::Codes::response_code))]
+pub fn response_code(alloc: Global, i: &[u8]) -> IResult<&[u8], ResponseCode<'_>>
+    ensures steps { Gives (λ x. code_value x) result (step codes.response_code i.now) }
+    ensures answer { Answers codes.response_code (λ x. code_value x) i.now result }
+    ensures ordered { IfOk result (λ x. HasOrderedUids x.1) }
+{
+    let (i, _) = tag(b"[", i)?;
+    let (i, code) = any_code(alloc, i)?;
+    let (i, _) = tag(b"]", i)?;
+    Ok((i, code))
+}

@@ -1,0 +1,111 @@
+//! Items of STATUS, and numbers that were found.
+
+ghost use Rattle.imap_bytes.specs.Answer.{Exactly, Gives};
+ghost use Rattle.imap_bytes.specs.Step.{step};
+ghost use Rattle.imap_bytes.specs.Rule.{many};
+ghost use Rattle.imap_data.specs.Counts as counts;
+
+use crate::types::mailbox::StatusAttribute;
+use imap_bytes::lists::repeated;
+use imap_bytes::tags::{maybe_space, tag, word};
+use imap_bytes::{IResult, first, number, number_64, parenthesized_list};
+use std::alloc::Global;
+
+#[tactic(auto, unfolding(crate::specs::Counts::highest_mod_seq))]
+fn highest_mod_seq(i: &[u8]) -> IResult<&[u8], StatusAttribute>
+    ensures { Exactly (λ x. x) result (step counts.highest_mod_seq i.now) }
+{
+    let (rest, _) = word(b"HIGHESTMODSEQ ", i)?;
+    let (rest, sequence) = number_64(rest)?;
+    Ok((rest, StatusAttribute::HighestModSeq(sequence)))
+}
+
+#[tactic(auto, unfolding(crate::specs::Counts::messages))]
+fn messages(i: &[u8]) -> IResult<&[u8], StatusAttribute>
+    ensures { Exactly (λ x. x) result (step counts.messages i.now) }
+{
+    let (rest, _) = word(b"MESSAGES ", i)?;
+    let (rest, count) = number(rest)?;
+    Ok((rest, StatusAttribute::Messages(count)))
+}
+
+#[tactic(auto, unfolding(crate::specs::Counts::recent))]
+fn recent(i: &[u8]) -> IResult<&[u8], StatusAttribute>
+    ensures { Exactly (λ x. x) result (step counts.recent i.now) }
+{
+    let (rest, _) = word(b"RECENT ", i)?;
+    let (rest, count) = number(rest)?;
+    Ok((rest, StatusAttribute::Recent(count)))
+}
+
+#[tactic(auto, unfolding(crate::specs::Counts::uid_next))]
+fn uid_next(i: &[u8]) -> IResult<&[u8], StatusAttribute>
+    ensures { Exactly (λ x. x) result (step counts.uid_next i.now) }
+{
+    let (rest, _) = word(b"UIDNEXT ", i)?;
+    let (rest, uid) = number(rest)?;
+    Ok((rest, StatusAttribute::UidNext(uid)))
+}
+
+#[tactic(auto, unfolding(crate::specs::Counts::uid_validity))]
+fn uid_validity(i: &[u8]) -> IResult<&[u8], StatusAttribute>
+    ensures { Exactly (λ x. x) result (step counts.uid_validity i.now) }
+{
+    let (rest, _) = word(b"UIDVALIDITY ", i)?;
+    let (rest, validity) = number(rest)?;
+    Ok((rest, StatusAttribute::UidValidity(validity)))
+}
+
+#[tactic(auto, unfolding(crate::specs::Counts::unseen))]
+fn unseen(i: &[u8]) -> IResult<&[u8], StatusAttribute>
+    ensures { Exactly (λ x. x) result (step counts.unseen i.now) }
+{
+    let (rest, _) = word(b"UNSEEN ", i)?;
+    let (rest, count) = number(rest)?;
+    Ok((rest, StatusAttribute::Unseen(count)))
+}
+
+/// An item of STATUS: its word in any case, and a number (RFC 3501, section 9: status-att-list; RFC 4551, section 3.6). No memory.
+#[tactic(auto, unfolding(crate::specs::Counts::status_item))]
+pub fn status_item(i: &[u8]) -> IResult<&[u8], StatusAttribute>
+    ensures { Exactly (λ x. x) result (step counts.status_item i.now) }
+{
+    first!(highest_mod_seq(i));
+    first!(messages(i));
+    first!(recent(i));
+    first!(uid_next(i));
+    first!(uid_validity(i));
+    unseen(i)
+}
+
+/// Items of STATUS in parentheses, maybe none.
+pub fn status_items(alloc: Global, i: &[u8]) -> IResult<&[u8], Vec<StatusAttribute>>
+    ensures { Gives (λ x. x.items) result (step counts.status_items i.now) }
+{
+    parenthesized_list(alloc, status_item, i)
+}
+
+/// A number behind a space. No memory.
+#[tactic(auto, unfolding(crate::specs::Counts::found_number))]
+pub fn found_number(i: &[u8]) -> IResult<&[u8], u32>
+    ensures { Exactly (λ x. x) result (step counts.found_number i.now) }
+{
+    let (rest, _) = tag(b" ", i)?;
+    number(rest)
+}
+
+fn spaced_numbers(alloc: Global, i: &[u8]) -> IResult<&[u8], Vec<u32>>
+    ensures { Gives (λ x. x.items) result (step (many counts.found_number) i.now) }
+{
+    repeated(alloc, found_number, i)
+}
+
+/// Numbers, each behind a space, maybe none, and maybe a space behind them (RFC 3501, section 7.2.5; RFC 5256, section 4).
+#[tactic(auto, unfolding(crate::specs::Counts::found_numbers))]
+pub fn found_numbers(alloc: Global, i: &[u8]) -> IResult<&[u8], Vec<u32>>
+    ensures { Gives (λ x. x.items) result (step counts.found_numbers i.now) }
+{
+    let (rest, numbers) = spaced_numbers(alloc, i)?;
+    let (rest, _) = maybe_space(rest)?;
+    Ok((rest, numbers))
+}

@@ -1,0 +1,143 @@
+//! Data of a mailbox.
+
+ghost use Rattle.imap_bytes.specs.Answer.{Answers, Exactly, Gives};
+ghost use Rattle.imap_bytes.specs.Step.{step};
+ghost use Rattle.imap_data.specs.MailboxData as rules;
+ghost use Rattle.imap_data.specs.MailboxValues.{mailbox_value};
+
+use super::counts::{found_numbers, status_items};
+use super::flags::flag_list;
+use super::gmail::{gmail_label_list, gmail_msgid, gmail_thrid};
+use super::mailboxes::mailbox;
+use super::names::list_data;
+use crate::types::mailbox::MailboxDatum;
+use imap_bytes::tags::{tag, word};
+use imap_bytes::{IResult, first, number};
+use std::alloc::Global;
+
+#[tactic(auto, unfolding(crate::specs::MailboxData::flags))]
+fn flags(alloc: Global, i: &[u8]) -> IResult<&[u8], MailboxDatum<'_>>
+    ensures { Gives (λ x. mailbox_value x) result (step rules.flags i.now) }
+{
+    let (rest, _) = word(b"FLAGS ", i)?;
+    let (rest, flags) = flag_list(alloc, rest)?;
+    Ok((rest, MailboxDatum::Flags(flags)))
+}
+
+#[tactic(auto, unfolding(crate::specs::MailboxData::exists))]
+fn exists(i: &[u8]) -> IResult<&[u8], MailboxDatum<'_>>
+    ensures { Exactly (λ x. mailbox_value x) result (step rules.exists i.now) }
+{
+    let (rest, count) = number(i)?;
+    let (rest, _) = word(b" EXISTS", rest)?;
+    Ok((rest, MailboxDatum::Exists(count)))
+}
+
+#[tactic(auto, unfolding(crate::specs::MailboxData::list))]
+fn list(alloc: Global, i: &[u8]) -> IResult<&[u8], MailboxDatum<'_>>
+    ensures { Gives (λ x. mailbox_value x) result (step rules.list i.now) }
+{
+    let (rest, _) = word(b"LIST ", i)?;
+    let (rest, listed) = list_data(alloc, rest)?;
+    Ok((rest, MailboxDatum::List(listed)))
+}
+
+#[tactic(auto, unfolding(crate::specs::MailboxData::lsub))]
+fn lsub(alloc: Global, i: &[u8]) -> IResult<&[u8], MailboxDatum<'_>>
+    ensures { Gives (λ x. mailbox_value x) result (step rules.lsub i.now) }
+{
+    let (rest, _) = word(b"LSUB ", i)?;
+    let (rest, listed) = list_data(alloc, rest)?;
+    Ok((rest, MailboxDatum::List(listed)))
+}
+
+#[tactic(auto, unfolding(crate::specs::MailboxData::status))]
+fn status(alloc: Global, i: &[u8]) -> IResult<&[u8], MailboxDatum<'_>>
+    ensures { Gives (λ x. mailbox_value x) result (step rules.status i.now) }
+{
+    let (rest, _) = word(b"STATUS ", i)?;
+    let (rest, mailbox) = mailbox(alloc, rest)?;
+    let (rest, _) = tag(b" ", rest)?;
+    let (rest, status) = status_items(alloc, rest)?;
+    Ok((rest, MailboxDatum::Status { mailbox, status }))
+}
+
+#[tactic(auto, unfolding(crate::specs::MailboxData::recent))]
+fn recent(i: &[u8]) -> IResult<&[u8], MailboxDatum<'_>>
+    ensures { Exactly (λ x. mailbox_value x) result (step rules.recent i.now) }
+{
+    let (rest, count) = number(i)?;
+    let (rest, _) = word(b" RECENT", rest)?;
+    Ok((rest, MailboxDatum::Recent(count)))
+}
+
+#[tactic(auto, unfolding(crate::specs::MailboxData::search))]
+fn search(alloc: Global, i: &[u8]) -> IResult<&[u8], MailboxDatum<'_>>
+    ensures { Gives (λ x. mailbox_value x) result (step rules.search i.now) }
+{
+    let (rest, _) = word(b"SEARCH", i)?;
+    let (rest, numbers) = found_numbers(alloc, rest)?;
+    Ok((rest, MailboxDatum::Search(numbers)))
+}
+
+#[tactic(auto, unfolding(crate::specs::MailboxData::labels))]
+fn labels(alloc: Global, i: &[u8]) -> IResult<&[u8], MailboxDatum<'_>>
+    ensures { Gives (λ x. mailbox_value x) result (step rules.labels i.now) }
+{
+    let (rest, labels) = gmail_label_list(alloc, i)?;
+    Ok((rest, MailboxDatum::GmailLabels(labels)))
+}
+
+#[tactic(auto, unfolding(crate::specs::MailboxData::msgid))]
+fn msgid(i: &[u8]) -> IResult<&[u8], MailboxDatum<'_>>
+    ensures { Exactly (λ x. mailbox_value x) result (step rules.msgid i.now) }
+{
+    let (rest, number) = gmail_msgid(i)?;
+    Ok((rest, MailboxDatum::GmailMsgId(number)))
+}
+
+#[tactic(auto, unfolding(crate::specs::MailboxData::thrid))]
+fn thrid(i: &[u8]) -> IResult<&[u8], MailboxDatum<'_>>
+    ensures { Exactly (λ x. mailbox_value x) result (step rules.thrid i.now) }
+{
+    let (rest, number) = gmail_thrid(i)?;
+    Ok((rest, MailboxDatum::GmailThrId(number)))
+}
+
+#[tactic(auto, unfolding(crate::specs::MailboxData::sort))]
+fn sort(alloc: Global, i: &[u8]) -> IResult<&[u8], MailboxDatum<'_>>
+    ensures { Gives (λ x. mailbox_value x) result (step rules.sort i.now) }
+{
+    let (rest, _) = word(b"SORT", i)?;
+    let (rest, numbers) = found_numbers(alloc, rest)?;
+    Ok((rest, MailboxDatum::Sort(numbers)))
+}
+
+#[tactic(auto, unfolding(crate::specs::MailboxData::mailbox_datum))]
+fn datum(alloc: Global, i: &[u8]) -> IResult<&[u8], MailboxDatum<'_>>
+    ensures { Gives (λ x. mailbox_value x) result (step rules.mailbox_datum i.now) }
+{
+    first!(flags(alloc, i));
+    first!(exists(i));
+    first!(list(alloc, i));
+    first!(lsub(alloc, i));
+    first!(status(alloc, i));
+    first!(recent(i));
+    first!(search(alloc, i));
+    first!(labels(alloc, i));
+    first!(msgid(i));
+    first!(thrid(i));
+    sort(alloc, i)
+}
+
+/// Data of a mailbox: `FLAGS`, `EXISTS`, `LIST`, `LSUB`, `STATUS`, `RECENT`, `SEARCH`, `SORT` and Gmail's items, words in any case
+/// (RFC 3501, section 9: mailbox-data; RFC 5256, section 4; Gmail's X-GM-EXT-1).
+///
+/// Its lists take memory, and texts only for bytes that are no UTF-8.
+#[tactic(auto, using(imap_bytes::proofs::Agreement::answered))]
+pub fn mailbox_datum(alloc: Global, i: &[u8]) -> IResult<&[u8], MailboxDatum<'_>>
+    ensures steps { Gives (λ x. mailbox_value x) result (step rules.mailbox_datum i.now) }
+    ensures answer { Answers rules.mailbox_datum (λ x. mailbox_value x) i.now result }
+{
+    datum(alloc, i)
+}
