@@ -1,5 +1,5 @@
 -- What a status line says besides its status (RFC 3501, section 7.1 and section 9: resp-text).
-use Rattle.std.specs.Prelude.{List, [], ◌∷◌, Option, None, Some, drop, chars, encode_utf8_all}
+use Rattle.std.specs.Prelude.{[], ◌∷◌, Option, None, Some, drop, chars, encode_utf8_all}
 use Rattle.imap_bytes.specs.Text.{Bytes, Text}
 use Rattle.imap_bytes.specs.Rule.{Rule, gives, opt, otherwise, ◌⨾◌, ◌▹◌}
 use Rattle.imap_bytes.specs.Tags.{sp}

@@ -16,7 +16,7 @@ ghost use Rattle.imap_proto.specs.Lines as rule;
 use crate::outcomes::spaced_outcome;
 use crate::response::Response;
 use imap_bytes::tags::word;
-use imap_bytes::{Err, IResult, first, number};
+use imap_bytes::{IResult, first, number};
 use imap_data::readers::{
     acl, capability_data, enabled_data, id, list_rights, mailbox_datum, metadata_solicited,
     metadata_unsolicited, my_rights, quota, quota_root, status, vanished,
