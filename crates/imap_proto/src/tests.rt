@@ -242,6 +242,29 @@ fn codes_end_at_their_bracket(rt: HostRuntime) -> Result<(), Fail> {
 }
 
 #[test]
+fn tagged_text_in_brackets(rt: HostRuntime) -> Result<(), Fail> {
+    let Some(
+        Response::Done {
+            status,
+            outcome,
+            ..
+        },
+    ) = whole(rt.alloc(), b"a1 NO [READ-ONLYX] x\r\n")
+    else {
+        return Err(Fail::from("tagged"));
+    };
+    assert_eq!(rt; status, Status::No);
+    assert_eq!(rt;
+        outcome,
+        Outcome {
+            code: None,
+            information: Some(text("[READ-ONLYX] x"))
+        }
+    );
+    Ok(())
+}
+
+#[test]
 fn capabilities(rt: HostRuntime) -> Result<(), Fail> {
     let all = vec![in rt.alloc();
         Capability::Imap4rev1,
@@ -266,6 +289,16 @@ fn enabled(rt: HostRuntime) -> Result<(), Fail> {
     assert_eq!(rt;
         whole(rt.alloc(), b"* ENABLED IMAP4rev1\r\n"),
         Some(Response::Capabilities(enabled))
+    );
+    Ok(())
+}
+
+#[test]
+fn enabled_word_behind_the_revision(rt: HostRuntime) -> Result<(), Fail> {
+    let words = vec![in rt.alloc(); Capability::Atom(text("IMAP4rev1x"))]?;
+    assert_eq!(rt;
+        whole(rt.alloc(), b"* ENABLED IMAP4rev1x\r\n"),
+        Some(Response::Capabilities(words))
     );
     Ok(())
 }
