@@ -6,35 +6,25 @@ use Rattle.std.specs.Global.{Global}
 use Rattle.std.specs.Cow.{cow_str_bytes}
 use Rattle.std.specs.declared.borrow.CowStr.{CowStr}
 use Rattle.std.specs.declared.borrow.CowStr.TheVariants.{Borrowed, Owned}
+use Rattle.std.proofs.lemmas.Bool.{and_parts, and_from}
+use Rattle.std.proofs.lemmas.List.{map-id}
 use Rattle.std.proofs.lemmas.Simd.{map-map}
 pub use Rattle.imap_bytes.specs.Equality.{Tells}
 use Rattle.imap_bytes.specs.Text.{Text, text_of, as_text, lent_text}
 use Rattle.std.specs.Cmp.Lexicographic.{pointwise, same_text}
-
-and_left : (a b : Bool) → (a && b) ≡ true → a ≡ true
-and_left true b h = refl
-and_left false b h = cc
-
-and_right : (a b : Bool) → (a && b) ≡ true → b ≡ true
-and_right true b h = h
-and_right false b h = cc
-
-and_both : (a b : Bool) → a ≡ true → b ≡ true → (a && b) ≡ true
-and_both true b p q = q
-and_both false b p q = cc
 
 module _ {A V : Type 0} (eq : A → A → Bool) (view : A → V) (t : Tells eq view) where
   items_same : (xs ys : List A) → pointwise eq xs ys ≡ true → map view xs ≡ map view ys
   items_same [] [] h = refl
   items_same [] (y ∷ ys) h = cc
   items_same (x ∷ xs) [] h = cc
-  items_same (x ∷ xs) (y ∷ ys) h = let p = t.same x y (and_left (eq x y) (pointwise eq xs ys) h) in let q = items_same xs ys (and_right (eq x y) (pointwise eq xs ys) h) in cc
+  items_same (x ∷ xs) (y ∷ ys) h = let parts = and_parts (eq x y) (pointwise eq xs ys) h in let p = t.same x y parts.0 in let q = items_same xs ys parts.1 in cc
 
   items_equal : (xs ys : List A) → map view xs ≡ map view ys → pointwise eq xs ys ≡ true
   items_equal [] [] h = refl
   items_equal [] (y ∷ ys) h = cc
   items_equal (x ∷ xs) [] h = cc
-  items_equal (x ∷ xs) (y ∷ ys) h = and_both (eq x y) (pointwise eq xs ys) (t.equal x y cc) (items_equal xs ys cc)
+  items_equal (x ∷ xs) (y ∷ ys) h = and_from (eq x y) (pointwise eq xs ys) (t.equal x y cc) (items_equal xs ys cc)
 
   pub items_tell : Tells (pointwise eq) (map view)
   items_tell = record { same = items_same; equal = items_equal }
@@ -66,7 +56,7 @@ bytes_equal xs ys h = rw (sym h) (alike xs)
   where
     alike : (xs : List ℕ) → pointwise nat_eq xs xs ≡ true
     alike [] = refl
-    alike (x ∷ xs) = and_both (nat_eq x x) (pointwise nat_eq xs xs) (eq-eqb x x refl) (alike xs)
+    alike (x ∷ xs) = and_from (nat_eq x x) (pointwise nat_eq xs xs) (eq-eqb x x refl) (alike xs)
 
 pub text_tells : Tells (pointwise nat_eq) (λ (bytes : List ℕ). bytes)
 text_tells = record { same = λ x y h. same_text x y (sym h); equal = bytes_equal }
@@ -96,6 +86,13 @@ retold view other is t = record {
 
 pub lists_tell : {A B C : Type 0} (eq : A → A → Bool) (f : A → B) (g : B → C) → Tells eq (λ x. g (f x)) → Tells (pointwise eq) (λ xs. map g (map f xs))
 lists_tell eq f g t = retold (λ xs. map (λ x. g (f x)) xs) (λ xs. map g (map f xs)) (λ xs. sym (map-map g f xs)) (items_tell eq (λ x. g (f x)) t)
+
+-- lists of texts, and lists of what is seen as it is
+pub text_lists_tell : Tells (pointwise (λ (x y : CowStr Global). pointwise nat_eq (cow_str_bytes x) (cow_str_bytes y))) (λ xs. map lent_text (map text_of xs))
+text_lists_tell = lists_tell _ text_of lent_text texts_tell
+
+pub plain_lists_tell : {A : Type 0} (eq : A → A → Bool) → Tells eq (λ x. x) → Tells (pointwise eq) (λ (xs : List A). xs)
+plain_lists_tell eq t = retold (map (λ x. x)) (λ xs. xs) map-id (items_tell eq (λ x. x) t)
 
 pub option_twice : {A B C : Type 0} (f : A → B) (g : B → C) (x : Option A) → option_map (λ v. g (f v)) x ≡ option_map g (option_map f x)
 option_twice f g None = refl

@@ -1,11 +1,10 @@
 -- What `==` tells of access control lists.
-use Rattle.std.proofs.Common.{◌≡◌, List, Bool, true, false, ◌&&◌, rules, nat_eq, refl, ap, sym, ◌∙◌, [], ◌∷◌, map}
+use Rattle.std.proofs.Common.{◌≡◌, List, Bool, true, ◌&&◌, rules, nat_eq, ap, map}
 use Rattle.std.specs.Cow.{cow_str_bytes}
 use Rattle.std.specs.Global.{Global}
 use Rattle.std.specs.declared.borrow.CowStr.{CowStr}
 use Rattle.std.specs.Cmp.Lexicographic.{pointwise}
-use Rattle.std.proofs.lemmas.Bool.{and_parts}
-use Rattle.std.proofs.lemmas.List.{map-id}
+use Rattle.std.proofs.lemmas.Bool.{and_parts, and_from}
 use Rattle.imap_data.specs.declared.types.acl.AclEntry.{AclEntry}
 use Rattle.imap_data.specs.declared.types.acl.Acl.{Acl}
 use Rattle.imap_data.specs.declared.types.acl.ListRights.{ListRights}
@@ -18,24 +17,13 @@ use Rattle.imap_data.specs.contracts.types.acl.AclPartialEq.TheImpl as acl_eq
 use Rattle.imap_data.specs.contracts.types.acl.ListRightsPartialEq.TheImpl as list_eq
 use Rattle.imap_data.specs.contracts.types.acl.MyRightsPartialEq.TheImpl as my_eq
 use Rattle.imap_data.specs.contracts.types.rights.AclRightPartialEq.TheImpl as right_eq
-use Rattle.imap_bytes.proofs.Seen.{Tells, items_tell, texts_tell}
-
-both : (a b : Bool) → a ≡ true → b ≡ true → (a && b) ≡ true
-both true b p q = q
-both false b p q = cc
-
--- of lists of what is seen as it is
-lists_tell : {A : Type 0} (eq : A → A → Bool) → Tells eq (λ x. x) → Tells (pointwise eq) (λ (xs : List A). xs)
-lists_tell eq t = record {
-  same = λ xs ys h. sym (map-id xs) ∙ (items_tell eq (λ x. x) t).same xs ys h ∙ map-id ys;
-  equal = λ xs ys h. (items_tell eq (λ x. x) t).equal xs ys (ap (map (λ x. x)) h);
-}
+use Rattle.imap_bytes.proofs.Seen.{Tells, texts_tell, lists_tell, plain_lists_tell}
 
 pub right_tells : Tells (right_eq.eq-value).it right_content
 right_tells = search rules
 
 rights_tell : Tells (pointwise (right_eq.eq-value).it) (λ (rights : List AclRight). rights)
-rights_tell = lists_tell (right_eq.eq-value).it right_tells
+rights_tell = plain_lists_tell (right_eq.eq-value).it right_tells
 
 abbrev same_name : CowStr Global → CowStr Global → Bool
 same_name x y = pointwise nat_eq (cow_str_bytes x) (cow_str_bytes y)
@@ -52,7 +40,7 @@ entry_same x y h =
 
 entry_equal : (x y : AclEntry) → acl_entry_content x ≡ acl_entry_content y → (entry_eq.eq-value).it x y ≡ true
 entry_equal x y h =
-    both (same_name x.identifier y.identifier) (same_rights x.rights.items y.rights.items)
+    and_from (same_name x.identifier y.identifier) (same_rights x.rights.items y.rights.items)
     (texts_tell.equal x.identifier y.identifier (ap (λ e. e.identifier) h))
     (rights_tell.equal x.rights.items y.rights.items (ap (λ e. e.rights) h))
 
@@ -62,26 +50,21 @@ entry_tells = record { same = entry_same; equal = entry_equal }
 abbrev same_entries : List AclEntry → List AclEntry → Bool
 same_entries x y = pointwise (entry_eq.eq-value).it x y
 
-entries_tell : Tells same_entries (map acl_entry_content)
-entries_tell = items_tell (entry_eq.eq-value).it acl_entry_content entry_tells
-
--- seen and lent in one
-one_by_one : (xs : List AclEntry) → map lent_acl_entry (map acl_entry_value xs) ≡ map acl_entry_content xs
-one_by_one [] = refl
-one_by_one (x ∷ xs) = ap (λ entries. acl_entry_content x ∷ entries) (one_by_one xs)
+entries_tell : Tells same_entries (λ xs. map lent_acl_entry (map acl_entry_value xs))
+entries_tell = lists_tell (entry_eq.eq-value).it acl_entry_value lent_acl_entry entry_tells
 
 acl_same : (x y : Acl) → (acl_eq.eq-value).it x y ≡ true → acl_content x ≡ acl_content y
 acl_same x y h =
     let p = and_parts (same_name x.mailbox y.mailbox) (same_entries x.acls.items y.acls.items) h in
     let mailbox = texts_tell.same x.mailbox y.mailbox p.0 in
-    let entries = one_by_one x.acls.items ∙ entries_tell.same x.acls.items y.acls.items p.1 ∙ sym (one_by_one y.acls.items) in
+    let entries = entries_tell.same x.acls.items y.acls.items p.1 in
     cc
 
 acl_equal : (x y : Acl) → acl_content x ≡ acl_content y → (acl_eq.eq-value).it x y ≡ true
 acl_equal x y h =
-    both (same_name x.mailbox y.mailbox) (same_entries x.acls.items y.acls.items)
+    and_from (same_name x.mailbox y.mailbox) (same_entries x.acls.items y.acls.items)
     (texts_tell.equal x.mailbox y.mailbox (ap (λ a. a.mailbox) h))
-    (entries_tell.equal x.acls.items y.acls.items (sym (one_by_one x.acls.items) ∙ ap (λ a. a.acls) h ∙ one_by_one y.acls.items))
+    (entries_tell.equal x.acls.items y.acls.items (ap (λ a. a.acls) h))
 
 pub acl_tells : Tells (acl_eq.eq-value).it acl_content
 acl_tells = record { same = acl_same; equal = acl_equal }
@@ -95,7 +78,7 @@ my_same x y h =
 
 my_equal : (x y : MyRights) → my_rights_content x ≡ my_rights_content y → (my_eq.eq-value).it x y ≡ true
 my_equal x y h =
-    both (same_name x.mailbox y.mailbox) (same_rights x.rights.items y.rights.items)
+    and_from (same_name x.mailbox y.mailbox) (same_rights x.rights.items y.rights.items)
     (texts_tell.equal x.mailbox y.mailbox (ap (λ e. e.mailbox) h))
     (rights_tell.equal x.rights.items y.rights.items (ap (λ e. e.rights) h))
 
@@ -118,11 +101,11 @@ list_same x y h =
 
 list_equal : (x y : ListRights) → list_rights_content x ≡ list_rights_content y → (list_eq.eq-value).it x y ≡ true
 list_equal x y h =
-    both (same_name x.mailbox y.mailbox) (same_name x.identifier y.identifier && same_sets x y)
+    and_from (same_name x.mailbox y.mailbox) (same_name x.identifier y.identifier && same_sets x y)
     (texts_tell.equal x.mailbox y.mailbox (ap (λ l. l.mailbox) h))
-    (both (same_name x.identifier y.identifier) (same_sets x y)
+    (and_from (same_name x.identifier y.identifier) (same_sets x y)
     (texts_tell.equal x.identifier y.identifier (ap (λ l. l.identifier) h))
-    (both (same_rights x.required.items y.required.items) (same_rights x.optional.items y.optional.items)
+    (and_from (same_rights x.required.items y.required.items) (same_rights x.optional.items y.optional.items)
     (rights_tell.equal x.required.items y.required.items (ap (λ l. l.required) h))
     (rights_tell.equal x.optional.items y.optional.items (ap (λ l. l.optional) h))))
 

@@ -1,5 +1,5 @@
 -- What `==` tells of a response code.
-use Rattle.std.proofs.Common.{◌≡◌, refl, ap, map, nat_eq, true, Vec, Global, Bool, ◌&&◌}
+use Rattle.std.proofs.Common.{◌≡◌, refl, ap, map, nat_eq, true, Vec, Global}
 use Rattle.std.specs.Prelude.{option_map}
 use Rattle.std.specs.Option.{option_eq}
 use Rattle.std.specs.declared.borrow.CowStr.{CowStr}
@@ -7,22 +7,18 @@ use Rattle.std.specs.Cow.{cow_str_bytes}
 use Rattle.std.specs.Cmp.Lexicographic.{pointwise}
 use Rattle.imap_bytes.specs.Equality.{Tells}
 use Rattle.imap_bytes.specs.Text.{text_of, lent_text}
-use Rattle.imap_bytes.proofs.Seen.{items_tell, option_tells, on_tells, numbers_tell, texts_tell}
 use Rattle.imap_data.specs.CapabilityValues.{capability_value, lent_capability}
 use Rattle.imap_data.specs.CodeValues.{code_content, BadCharset, Capabilities, PermanentFlags, UidNext, UidValidity, Unseen, HighestModSeq, MetadataLongEntries, MetadataMaxSize}
 use Rattle.imap_data.specs.declared.types.code.ResponseCode.{ResponseCode}
 use Rattle.imap_data.specs.declared.types.code.ResponseCode.TheVariants as code
 use Rattle.imap_data.specs.contracts.types.code.ResponseCodePartialEq.TheImpl as code_eq
-use Rattle.std.proofs.lemmas.Bool.{and_parts}
-use Rattle.imap_bytes.proofs.Seen.{retold, lists_tell, option_twice}
+use Rattle.std.proofs.lemmas.Bool.{and_parts, and_from}
+use Rattle.imap_bytes.proofs.Seen.{items_tell, option_tells, on_tells, numbers_tell, retold, lists_tell, text_lists_tell, option_twice}
 use Rattle.imap_data.proofs.CapabilityLaws.{capability_tells}
 use Rattle.imap_data.proofs.UidSetLaws.{member_tells}
 
-and_both : (a b : Bool) → a ≡ true → b ≡ true → (a && b) ≡ true
-and_both a b p q = rw (p, q) refl
-
 texts_list_tell : Tells (λ (x y : Vec (CowStr Global) Global). pointwise (λ (a b : CowStr Global). pointwise nat_eq (cow_str_bytes a) (cow_str_bytes b)) x.items y.items) (λ v. map lent_text (map text_of v.items))
-texts_list_tell = on_tells (λ v. v.items) _ _ (lists_tell _ text_of lent_text texts_tell)
+texts_list_tell = on_tells (λ v. v.items) _ _ text_lists_tell
 
 charsets_tell : Tells (option_eq (λ (x y : Vec (CowStr Global) Global). pointwise (λ (a b : CowStr Global). pointwise nat_eq (cow_str_bytes a) (cow_str_bytes b)) x.items y.items)) (λ o. option_map (map lent_text) (option_map (λ v. map text_of v.items) o))
 charsets_tell = retold (option_map (λ v. map lent_text (map text_of v.items))) (λ o. option_map (map lent_text) (option_map (λ v. map text_of v.items) o)) (option_twice (λ v. map text_of v.items) (map lent_text)) (option_tells _ _ texts_list_tell)
@@ -77,9 +73,9 @@ code_equal (code.MetadataMaxSize x) (code.MetadataMaxSize y) h = numbers_tell.eq
 code_equal (code.BadCharset x) (code.BadCharset y) h = charsets_tell.equal x y cc
 code_equal (code.Capabilities x) (code.Capabilities y) h = (lists_tell _ capability_value lent_capability capability_tells).equal x.items y.items cc
 code_equal (code.PermanentFlags x) (code.PermanentFlags y) h = texts_list_tell.equal x y cc
-code_equal (code.AppendUid m x) (code.AppendUid n y) h = and_both _ _ (numbers_tell.equal m n cc) ((items_tell _ _ member_tells).equal x.items y.items cc)
+code_equal (code.AppendUid m x) (code.AppendUid n y) h = and_from _ _ (numbers_tell.equal m n cc) ((items_tell _ _ member_tells).equal x.items y.items cc)
 code_equal (code.CopyUid m x v) (code.CopyUid n y w) h =
-    and_both _ _ (numbers_tell.equal m n cc) (and_both _ _ ((items_tell _ _ member_tells).equal x.items y.items cc) ((items_tell _ _ member_tells).equal v.items w.items cc))
+    and_from _ _ (numbers_tell.equal m n cc) (and_from _ _ ((items_tell _ _ member_tells).equal x.items y.items cc) ((items_tell _ _ member_tells).equal v.items w.items cc))
 code_equal x y h = cc
 
 pub code_tells : Tells (code_eq.eq-value).it code_content

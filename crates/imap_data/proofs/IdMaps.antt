@@ -12,7 +12,7 @@ use Rattle.std.specs.FinMap.{insert, entries, get, find, get-entries, get-from_e
 use Rattle.std.specs.HashMap as hash
 use Rattle.std.specs.HashMap.Eq.{get_from_hash_map_eq, hash_map_eq_from_get}
 use Rattle.imap_bytes.specs.Text.{Bytes, Text, text_of, lent_text}
-use Rattle.imap_bytes.proofs.Seen.{Tells, option_tells, texts_tell}
+use Rattle.imap_bytes.proofs.Seen.{Tells, option_tells, option_twice, texts_tell}
 use Rattle.imap_data.specs.IdValues.{IdValue, IdTable, entry_value, id_value, lent_entry, lent_id, id_content}
 
 abbrev same_bytes : CowStr Global → CowStr Global → Bool
@@ -63,12 +63,8 @@ get-lent_id m q = get-from_entries nat_list_cmp_total (map lent_entry (entries m
 abbrev lent_of : CowStr Global → Text
 lent_of x = lent_text (text_of x)
 
-twice : (x : Option (CowStr Global)) → option_map lent_text (option_map text_of x) ≡ option_map lent_of x
-twice None = refl
-twice (Some x) = refl
-
 get-id_content : (m : IdTable) (q : CowStr Global) → get (id_content m) (cow_str_bytes q) ≡ option_map lent_of (hash.get same_bytes m q)
-get-id_content m q = get-lent_id (id_value m) (cow_str_bytes q) ∙ ap (option_map lent_text) (get-id_value m q) ∙ twice (hash.get same_bytes m q)
+get-id_content m q = get-lent_id (id_value m) (cow_str_bytes q) ∙ ap (option_map lent_text) (get-id_value m q) ∙ sym (option_twice text_of lent_text (hash.get same_bytes m q))
 
 -- `==` of two tables tells whether they hold the same map
 pub tables_tell : Tells (hash.hash_map_eq {K = CowStr Global} {X = CowStr Global} same_bytes same_bytes) id_content

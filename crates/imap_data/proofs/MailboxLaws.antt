@@ -1,15 +1,14 @@
 -- What `==` tells of mailbox data.
-use Rattle.std.proofs.Common.{rules, ◌≡◌, ap, sym, ◌∙◌, true, map, nat_eq, Global}
+use Rattle.std.proofs.Common.{rules, ◌≡◌, ap, true, map, nat_eq, Global}
 use Rattle.std.specs.Prelude.{option_map}
 use Rattle.std.specs.Option.{option_eq}
 use Rattle.std.specs.Cow.{cow_str_bytes}
 use Rattle.std.specs.Cmp.Lexicographic.{pointwise}
 use Rattle.std.specs.declared.borrow.CowStr.{CowStr}
-use Rattle.std.proofs.lemmas.List.{map-id}
 use Rattle.std.proofs.lemmas.Bool.{and_parts, and_from}
 use Rattle.imap_bytes.specs.Equality.{Tells}
 use Rattle.imap_bytes.specs.Text.{text_of, lent_text}
-use Rattle.imap_bytes.proofs.Seen.{texts_tell, text_tells, numbers_tell, items_tell}
+use Rattle.imap_bytes.proofs.Seen.{texts_tell, text_tells, numbers_tell, items_tell, lists_tell, text_lists_tell, plain_lists_tell, options_tell}
 use Rattle.imap_data.specs.MailboxValues.{ListValue, Exists, Flags, Listed, Search, Sort, Recent, GmailLabels, GmailMsgId, GmailThrId, attribute_value, lent_attribute, attribute_content, list_content, item_content, metadata_value, metadata_content, mailbox_content}
 use Rattle.imap_data.specs.declared.types.mailbox.MailboxListData.{MailboxListData}
 use Rattle.imap_data.specs.declared.types.mailbox.MailboxDatum.{MailboxDatum}
@@ -19,7 +18,6 @@ use Rattle.imap_data.specs.contracts.types.mailbox.MailboxListDataPartialEq.TheI
 use Rattle.imap_data.specs.contracts.types.mailbox.StatusAttributePartialEq.TheImpl as item_eq
 use Rattle.imap_data.specs.contracts.types.mailbox.MetadataPartialEq.TheImpl as metadata_eq
 use Rattle.imap_data.specs.contracts.types.mailbox.MailboxDatumPartialEq.TheImpl as datum_eq
-use Rattle.imap_bytes.proofs.Seen.{lists_tell, options_tell}
 
 attributes_tell : Tells (attribute_eq.eq-value).it attribute_content
 attributes_tell = search rules
@@ -29,9 +27,6 @@ items_are_told = search rules
 
 metadata_tell : Tells (metadata_eq.eq-value).it metadata_content
 metadata_tell = search rules
-
-flags_tell : Tells (pointwise (λ (x y : CowStr Global). pointwise nat_eq (cow_str_bytes x) (cow_str_bytes y))) (λ xs. map lent_text (map text_of xs))
-flags_tell = lists_tell _ text_of lent_text texts_tell
 
 delimiters_tell : Tells (option_eq (λ (x y : CowStr Global). pointwise nat_eq (cow_str_bytes x) (cow_str_bytes y))) (λ x. option_map lent_text (option_map text_of x))
 delimiters_tell = options_tell _ text_of lent_text texts_tell
@@ -43,9 +38,7 @@ annotations_tell : Tells (pointwise (metadata_eq.eq-value).it) (map metadata_val
 annotations_tell = items_tell _ metadata_value metadata_tell
 
 counts_tell : Tells (pointwise (item_eq.eq-value).it) (λ xs. xs)
-counts_tell =
-    let mapped = items_tell _ item_content items_are_told in
-    record { same = λ xs ys h. sym (map-id xs) ∙ mapped.same xs ys h ∙ map-id ys; equal = λ xs ys h. mapped.equal xs ys (map-id xs ∙ h ∙ sym (map-id ys)) }
+counts_tell = plain_lists_tell _ items_are_told
 
 -- ---- LIST
 
@@ -70,7 +63,7 @@ list_tells = record { same = list_same; equal = list_equal }
 
 datum_same : (x y : MailboxDatum) → (datum_eq.eq-value).it x y ≡ true → mailbox_content x ≡ mailbox_content y
 datum_same (datum.Exists x) (datum.Exists y) h = ap Exists (numbers_tell.same x y h)
-datum_same (datum.Flags x) (datum.Flags y) h = ap Flags (flags_tell.same x.items y.items h)
+datum_same (datum.Flags x) (datum.Flags y) h = ap Flags (text_lists_tell.same x.items y.items h)
 datum_same (datum.List x) (datum.List y) h = ap Listed (list_same x y h)
 datum_same (datum.Search x) (datum.Search y) h = ap Search (text_tells.same x.items y.items h)
 datum_same (datum.Sort x) (datum.Sort y) h = ap Sort (text_tells.same x.items y.items h)
@@ -88,24 +81,24 @@ datum_same (datum.MetadataSolicited x xs) (datum.MetadataSolicited y ys) h =
 datum_same (datum.MetadataUnsolicited x xs) (datum.MetadataUnsolicited y ys) h =
     let parts = and_parts _ _ h in
     let mailbox = texts_tell.same x y parts.0 in
-    let entries = flags_tell.same xs.items ys.items parts.1 in
+    let entries = text_lists_tell.same xs.items ys.items parts.1 in
     cc
-datum_same (datum.GmailLabels x) (datum.GmailLabels y) h = ap GmailLabels (flags_tell.same x.items y.items h)
+datum_same (datum.GmailLabels x) (datum.GmailLabels y) h = ap GmailLabels (text_lists_tell.same x.items y.items h)
 datum_same (datum.GmailMsgId x) (datum.GmailMsgId y) h = ap GmailMsgId (numbers_tell.same x y h)
 datum_same (datum.GmailThrId x) (datum.GmailThrId y) h = ap GmailThrId (numbers_tell.same x y h)
 datum_same x y h = cc
 
 datum_equal : (x y : MailboxDatum) → mailbox_content x ≡ mailbox_content y → (datum_eq.eq-value).it x y ≡ true
 datum_equal (datum.Exists x) (datum.Exists y) h = numbers_tell.equal x y cc
-datum_equal (datum.Flags x) (datum.Flags y) h = flags_tell.equal x.items y.items cc
+datum_equal (datum.Flags x) (datum.Flags y) h = text_lists_tell.equal x.items y.items cc
 datum_equal (datum.List x) (datum.List y) h = list_equal x y cc
 datum_equal (datum.Search x) (datum.Search y) h = text_tells.equal x.items y.items cc
 datum_equal (datum.Sort x) (datum.Sort y) h = text_tells.equal x.items y.items cc
 datum_equal (datum.Status x xs) (datum.Status y ys) h = and_from _ _ (texts_tell.equal x y cc) (counts_tell.equal xs.items ys.items cc)
 datum_equal (datum.Recent x) (datum.Recent y) h = numbers_tell.equal x y cc
 datum_equal (datum.MetadataSolicited x xs) (datum.MetadataSolicited y ys) h = and_from _ _ (texts_tell.equal x y cc) (annotations_tell.equal xs.items ys.items cc)
-datum_equal (datum.MetadataUnsolicited x xs) (datum.MetadataUnsolicited y ys) h = and_from _ _ (texts_tell.equal x y cc) (flags_tell.equal xs.items ys.items cc)
-datum_equal (datum.GmailLabels x) (datum.GmailLabels y) h = flags_tell.equal x.items y.items cc
+datum_equal (datum.MetadataUnsolicited x xs) (datum.MetadataUnsolicited y ys) h = and_from _ _ (texts_tell.equal x y cc) (text_lists_tell.equal xs.items ys.items cc)
+datum_equal (datum.GmailLabels x) (datum.GmailLabels y) h = text_lists_tell.equal x.items y.items cc
 datum_equal (datum.GmailMsgId x) (datum.GmailMsgId y) h = numbers_tell.equal x y cc
 datum_equal (datum.GmailThrId x) (datum.GmailThrId y) h = numbers_tell.equal x y cc
 datum_equal x y h = cc

@@ -3,7 +3,7 @@ use Rattle.std.proofs.Common.{rules, ◌≡◌, ap, true}
 use Rattle.std.proofs.lemmas.Bool.{and_parts, and_from}
 use Rattle.imap_bytes.specs.Equality.{Tells, HashesAlike}
 use Rattle.imap_bytes.specs.Text.{text_of, lent_text}
-use Rattle.imap_bytes.proofs.Seen.{texts_tell}
+use Rattle.imap_bytes.proofs.Seen.{texts_tell, lists_tell, text_lists_tell}
 use Rattle.imap_data.specs.QuotaValues.{QuotaValue, QuotaRootValue, quota_resource_value, lent_quota_resource, quota_resource_content, quota_content, quota_root_content}
 use Rattle.imap_data.specs.declared.types.quota.Quota.{Quota}
 use Rattle.imap_data.specs.declared.types.quota.QuotaRoot.{QuotaRoot}
@@ -13,7 +13,6 @@ use Rattle.imap_data.specs.contracts.types.quota.QuotaRootPartialEq.TheImpl as r
 use Rattle.imap_data.specs.contracts.types.quota.QuotaResourceHash.TheImpl as resource_hash
 use Rattle.imap_data.specs.contracts.types.quota.QuotaHash.TheImpl as quota_hash
 use Rattle.imap_data.specs.contracts.types.quota.QuotaRootHash.TheImpl as root_hash
-use Rattle.imap_bytes.proofs.Seen.{lists_tell}
 use Rattle.imap_bytes.proofs.Hashing.{lists_alike, same_bytes, texts_alike}
 
 resources_tell : Tells (resource_eq.eq-value).it quota_resource_content
@@ -36,11 +35,11 @@ root_same : (x y : QuotaRoot) → (root_eq.eq-value).it x y ≡ true → quota_r
 root_same x y h =
     let parts = and_parts _ _ h in
     let mailbox = texts_tell.same x.mailbox_name y.mailbox_name parts.0 in
-    let roots = (lists_tell _ text_of lent_text texts_tell).same x.quota_root_names.items y.quota_root_names.items parts.1 in
+    let roots = text_lists_tell.same x.quota_root_names.items y.quota_root_names.items parts.1 in
     cc
 
 root_equal : (x y : QuotaRoot) → quota_root_content x ≡ quota_root_content y → (root_eq.eq-value).it x y ≡ true
-root_equal x y h = and_from _ _ (texts_tell.equal x.mailbox_name y.mailbox_name (ap (λ (q : QuotaRootValue). q.mailbox_name) h)) ((lists_tell _ text_of lent_text texts_tell).equal x.quota_root_names.items y.quota_root_names.items (ap (λ (q : QuotaRootValue). q.quota_root_names) h))
+root_equal x y h = and_from _ _ (texts_tell.equal x.mailbox_name y.mailbox_name (ap (λ (q : QuotaRootValue). q.mailbox_name) h)) (text_lists_tell.equal x.quota_root_names.items y.quota_root_names.items (ap (λ (q : QuotaRootValue). q.quota_root_names) h))
 
 pub roots_tell : Tells (root_eq.eq-value).it quota_root_content
 roots_tell = record { same = root_same; equal = root_equal }

@@ -18,7 +18,7 @@ use std::alloc::{AllocError, Global};
 
 /// An identifier and its rights.
 #[tactic(auto, unfolding(crate::specs::Acl::acl_entry))]
-pub fn acl_entry(alloc: Global, i: &[u8]) -> IResult<&[u8], AclEntry<'_>>
+pub(crate) fn acl_entry(alloc: Global, i: &[u8]) -> IResult<&[u8], AclEntry<'_>>
     ensures { Gives (λ x. acl_entry_value x) result (step rules.acl_entry i.now) }
 {
     let (i, identifier) = astring_utf8(alloc, i)?;

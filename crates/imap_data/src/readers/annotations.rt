@@ -135,7 +135,7 @@ fn entry(i: &[u8]) -> IResult<&[u8], &[u8]>
 
 /// An entry's name as text; any other astring is denied.
 #[tactic(auto, unfolding(crate::specs::Metadata::entry_utf8))]
-pub fn entry_utf8(alloc: Global, i: &[u8]) -> IResult<&[u8], CowStr<'_>>
+pub(crate) fn entry_utf8(alloc: Global, i: &[u8]) -> IResult<&[u8], CowStr<'_>>
     ensures { Gives (λ x. text_of x) result (step rules.entry_utf8 i.now) }
 {
     let (rest, name) = entry(i)?;
@@ -159,7 +159,7 @@ fn owned_value(alloc: Global, value: Option<CowStr<'_>>) -> Result<Option<String
 
 /// An entry and its value, both owned.
 #[tactic(auto, unfolding(crate::specs::Metadata::annotation))]
-pub fn annotation(alloc: Global, i: &[u8]) -> IResult<&[u8], Metadata>
+pub(crate) fn annotation(alloc: Global, i: &[u8]) -> IResult<&[u8], Metadata>
     ensures { Gives (λ x. metadata_value x) result (step rules.annotation i.now) }
 {
     let (i, entry) = entry_utf8(alloc, i)?;

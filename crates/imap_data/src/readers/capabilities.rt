@@ -41,7 +41,7 @@ fn capability(i: &[u8]) -> IResult<&[u8], Capability<'_>>
 
 /// A capability behind a space.
 #[tactic(auto, unfolding(crate::specs::Capabilities::spaced_capability))]
-pub fn spaced_capability(i: &[u8]) -> IResult<&[u8], Capability<'_>>
+pub(crate) fn spaced_capability(i: &[u8]) -> IResult<&[u8], Capability<'_>>
     ensures { Exactly (λ x. capability_value x) result (step capabilities.spaced_capability i.now) }
 {
     let (i, _) = tag(b" ", i)?;
@@ -50,7 +50,7 @@ pub fn spaced_capability(i: &[u8]) -> IResult<&[u8], Capability<'_>>
 
 /// A name behind a space, as it stands.
 #[tactic(auto, unfolding(crate::specs::Capabilities::spaced_name))]
-pub fn spaced_name(i: &[u8]) -> IResult<&[u8], Capability<'_>>
+pub(crate) fn spaced_name(i: &[u8]) -> IResult<&[u8], Capability<'_>>
     ensures { Exactly (λ x. capability_value x) result (step capabilities.spaced_name i.now) }
 {
     let (rest, _) = tag(b" ", i)?;

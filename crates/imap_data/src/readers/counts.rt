@@ -67,7 +67,7 @@ fn unseen(i: &[u8]) -> IResult<&[u8], StatusAttribute>
 
 /// An item of STATUS: its word in any case, and a number (RFC 3501, section 9: status-att-list; RFC 4551, section 3.6). No memory.
 #[tactic(auto, unfolding(crate::specs::Counts::status_item))]
-pub fn status_item(i: &[u8]) -> IResult<&[u8], StatusAttribute>
+pub(crate) fn status_item(i: &[u8]) -> IResult<&[u8], StatusAttribute>
     ensures { Exactly (λ x. x) result (step counts.status_item i.now) }
 {
     first!(highest_mod_seq(i));
@@ -79,7 +79,7 @@ pub fn status_item(i: &[u8]) -> IResult<&[u8], StatusAttribute>
 }
 
 /// Items of STATUS in parentheses, maybe none.
-pub fn status_items(alloc: Global, i: &[u8]) -> IResult<&[u8], Vec<StatusAttribute>>
+pub(crate) fn status_items(alloc: Global, i: &[u8]) -> IResult<&[u8], Vec<StatusAttribute>>
     ensures { Gives (λ x. x.items) result (step counts.status_items i.now) }
 {
     parenthesized_list(alloc, status_item, i)
@@ -87,7 +87,7 @@ pub fn status_items(alloc: Global, i: &[u8]) -> IResult<&[u8], Vec<StatusAttribu
 
 /// A number behind a space. No memory.
 #[tactic(auto, unfolding(crate::specs::Counts::found_number))]
-pub fn found_number(i: &[u8]) -> IResult<&[u8], u32>
+pub(crate) fn found_number(i: &[u8]) -> IResult<&[u8], u32>
     ensures { Exactly (λ x. x) result (step counts.found_number i.now) }
 {
     let (rest, _) = tag(b" ", i)?;
@@ -102,7 +102,7 @@ fn spaced_numbers(alloc: Global, i: &[u8]) -> IResult<&[u8], Vec<u32>>
 
 /// Numbers, each behind a space, maybe none, and maybe a space behind them (RFC 3501, section 7.2.5; RFC 5256, section 4).
 #[tactic(auto, unfolding(crate::specs::Counts::found_numbers))]
-pub fn found_numbers(alloc: Global, i: &[u8]) -> IResult<&[u8], Vec<u32>>
+pub(crate) fn found_numbers(alloc: Global, i: &[u8]) -> IResult<&[u8], Vec<u32>>
     ensures { Gives (λ x. x.items) result (step counts.found_numbers i.now) }
 {
     let (rest, numbers) = spaced_numbers(alloc, i)?;

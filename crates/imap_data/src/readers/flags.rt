@@ -14,7 +14,7 @@ use std::borrow::CowStr;
 
 /// A backslash and atom-chars, maybe none.
 #[tactic(auto, unfolding(crate::specs::Flags::backslashed))]
-pub fn backslashed(i: &[u8]) -> IResult<&[u8], &[u8]>
+pub(crate) fn backslashed(i: &[u8]) -> IResult<&[u8], &[u8]>
     ensures { Exactly (λ x. x.now) result (step flags.backslashed i.now) }
 {
     let (rest, _) = tag(b"\\", i)?;
@@ -24,7 +24,7 @@ pub fn backslashed(i: &[u8]) -> IResult<&[u8], &[u8]>
 
 /// The same as text; bytes that are no UTF-8 are `Error`.
 #[tactic(auto, unfolding(crate::specs::Flags::backslashed_text))]
-pub fn backslashed_text(i: &[u8]) -> IResult<&[u8], &str>
+pub(crate) fn backslashed_text(i: &[u8]) -> IResult<&[u8], &str>
     ensures { Exactly (λ x. x.now) result (step flags.backslashed_text i.now) }
 {
     let (rest, bytes) = backslashed(i)?;
@@ -75,7 +75,7 @@ pub fn flag_perm(i: &[u8]) -> IResult<&[u8], &str>
 
 /// A flag of a list, as text that lies in the input. No memory.
 #[tactic(auto, unfolding(crate::specs::Flags::flag_text))]
-pub fn flag_text(i: &[u8]) -> IResult<&[u8], CowStr<'_>>
+pub(crate) fn flag_text(i: &[u8]) -> IResult<&[u8], CowStr<'_>>
     ensures { Exactly (λ x. text_of x) result (step flags.flag_text i.now) }
 {
     let (rest, text) = flag_perm(i)?;

@@ -18,7 +18,7 @@ use std::borrow::CowStr;
 
 /// An attribute of a name: a known word in any case, or any other with its backslash (RFC 3501, section 7.2.2; RFC 6154, section 2). No memory.
 #[tactic(auto, unfolding(crate::specs::Names::name_attribute))]
-pub fn name_attribute(i: &[u8]) -> IResult<&[u8], NameAttribute<'_>>
+pub(crate) fn name_attribute(i: &[u8]) -> IResult<&[u8], NameAttribute<'_>>
     ensures { Exactly (λ x. attribute_value x) result (step names.name_attribute i.now) }
 {
     named!(b"\\Noinferiors", i, NameAttribute::NoInferiors);
@@ -58,7 +58,7 @@ fn delimiter(alloc: Global, i: &[u8]) -> IResult<&[u8], Option<CowStr<'_>>>
 
 /// What LIST and LSUB say of a mailbox (RFC 3501, section 9: mailbox-list).
 #[tactic(auto, unfolding(crate::specs::Names::list_data))]
-pub fn list_data(alloc: Global, i: &[u8]) -> IResult<&[u8], MailboxListData<'_>>
+pub(crate) fn list_data(alloc: Global, i: &[u8]) -> IResult<&[u8], MailboxListData<'_>>
     ensures { Gives (λ x. list_value x) result (step names.list_data i.now) }
 {
     let (rest, name_attributes) = name_attributes(alloc, i)?;

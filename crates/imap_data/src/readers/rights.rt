@@ -22,7 +22,7 @@ fn rights_in(alloc: Global, text: &str) -> Result<Vec<AclRight>, AllocError>
 ///
 /// It takes memory for them.
 #[tactic(auto, unfolding(crate::specs::Rights::rights))]
-pub fn rights(alloc: Global, i: &[u8]) -> IResult<&[u8], Vec<AclRight>>
+pub(crate) fn rights(alloc: Global, i: &[u8]) -> IResult<&[u8], Vec<AclRight>>
     ensures { Gives (λ x. x.items) result (step rule.rights i.now) }
 {
     let (i, text) = astring_utf8(alloc, i)?;

@@ -25,7 +25,7 @@ fn in_order(range: RangeInclusive<u32>) -> UidSetMember
 
 /// A range of UIDs with its ends put in order, or one UID (RFC 4315, section 4: uid-range, uniqueid). No memory.
 #[tactic(auto, unfolding(crate::specs::UidSets::uid_set_member))]
-pub fn uid_set_member(i: &[u8]) -> IResult<&[u8], UidSetMember>
+pub(crate) fn uid_set_member(i: &[u8]) -> IResult<&[u8], UidSetMember>
     ensures { Exactly (λ x. member_value x) result (step sets.uid_set_member i.now) }
 {
     match sequence_range(i) {

@@ -4,7 +4,7 @@ ghost use Rattle.std.specs.Prelude.{◌≡◌, IfOk, map};
 ghost use Rattle.std.specs.Option.{option_map};
 ghost use Rattle.std.specs.String.{string_bytes};
 ghost use Rattle.imap_bytes.specs.Text.{text_of};
-ghost use Rattle.imap_data.specs.MailboxValues.{attribute_content, attribute_value, lent_attribute, list_content, metadata_content, metadata_value, mailbox_content};
+ghost use Rattle.imap_data.specs.MailboxValues.{attribute_value, list_value, metadata_value, mailbox_value};
 
 use super::mailbox::{MailboxDatum, MailboxListData, Metadata, NameAttribute, StatusAttribute};
 use crate::copies::{copied_text, copied_texts};
@@ -14,7 +14,7 @@ use std::borrow::CowStr;
 impl<'a> NameAttribute<'a> {
     /// A copy. It takes memory only for an owned text; `Err` where there is none.
     pub fn clone(&self) -> Result<Self, AllocError>
-        ensures { IfOk result (λ c. attribute_content c ≡ attribute_content self.now) }
+        ensures { IfOk result (λ c. attribute_value c ≡ attribute_value self.now) }
     {
         Ok(match self {
             NameAttribute::NoInferiors => NameAttribute::NoInferiors,
@@ -28,7 +28,7 @@ impl<'a> NameAttribute<'a> {
             NameAttribute::Junk => NameAttribute::Junk,
             NameAttribute::Sent => NameAttribute::Sent,
             NameAttribute::Trash => NameAttribute::Trash,
-            NameAttribute::Extension(text) => NameAttribute::Extension(text.clone()?),
+            NameAttribute::Extension(text) => NameAttribute::Extension(copied_text(text)?),
         })
     }
 }
@@ -36,7 +36,7 @@ impl<'a> NameAttribute<'a> {
 fn copied_attributes<'a>(
     attributes: &Vec<NameAttribute<'a>>,
 ) -> Result<Vec<NameAttribute<'a>>, AllocError>
-    ensures { IfOk result (λ v. map lent_attribute (map attribute_value v.items) ≡ map lent_attribute (map attribute_value attributes.now.items)) }
+    ensures { IfOk result (λ v. map attribute_value v.items ≡ map attribute_value attributes.now.items) }
 {
     let mut copy = Vec::with_capacity(*attributes.allocator(), attributes.len())?;
     for attribute in attributes {
@@ -57,12 +57,12 @@ fn copied_delimiter<'a>(delimiter: &Option<CowStr<'a>>) -> Result<Option<CowStr<
 impl<'a> MailboxListData<'a> {
     /// A copy. It takes memory for the attributes and for owned texts; `Err` where there is none.
     pub fn clone(&self) -> Result<Self, AllocError>
-        ensures { IfOk result (λ c. list_content c ≡ list_content self.now) }
+        ensures { IfOk result (λ c. list_value c ≡ list_value self.now) }
     {
         Ok(MailboxListData {
             name_attributes: copied_attributes(&self.name_attributes)?,
             delimiter: copied_delimiter(&self.delimiter)?,
-            name: self.name.clone()?,
+            name: copied_text(&self.name)?,
         })
     }
 }
@@ -70,7 +70,7 @@ impl<'a> MailboxListData<'a> {
 impl Metadata {
     /// A copy. It takes memory for the texts; `Err` where there is none.
     pub fn clone(&self) -> Result<Self, AllocError>
-        ensures { IfOk result (λ c. metadata_content c ≡ metadata_content self.now) }
+        ensures { IfOk result (λ c. metadata_value c ≡ metadata_value self.now) }
     {
         Ok(Metadata {
             entry: self.entry.clone()?,
@@ -113,7 +113,7 @@ fn copied_items(items: &Vec<StatusAttribute>) -> Result<Vec<StatusAttribute>, Al
 impl<'a> MailboxDatum<'a> {
     /// A copy. It takes memory for lists and for owned texts; `Err` where there is none.
     pub fn clone(&self) -> Result<Self, AllocError>
-        ensures { IfOk result (λ c. mailbox_content c ≡ mailbox_content self.now) }
+        ensures { IfOk result (λ c. mailbox_value c ≡ mailbox_value self.now) }
     {
         Ok(match self {
             MailboxDatum::Exists(count) => MailboxDatum::Exists(*count),
@@ -122,19 +122,19 @@ impl<'a> MailboxDatum<'a> {
             MailboxDatum::Search(numbers) => MailboxDatum::Search(copied_numbers(numbers)?),
             MailboxDatum::Sort(numbers) => MailboxDatum::Sort(copied_numbers(numbers)?),
             MailboxDatum::Status { mailbox, status } => MailboxDatum::Status {
-                mailbox: mailbox.clone()?,
+                mailbox: copied_text(mailbox)?,
                 status: copied_items(status)?,
             },
             MailboxDatum::Recent(count) => MailboxDatum::Recent(*count),
             MailboxDatum::MetadataSolicited { mailbox, values } => {
                 MailboxDatum::MetadataSolicited {
-                    mailbox: mailbox.clone()?,
+                    mailbox: copied_text(mailbox)?,
                     values: copied_annotations(values)?,
                 }
             }
             MailboxDatum::MetadataUnsolicited { mailbox, values } => {
                 MailboxDatum::MetadataUnsolicited {
-                    mailbox: mailbox.clone()?,
+                    mailbox: copied_text(mailbox)?,
                     values: copied_texts(values)?,
                 }
             }
