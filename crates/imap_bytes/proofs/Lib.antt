@@ -17,3 +17,4 @@ pub mod Seen
 pub mod Hashing
 pub mod Yields
 pub mod Plain
+pub mod Starts

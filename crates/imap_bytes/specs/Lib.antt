@@ -13,3 +13,4 @@ pub mod Texts
 pub mod Sets
 pub mod Lists
 pub mod Equality
+pub mod Starts
