@@ -18,3 +18,7 @@ pub mod Hashing
 pub mod Yields
 pub mod Plain
 pub mod Starts
+pub mod Positions
+pub mod PositionJoins
+pub mod PositionUnder
+pub mod PositionRests
