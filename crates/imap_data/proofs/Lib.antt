@@ -1,10 +1,7 @@
-pub mod CapabilityLaws
-pub mod UidSetLaws
-pub mod CodeLaws
-pub mod OrderedUids
-pub mod OrderedCodes
-pub mod MailboxLaws
-pub mod QuotaLaws
-pub mod IdMaps
-pub mod Prefixes
-pub mod AclLaws
+pub mod Codes
+pub mod Names
+pub mod MailboxData
+pub mod Quotas
+pub mod Ids
+pub mod Annotations
+pub mod Acls

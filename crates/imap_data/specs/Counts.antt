@@ -4,8 +4,8 @@ use Rattle.imap_bytes.specs.Rule.{Rule, gives, many, ◌▹◌, ◌◃◌, ◌or
 use Rattle.imap_bytes.specs.Tags.{word, sp, maybe_space}
 use Rattle.imap_bytes.specs.Numbers.{number, number_64}
 use Rattle.imap_bytes.specs.Lists.{list_of}
-use Rattle.imap_data.specs.declared.types.mailbox.StatusAttribute.{StatusAttribute}
-use Rattle.imap_data.specs.declared.types.mailbox.StatusAttribute.TheVariants.{HighestModSeq, Messages, Recent, UidNext, UidValidity, Unseen}
+use Rattle.imap_data.specs.declared.types.counts.StatusAttribute.{StatusAttribute}
+use Rattle.imap_data.specs.declared.types.counts.StatusAttribute.TheVariants.{HighestModSeq, Messages, Recent, UidNext, UidValidity, Unseen}
 
 unfoldable pub highest_mod_seq : Rule StatusAttribute
 highest_mod_seq = gives HighestModSeq (word "HIGHESTMODSEQ " ▹ number_64)
@@ -37,3 +37,7 @@ found_number = sp ▹ number
 -- numbers, each behind a space, maybe none; some servers end them by a space
 unfoldable pub found_numbers : Rule (List ℕ)
 found_numbers = many found_number ◃ maybe_space
+
+-- what `==` tells of an item
+abbrev pub item_content : StatusAttribute → StatusAttribute
+item_content i = i

@@ -4,12 +4,12 @@ use Rattle.imap_bytes.specs.Text.{Text}
 use Rattle.imap_bytes.specs.Rule.{Rule, gives, ◌⨾◌, ◌▹◌, ◌◃◌, ◌or◌}
 use Rattle.imap_bytes.specs.Tags.{word, sp}
 use Rattle.imap_bytes.specs.Numbers.{number}
-use Rattle.imap_data.specs.declared.types.mailbox.StatusAttribute.{StatusAttribute}
-use Rattle.imap_data.specs.Flags.{flag_list}
-use Rattle.imap_data.specs.Mailbox.{mailbox}
+use Rattle.imap_data.specs.declared.types.counts.StatusAttribute.{StatusAttribute}
+use Rattle.imap_items.specs.Flags.{flag_list}
+use Rattle.imap_items.specs.Mailboxes.{mailbox}
 use Rattle.imap_data.specs.Names.{list_data}
 use Rattle.imap_data.specs.Counts.{status_items, found_numbers}
-use Rattle.imap_data.specs.Gmail.{gmail_label_list, gmail_msgid, gmail_thrid}
+use Rattle.imap_items.specs.Gmail.{gmail_label_list, gmail_msgid, gmail_thrid}
 use Rattle.imap_data.specs.MailboxValues.{MailboxValue, Exists, Flags, Listed, Search, Sort, Status, Recent, GmailLabels, GmailMsgId, GmailThrId}
 
 unfoldable pub flags : Rule MailboxValue

@@ -1,14 +1,63 @@
 -- Attributes of mailbox names and the data of LIST (RFC 3501, section 7.2.2 and section 9: mailbox-list, mbx-list-flags; RFC 6154, section 2).
-use Rattle.std.specs.Prelude.{List, Option, None, Some}
-use Rattle.imap_bytes.specs.Text.{Bytes, Text, as_text}
+use Rattle.std.specs.Prelude.{List, Option, None, Some, option_map, map}
+use Rattle.imap_bytes.specs.Text.{Bytes, Text, as_text, text_of, lent_text}
 use Rattle.imap_bytes.specs.Rule.{Rule, gives, nothing, ◌⨾◌, ◌▹◌, ◌or◌}
 use Rattle.imap_bytes.specs.Tags.{names, sp}
 use Rattle.imap_bytes.specs.Strings.{nil}
 use Rattle.imap_bytes.specs.Texts.{quoted_utf8}
 use Rattle.imap_bytes.specs.Lists.{list_of}
-use Rattle.imap_data.specs.Flags.{backslashed_text}
-use Rattle.imap_data.specs.Mailbox.{mailbox}
-use Rattle.imap_data.specs.MailboxValues.{NameAttributeValue, NoInferiors, NoSelect, Marked, Unmarked, All, Archive, Drafts, Flagged, Junk, Sent, Trash, Extension, ListValue}
+use Rattle.imap_items.specs.Flags.{backslashed_text}
+use Rattle.imap_items.specs.Mailboxes.{mailbox}
+use Rattle.imap_data.specs.declared.types.names.NameAttribute.{NameAttribute}
+use Rattle.imap_data.specs.declared.types.names.NameAttribute.TheVariants as name
+use Rattle.imap_data.specs.declared.types.names.MailboxListData.{MailboxListData}
+
+-- ---- values
+
+pub data NameAttributeValue : Type 0 where
+  NoInferiors NoSelect Marked Unmarked All Archive Drafts Flagged Junk Sent Trash : NameAttributeValue
+  Extension : Text → NameAttributeValue
+
+pub record ListValue : Type 0 where
+  pub name_attributes : List NameAttributeValue
+  pub delimiter : Option Text
+  pub name : Text
+
+-- ---- of the code's values
+
+abbrev pub attribute_value : NameAttribute → NameAttributeValue
+attribute_value name.NoInferiors = NoInferiors
+attribute_value name.NoSelect = NoSelect
+attribute_value name.Marked = Marked
+attribute_value name.Unmarked = Unmarked
+attribute_value name.All = All
+attribute_value name.Archive = Archive
+attribute_value name.Drafts = Drafts
+attribute_value name.Flagged = Flagged
+attribute_value name.Junk = Junk
+attribute_value name.Sent = Sent
+attribute_value name.Trash = Trash
+attribute_value (name.Extension t) = Extension (text_of t)
+
+abbrev pub list_value : MailboxListData → ListValue
+list_value l = record { name_attributes = map attribute_value l.name_attributes.items; delimiter = option_map text_of l.delimiter; name = text_of l.name }
+
+-- ---- with all texts borrowed: two values are the same where these are one
+
+abbrev pub lent_attribute : NameAttributeValue → NameAttributeValue
+lent_attribute (Extension t) = Extension (lent_text t)
+lent_attribute other = other
+
+abbrev pub lent_list : ListValue → ListValue
+lent_list l = record { name_attributes = map lent_attribute l.name_attributes; delimiter = option_map lent_text l.delimiter; name = lent_text l.name }
+
+abbrev pub attribute_content : NameAttribute → NameAttributeValue
+attribute_content a = lent_attribute (attribute_value a)
+
+abbrev pub list_content : MailboxListData → ListValue
+list_content l = lent_list (list_value l)
+
+-- ---- rules
 
 -- an extension's text has its backslash
 abbrev pub extension_of : Bytes → NameAttributeValue

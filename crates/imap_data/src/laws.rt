@@ -3,44 +3,43 @@
 ghost use Rattle.std.specs.Prelude.{ℕ, ◌≡◌};
 ghost use Rattle.imap_bytes.specs.Stable.{Stable};
 ghost use Rattle.imap_bytes.specs.Equality.{Tells, HashesAlike};
-ghost use Rattle.imap_data.specs.Status as statuses;
-ghost use Rattle.imap_data.specs.Flags as flags;
-ghost use Rattle.imap_data.specs.Capabilities as capabilities;
-ghost use Rattle.imap_data.specs.CapabilityValues.{capability_content};
-ghost use Rattle.imap_data.specs.UidSets as uid_sets;
-ghost use Rattle.imap_data.specs.UidSets.{member_value};
+ghost use Rattle.imap_items.specs.Statuses as statuses;
+ghost use Rattle.imap_items.specs.Flags as flags;
+ghost use Rattle.imap_items.specs.Capabilities as capabilities;
+ghost use Rattle.imap_items.specs.Capabilities.{capability_content};
+ghost use Rattle.imap_items.specs.UidSets as uid_sets;
+ghost use Rattle.imap_items.specs.UidSets.{member_value};
 ghost use Rattle.imap_data.specs.Codes as codes;
-ghost use Rattle.imap_data.specs.CodeValues.{code_content};
-ghost use Rattle.imap_data.specs.declared.types.uid_set.UidSetMember.{UidSetMember as Member};
-ghost use Rattle.imap_data.specs.Mailbox as mailboxes;
+ghost use Rattle.imap_data.specs.Codes.{code_content};
+ghost use Rattle.imap_items.specs.Mailboxes as mailboxes;
 ghost use Rattle.imap_data.specs.Names as names;
 ghost use Rattle.imap_data.specs.Counts as counts;
-ghost use Rattle.imap_data.specs.Gmail as gmail;
+ghost use Rattle.imap_items.specs.Gmail as gmail;
 ghost use Rattle.imap_data.specs.MailboxData as mailbox_data;
-ghost use Rattle.imap_data.specs.MailboxValues.{attribute_content, list_content, item_content, metadata_content, mailbox_content};
-ghost use Rattle.imap_data.specs.Quota as quotas;
-ghost use Rattle.imap_data.specs.Id as ids;
-ghost use Rattle.imap_data.specs.Vanished as vanishings;
-ghost use Rattle.imap_data.specs.QuotaValues.{quota_content, quota_resource_content, quota_resource_name_content, quota_root_content};
-ghost use Rattle.imap_data.specs.IdValues.{id_content};
-ghost use Rattle.imap_data.specs.declared.types.rights.AclRight.{AclRight as Right};
-ghost use Rattle.imap_data.specs.Rights as rights;
-ghost use Rattle.imap_data.specs.Rights.{right_of, letter_of, IsShadowed, right_content};
-ghost use Rattle.imap_data.specs.Acl as acls;
-ghost use Rattle.imap_data.specs.Acl.{acl_entry_content, acl_content, list_rights_content, my_rights_content};
-ghost use Rattle.imap_data.specs.Metadata as metadata;
+ghost use Rattle.imap_data.specs.Names.{attribute_content, list_content};
+ghost use Rattle.imap_data.specs.Counts.{item_content};
+ghost use Rattle.imap_data.specs.MailboxValues.{metadata_content, mailbox_content};
+ghost use Rattle.imap_data.specs.Quotas as quotas;
+ghost use Rattle.imap_data.specs.Ids as ids;
+ghost use Rattle.imap_data.specs.Vanishings as vanishings;
+ghost use Rattle.imap_data.specs.Quotas.{quota_content, quota_resource_content, quota_resource_name_content, quota_root_content};
+ghost use Rattle.imap_data.specs.Ids.{id_content};
+ghost use Rattle.imap_items.specs.Rights as rights;
+ghost use Rattle.imap_items.specs.Rights.{right_content};
+ghost use Rattle.imap_data.specs.Acls as acls;
+ghost use Rattle.imap_data.specs.Acls.{acl_entry_content, acl_content, list_rights_content, my_rights_content};
+ghost use Rattle.imap_data.specs.Annotations as metadata;
 
-use crate::types::acl::{Acl, AclEntry, ListRights, MyRights};
-use crate::types::capability::Capability;
-use crate::types::code::ResponseCode;
-use crate::types::id::IdMap;
-use crate::types::mailbox::{
-    MailboxDatum, MailboxListData, Metadata, NameAttribute, StatusAttribute,
-};
-use crate::types::quota::{Quota, QuotaResource, QuotaResourceName, QuotaRoot};
-use crate::types::rights::AclRight;
-use crate::types::status::Status;
-use crate::types::uid_set::UidSetMember;
+use crate::types::acls::{Acl, AclEntry, ListRights, MyRights};
+use crate::types::annotations::Metadata;
+use crate::types::codes::ResponseCode;
+use crate::types::counts::StatusAttribute;
+use crate::types::ids::IdMap;
+use crate::types::mailbox_data::MailboxDatum;
+use crate::types::names::{MailboxListData, NameAttribute};
+use crate::types::quotas::{Quota, QuotaResource, QuotaResourceName, QuotaRoot};
+pub use imap_items::laws::{cloning, conversions};
+use imap_items::{AclRight, Capability, Status, UidSetMember};
 use std::hash::Hash;
 
 /// Each rule has one answer, and appended bytes change neither a value nor a denial, and make what is lacking as much smaller.
@@ -80,7 +79,7 @@ pub fn stable()
 {}
 
 /// `==` tells whether two values say the same: texts by their bytes, whichever lie in the input.
-#[tactic(auto, using(crate::proofs::CapabilityLaws::capability_tells, crate::proofs::UidSetLaws::member_tells, crate::proofs::CodeLaws::code_tells))]
+#[tactic(auto, using(imap_items::proofs::Capabilities::capability_tells, imap_items::proofs::UidSets::member_tells, crate::proofs::Codes::code_tells))]
 pub fn equality()
     ensures status { Tells ⟦<Status as PartialEq>⟧.eq (λ s. s) }
     ensures capability { Tells ⟦<Capability<'static> as PartialEq>⟧.eq capability_content }
@@ -111,16 +110,4 @@ pub fn hashing()
     ensures quota { HashesAlike ⟦<Quota<'static> as Hash>⟧.hash_input quota_content }
     ensures quota_root { HashesAlike ⟦<QuotaRoot<'static> as Hash>⟧.hash_input quota_root_content }
     ensures acl_right { HashesAlike ⟦<AclRight as Hash>⟧.hash_input right_content }
-{}
-
-/// A clone of a UID set's member takes no memory, and is the same value.
-pub fn cloning()
-    ensures no_memory { (m : Member) → ⟦<UidSetMember as Clone>⟧.is_infallible m }
-    ensures same { (m copy : Member) → ⟦<UidSetMember as Clone>⟧.is_clone m copy → member_value copy ≡ member_value m }
-{}
-
-/// A letter's right has that letter, and a right's letter has that right, but for a `Custom` of a letter that has a right of its own.
-pub fn conversions()
-    ensures letters { (c : ℕ) → letter_of (right_of c) ≡ c }
-    ensures rights { (right : Right) → ¬ (IsShadowed right) → right_of (letter_of right) ≡ right }
 {}

@@ -1,20 +1,16 @@
-//! Data of IMAP servers: status codes, capabilities, flags, mailbox data and extension lines.
+//! Data of IMAP servers: response codes, mailbox data and extension lines, over the items of `imap_items`.
 #![tactic(auto)]
 
-mod copies;
 pub mod laws;
 pub mod readers;
 mod types;
 
-pub use types::acl::{Acl, AclEntry, ListRights, MyRights};
-pub use types::capability::Capability;
-pub use types::code::ResponseCode;
-pub use types::id::IdMap;
-pub use types::mailbox::{MailboxDatum, MailboxListData, Metadata, NameAttribute, StatusAttribute};
-pub use types::quota::{Quota, QuotaResource, QuotaResourceName, QuotaRoot};
-pub use types::rights::AclRight;
-pub use types::status::Status;
-pub use types::uid_set::UidSetMember;
-
-#[cfg(test)]
-mod tests;
+pub use imap_items::{AclRight, Capability, Status, UidSetMember};
+pub use types::acls::{Acl, AclEntry, ListRights, MyRights};
+pub use types::annotations::Metadata;
+pub use types::codes::ResponseCode;
+pub use types::counts::StatusAttribute;
+pub use types::ids::IdMap;
+pub use types::mailbox_data::MailboxDatum;
+pub use types::names::{MailboxListData, NameAttribute};
+pub use types::quotas::{Quota, QuotaResource, QuotaResourceName, QuotaRoot};

@@ -1,12 +1,10 @@
 //! The values that the readers give.
 
-pub(crate) mod acl;
-pub(crate) mod capability;
-pub(crate) mod code;
-pub(crate) mod id;
-pub(crate) mod mailbox;
-mod mailbox_clones;
-pub(crate) mod quota;
-pub(crate) mod rights;
-pub(crate) mod status;
-pub(crate) mod uid_set;
+pub(crate) mod acls;
+pub(crate) mod annotations;
+pub(crate) mod codes;
+pub(crate) mod counts;
+pub(crate) mod ids;
+pub(crate) mod mailbox_data;
+pub(crate) mod names;
+pub(crate) mod quotas;

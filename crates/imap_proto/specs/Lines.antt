@@ -6,15 +6,15 @@ use Rattle.imap_bytes.specs.Rule.{Rule, run0, run1, gives, ◌⨾◌, ◌▹◌,
 use Rattle.imap_bytes.specs.Tags.{tag, word, sp, maybe_space, crlf}
 use Rattle.imap_bytes.specs.Numbers.{number}
 use Rattle.imap_bytes.specs.Strings.{in_utf8}
-use Rattle.imap_data.specs.declared.types.status.Status.{Status}
-use Rattle.imap_data.specs.Status.{status}
-use Rattle.imap_data.specs.Capabilities.{capability_data, enabled_data}
+use Rattle.imap_items.specs.declared.types.statuses.Status.{Status}
+use Rattle.imap_items.specs.Statuses.{status}
+use Rattle.imap_items.specs.Capabilities.{capability_data, enabled_data}
 use Rattle.imap_data.specs.MailboxData.{mailbox_datum}
-use Rattle.imap_data.specs.Metadata.{metadata_solicited, metadata_unsolicited}
-use Rattle.imap_data.specs.Vanished.{vanished}
-use Rattle.imap_data.specs.Quota.{quota, quota_root}
-use Rattle.imap_data.specs.Id.{id}
-use Rattle.imap_data.specs.Acl.{acl, list_rights, my_rights}
+use Rattle.imap_data.specs.Annotations.{metadata_solicited, metadata_unsolicited}
+use Rattle.imap_data.specs.Vanishings.{vanished}
+use Rattle.imap_data.specs.Quotas.{quota, quota_root}
+use Rattle.imap_data.specs.Ids.{id}
+use Rattle.imap_data.specs.Acls.{acl, list_rights, my_rights}
 use Rattle.imap_proto.specs.Responses.{OutcomeValue, ResponseValue, Capabilities, Continue, Done, Data, Expunge, Vanished, MailboxData, Quota, QuotaRoot, Id, Acl, ListRights, MyRights}
 use Rattle.imap_proto.specs.Outcomes.{outcome, spaced_outcome}
 

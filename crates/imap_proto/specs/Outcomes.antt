@@ -4,7 +4,7 @@ use Rattle.imap_bytes.specs.Text.{Bytes, Text}
 use Rattle.imap_bytes.specs.Rule.{Rule, gives, opt, otherwise, ◌⨾◌, ◌▹◌}
 use Rattle.imap_bytes.specs.Tags.{sp}
 use Rattle.imap_bytes.specs.Texts.{text}
-use Rattle.imap_data.specs.CodeValues.{CodeValue}
+use Rattle.imap_data.specs.Codes.{CodeValue}
 use Rattle.imap_data.specs.Codes.{response_code}
 use Rattle.imap_proto.specs.Responses.{OutcomeValue}
 

@@ -3,12 +3,12 @@
 ghost use Rattle.imap_bytes.specs.Answer.{Gives};
 ghost use Rattle.imap_bytes.specs.Rule.{gives};
 ghost use Rattle.imap_bytes.specs.Step.{step};
-ghost use Rattle.imap_data.specs.Capabilities as capabilities;
+ghost use Rattle.imap_items.specs.Capabilities as capabilities;
 ghost use Rattle.imap_data.specs.MailboxData as mailboxes;
-ghost use Rattle.imap_data.specs.Metadata as annotations;
-ghost use Rattle.imap_data.specs.Quota as quotas;
-ghost use Rattle.imap_data.specs.Id as ids;
-ghost use Rattle.imap_data.specs.Acl as acls;
+ghost use Rattle.imap_data.specs.Annotations as annotations;
+ghost use Rattle.imap_data.specs.Quotas as quotas;
+ghost use Rattle.imap_data.specs.Ids as ids;
+ghost use Rattle.imap_data.specs.Acls as acls;
 ghost use Rattle.imap_proto.specs.Responses.{response_value};
 ghost use Rattle.imap_proto.specs.Responses as value;
 ghost use Rattle.imap_proto.specs.Lines as rule;

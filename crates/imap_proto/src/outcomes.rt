@@ -6,7 +6,7 @@ ghost use Rattle.imap_bytes.specs.Step.{step};
 ghost use Rattle.imap_bytes.specs.Rule.{opt, ◌▹◌};
 ghost use Rattle.imap_bytes.specs.Tags.{sp};
 ghost use Rattle.imap_bytes.specs.Text.{text_of};
-ghost use Rattle.imap_data.specs.CodeValues.{code_value};
+ghost use Rattle.imap_data.specs.Codes.{code_value};
 ghost use Rattle.imap_data.specs.Codes.{response_code as response_code_rule};
 ghost use Rattle.imap_proto.specs.Responses.{outcome_value};
 ghost use Rattle.imap_proto.specs.Outcomes as outcomes;

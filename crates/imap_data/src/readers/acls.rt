@@ -3,21 +3,21 @@
 ghost use Rattle.std.specs.Prelude.{◌≡◌, map, IfOk};
 ghost use Rattle.imap_bytes.specs.Answer.{Answers, Gives};
 ghost use Rattle.imap_bytes.specs.Step.{step};
-ghost use Rattle.imap_data.specs.Rights as letters;
-ghost use Rattle.imap_data.specs.Acl as rules;
-ghost use Rattle.imap_data.specs.Acl.{acl_entry_value, acl_value, list_rights_value, my_rights_value};
+ghost use Rattle.imap_items.specs.Rights as letters;
+ghost use Rattle.imap_data.specs.Acls as rules;
+ghost use Rattle.imap_data.specs.Acls.{acl_entry_value, acl_value, list_rights_value, my_rights_value};
 
-use crate::readers::mailboxes::mailbox;
-use crate::readers::rights::rights;
-use crate::types::acl::{Acl, AclEntry, ListRights, MyRights};
-use crate::types::rights::AclRight;
+use crate::types::acls::{Acl, AclEntry, ListRights, MyRights};
 use imap_bytes::lists::{Separator, maybe_separated};
 use imap_bytes::tags::{blanks0, blanks1, word};
 use imap_bytes::{IResult, astring_utf8};
+use imap_items::AclRight;
+use imap_items::readers::mailboxes::mailbox;
+use imap_items::readers::rights::rights;
 use std::alloc::{AllocError, Global};
 
 /// An identifier and its rights.
-#[tactic(auto, unfolding(crate::specs::Acl::acl_entry))]
+#[tactic(auto, unfolding(crate::specs::Acls::acl_entry))]
 pub(crate) fn acl_entry(alloc: Global, i: &[u8]) -> IResult<&[u8], AclEntry<'_>>
     ensures { Gives (λ x. acl_entry_value x) result (step rules.acl_entry i.now) }
 {
@@ -39,7 +39,7 @@ fn acl_entries(alloc: Global, i: &[u8]) -> IResult<&[u8], Vec<AclEntry<'_>>>
 /// The rights of each identifier on a mailbox, maybe of none (RFC 4314, section 3.6: ACL).
 ///
 /// It takes memory for them, and for texts that are no UTF-8.
-#[tactic(auto, using(imap_bytes::proofs::Agreement::answered), unfolding(crate::specs::Acl::acl))]
+#[tactic(auto, using(imap_bytes::proofs::Agreement::answered), unfolding(crate::specs::Acls::acl))]
 pub fn acl(alloc: Global, i: &[u8]) -> IResult<&[u8], Acl<'_>>
     ensures steps { Gives (λ x. acl_value x) result (step rules.acl i.now) }
     ensures answer { Answers rules.acl (λ x. acl_value x) i.now result }
@@ -71,7 +71,7 @@ fn joined(alloc: Global, groups: Vec<Vec<AclRight>>) -> Result<Vec<AclRight>, Al
     Ok(rights)
 }
 
-#[tactic(auto, unfolding(crate::specs::Acl::optional_rights))]
+#[tactic(auto, unfolding(crate::specs::Acls::optional_rights))]
 fn optional_rights(alloc: Global, i: &[u8]) -> IResult<&[u8], Vec<AclRight>>
     ensures { Gives (λ x. x.items) result (step rules.optional_rights i.now) }
 {
@@ -80,7 +80,7 @@ fn optional_rights(alloc: Global, i: &[u8]) -> IResult<&[u8], Vec<AclRight>>
     Ok((i, joined(alloc, groups)?))
 }
 
-#[tactic(auto, unfolding(crate::specs::Acl::list_rights))]
+#[tactic(auto, unfolding(crate::specs::Acls::list_rights))]
 fn list_rights_data(alloc: Global, i: &[u8]) -> IResult<&[u8], ListRights<'_>>
     ensures { Gives (λ x. list_rights_value x) result (step rules.list_rights i.now) }
 {
@@ -114,7 +114,7 @@ pub fn list_rights(alloc: Global, i: &[u8]) -> IResult<&[u8], ListRights<'_>>
     list_rights_data(alloc, i)
 }
 
-#[tactic(auto, unfolding(crate::specs::Acl::my_rights))]
+#[tactic(auto, unfolding(crate::specs::Acls::my_rights))]
 fn my_rights_data(alloc: Global, i: &[u8]) -> IResult<&[u8], MyRights<'_>>
     ensures { Gives (λ x. my_rights_value x) result (step rules.my_rights i.now) }
 {

@@ -7,9 +7,10 @@ ghost use Rattle.imap_bytes.specs.Answer.{Answers, Exactly, Gives};
 ghost use Rattle.imap_bytes.specs.Step.{step};
 ghost use Rattle.imap_bytes.specs.Text.{text_of};
 ghost use Rattle.imap_data.specs.MailboxValues.{metadata_value, mailbox_value};
-ghost use Rattle.imap_data.specs.Metadata as rules;
+ghost use Rattle.imap_data.specs.Annotations as rules;
 
-use crate::types::mailbox::{MailboxDatum, Metadata};
+use crate::types::annotations::Metadata;
+use crate::types::mailbox_data::MailboxDatum;
 use imap_bytes::lists::{Separator, maybe_separated};
 use imap_bytes::tags::{tag, word};
 use imap_bytes::texts::decode;
@@ -122,7 +123,7 @@ fn is_entry_name(bytes: &[u8]) -> bool
 }
 
 // An astring that is an entry's name.
-#[tactic(auto, unfolding(crate::specs::Metadata::entry))]
+#[tactic(auto, unfolding(crate::specs::Annotations::entry))]
 fn entry(i: &[u8]) -> IResult<&[u8], &[u8]>
     ensures { Exactly (λ x. x.now) result (step rules.entry i.now) }
 {
@@ -134,7 +135,7 @@ fn entry(i: &[u8]) -> IResult<&[u8], &[u8]>
 }
 
 /// An entry's name as text; any other astring is denied.
-#[tactic(auto, unfolding(crate::specs::Metadata::entry_utf8))]
+#[tactic(auto, unfolding(crate::specs::Annotations::entry_utf8))]
 pub(crate) fn entry_utf8(alloc: Global, i: &[u8]) -> IResult<&[u8], CowStr<'_>>
     ensures { Gives (λ x. text_of x) result (step rules.entry_utf8 i.now) }
 {
@@ -158,7 +159,7 @@ fn owned_value(alloc: Global, value: Option<CowStr<'_>>) -> Result<Option<String
 }
 
 /// An entry and its value, both owned.
-#[tactic(auto, unfolding(crate::specs::Metadata::annotation))]
+#[tactic(auto, unfolding(crate::specs::Annotations::annotation))]
 pub(crate) fn annotation(alloc: Global, i: &[u8]) -> IResult<&[u8], Metadata>
     ensures { Gives (λ x. metadata_value x) result (step rules.annotation i.now) }
 {
@@ -170,7 +171,7 @@ pub(crate) fn annotation(alloc: Global, i: &[u8]) -> IResult<&[u8], Metadata>
     Ok((i, Metadata { entry, value }))
 }
 
-#[tactic(auto, unfolding(crate::specs::Metadata::metadata_mailbox))]
+#[tactic(auto, unfolding(crate::specs::Annotations::metadata_mailbox))]
 fn metadata_mailbox(alloc: Global, i: &[u8]) -> IResult<&[u8], CowStr<'_>>
     ensures { Gives (λ x. text_of x) result (step rules.metadata_mailbox i.now) }
 {
@@ -192,7 +193,7 @@ fn annotations(alloc: Global, i: &[u8]) -> IResult<&[u8], Vec<Metadata>>
 /// Annotations with their values, at least one: METADATA as a response to GETMETADATA (RFC 5464, section 4.4.1).
 ///
 /// It takes memory for each entry and value.
-#[tactic(auto, using(imap_bytes::proofs::Agreement::answered), unfolding(crate::specs::Metadata::metadata_solicited))]
+#[tactic(auto, using(imap_bytes::proofs::Agreement::answered), unfolding(crate::specs::Annotations::metadata_solicited))]
 pub fn metadata_solicited(alloc: Global, i: &[u8]) -> IResult<&[u8], MailboxDatum<'_>>
     ensures steps { Gives (λ x. mailbox_value x) result (step rules.metadata_solicited i.now) }
     ensures answer { Answers rules.metadata_solicited (λ x. mailbox_value x) i.now result }
@@ -214,7 +215,7 @@ fn entries(alloc: Global, i: &[u8]) -> IResult<&[u8], Vec<CowStr<'_>>>
 /// Entries that changed, maybe none: METADATA that the server sends by itself (RFC 5464, section 4.4.2).
 ///
 /// It takes memory for the list, and for texts that are no UTF-8.
-#[tactic(auto, using(imap_bytes::proofs::Agreement::answered), unfolding(crate::specs::Metadata::metadata_unsolicited))]
+#[tactic(auto, using(imap_bytes::proofs::Agreement::answered), unfolding(crate::specs::Annotations::metadata_unsolicited))]
 pub fn metadata_unsolicited(alloc: Global, i: &[u8]) -> IResult<&[u8], MailboxDatum<'_>>
     ensures steps { Gives (λ x. mailbox_value x) result (step rules.metadata_unsolicited i.now) }
     ensures answer { Answers rules.metadata_unsolicited (λ x. mailbox_value x) i.now result }

@@ -5,16 +5,16 @@ ghost use Rattle.imap_bytes.specs.Answer.{Answers, Exactly, Gives};
 ghost use Rattle.imap_bytes.specs.Step.{step};
 ghost use Rattle.imap_bytes.specs.Text.{text_of};
 ghost use Rattle.imap_data.specs.Codes as codes;
-ghost use Rattle.imap_data.specs.CodeValues.{code_value, HasOrderedUids};
+ghost use Rattle.imap_data.specs.Codes.{code_value, HasOrderedUids};
 
-use crate::readers::capabilities::capability_data;
-use crate::readers::flags::flag_list;
-use crate::readers::uid_sets::uid_set;
-use crate::types::code::ResponseCode;
+use crate::types::codes::ResponseCode;
 use imap_bytes::tags::{tag, word};
 use imap_bytes::{
     Err, IResult, astring_utf8, first, named, number, number_64, parenthesized_nonempty_list,
 };
+use imap_items::readers::capabilities::capability_data;
+use imap_items::readers::flags::flag_list;
+use imap_items::readers::uid_sets::uid_set;
 use std::alloc::Global;
 use std::borrow::CowStr;
 

@@ -5,7 +5,7 @@ ghost use Rattle.imap_bytes.specs.Step.{step};
 ghost use Rattle.imap_bytes.specs.Rule.{many};
 ghost use Rattle.imap_data.specs.Counts as counts;
 
-use crate::types::mailbox::StatusAttribute;
+use crate::types::counts::StatusAttribute;
 use imap_bytes::lists::repeated;
 use imap_bytes::tags::{maybe_space, tag, word};
 use imap_bytes::{IResult, first, number, number_64, parenthesized_list};

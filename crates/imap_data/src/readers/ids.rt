@@ -6,10 +6,10 @@ ghost use Rattle.std.specs.Cow.{cow_str_bytes};
 ghost use Rattle.imap_bytes.specs.Answer.{Answers, Gives};
 ghost use Rattle.imap_bytes.specs.Step.{step};
 ghost use Rattle.imap_bytes.specs.Text.{text_of};
-ghost use Rattle.imap_data.specs.Id as ids;
-ghost use Rattle.imap_data.specs.IdValues.{id_value, pair_value, map_of_pairs};
+ghost use Rattle.imap_data.specs.Ids as ids;
+ghost use Rattle.imap_data.specs.Ids.{id_value, pair_value, map_of_pairs};
 
-use crate::types::id::IdMap;
+use crate::types::ids::IdMap;
 use imap_bytes::lists::{Separator, separated};
 use imap_bytes::tags::{blanks0, blanks1, tag, word};
 use imap_bytes::{IResult, first, nil, nstring_utf8, string_utf8};
@@ -20,7 +20,7 @@ use std::collections::HashMap;
 // A field, and its value if it has one.
 type IdPair<'a> = (CowStr<'a>, Option<CowStr<'a>>);
 
-#[tactic(auto, unfolding(crate::specs::Id::id_pair))]
+#[tactic(auto, unfolding(crate::specs::Ids::id_pair))]
 fn id_pair(alloc: Global, i: &[u8]) -> IResult<&[u8], IdPair<'_>>
     ensures { Gives pair_value result (step ids.id_pair i.now) }
 {
@@ -39,7 +39,7 @@ fn id_pairs(alloc: Global, i: &[u8]) -> IResult<&[u8], Vec<IdPair<'_>>>
     separated(alloc, Separator::Blanks, pair, i)
 }
 
-#[tactic(auto, unfolding(crate::specs::Id::id_list))]
+#[tactic(auto, unfolding(crate::specs::Ids::id_list))]
 fn id_list(alloc: Global, i: &[u8]) -> IResult<&[u8], Vec<IdPair<'_>>>
     ensures { Gives (λ x. map pair_value x.items) result (step ids.id_list i.now) }
 {
@@ -79,7 +79,7 @@ fn some_params(alloc: Global, i: &[u8]) -> IResult<&[u8], Option<IdMap<'_>>>
     Ok((rest, Some(map)))
 }
 
-#[tactic(auto, unfolding(crate::specs::Id::id_params))]
+#[tactic(auto, unfolding(crate::specs::Ids::id_params))]
 fn id_params(alloc: Global, i: &[u8]) -> IResult<&[u8], Option<IdMap<'_>>>
     ensures { Gives (option_map id_value) result (step ids.id_params i.now) }
 {
@@ -92,7 +92,7 @@ fn id_params(alloc: Global, i: &[u8]) -> IResult<&[u8], Option<IdMap<'_>>>
 ///
 /// A field whose value is `NIL` is left out, and of equal fields the last counts. `NIL` in place of the list is `None`.
 /// It takes memory for the map, and for texts that are no UTF-8.
-#[tactic(auto, using(imap_bytes::proofs::Agreement::answered), unfolding(crate::specs::Id::id))]
+#[tactic(auto, using(imap_bytes::proofs::Agreement::answered), unfolding(crate::specs::Ids::id))]
 pub fn id(alloc: Global, i: &[u8]) -> IResult<&[u8], Option<IdMap<'_>>>
     ensures steps { Gives (option_map id_value) result (step ids.id i.now) }
     ensures answer { Answers ids.id (option_map id_value) i.now result }

@@ -6,13 +6,13 @@ ghost use Rattle.imap_data.specs.MailboxData as rules;
 ghost use Rattle.imap_data.specs.MailboxValues.{mailbox_value};
 
 use super::counts::{found_numbers, status_items};
-use super::flags::flag_list;
-use super::gmail::{gmail_label_list, gmail_msgid, gmail_thrid};
-use super::mailboxes::mailbox;
 use super::names::list_data;
-use crate::types::mailbox::MailboxDatum;
+use crate::types::mailbox_data::MailboxDatum;
 use imap_bytes::tags::{tag, word};
 use imap_bytes::{IResult, first, number};
+use imap_items::readers::flags::flag_list;
+use imap_items::readers::gmail::{gmail_label_list, gmail_msgid, gmail_thrid};
+use imap_items::readers::mailboxes::mailbox;
 use std::alloc::Global;
 
 #[tactic(auto, unfolding(crate::specs::MailboxData::flags))]

@@ -6,13 +6,13 @@ ghost use Rattle.imap_bytes.specs.Answer.{Exactly, Gives};
 ghost use Rattle.imap_bytes.specs.Step.{step};
 ghost use Rattle.imap_bytes.specs.Text.{text_of};
 ghost use Rattle.imap_data.specs.Names as names;
-ghost use Rattle.imap_data.specs.MailboxValues.{attribute_value, list_value};
+ghost use Rattle.imap_data.specs.Names.{attribute_value, list_value};
 
-use super::flags::backslashed_text;
-use super::mailboxes::mailbox;
-use crate::types::mailbox::{MailboxListData, NameAttribute};
+use crate::types::names::{MailboxListData, NameAttribute};
 use imap_bytes::tags::tag;
 use imap_bytes::{Err, IResult, named, nil, parenthesized_list, quoted_utf8};
+use imap_items::readers::flags::backslashed_text;
+use imap_items::readers::mailboxes::mailbox;
 use std::alloc::Global;
 use std::borrow::CowStr;
 

@@ -4,17 +4,17 @@ ghost use Rattle.std.specs.Prelude.{map};
 ghost use Rattle.imap_bytes.specs.Answer.{Answers, Gives};
 ghost use Rattle.imap_bytes.specs.Step.{step};
 ghost use Rattle.imap_bytes.specs.Text.{text_of};
-ghost use Rattle.imap_data.specs.Quota as quotas;
-ghost use Rattle.imap_data.specs.QuotaValues.{quota_resource_name_value, quota_resource_value, quota_value, quota_root_value};
+ghost use Rattle.imap_data.specs.Quotas as quotas;
+ghost use Rattle.imap_data.specs.Quotas.{quota_resource_name_value, quota_resource_value, quota_value, quota_root_value};
 
-use crate::types::quota::{Quota, QuotaResource, QuotaResourceName, QuotaRoot};
+use crate::types::quotas::{Quota, QuotaResource, QuotaResourceName, QuotaRoot};
 use imap_bytes::lists::{Separator, maybe_separated, repeated};
 use imap_bytes::tags::{blanks1, tag, word};
 use imap_bytes::{IResult, astring_utf8, named, number_64};
 use std::alloc::Global;
 use std::borrow::CowStr;
 
-#[tactic(auto, unfolding(crate::specs::Quota::quota_resource_name))]
+#[tactic(auto, unfolding(crate::specs::Quotas::quota_resource_name))]
 fn quota_resource_name(alloc: Global, i: &[u8]) -> IResult<&[u8], QuotaResourceName<'_>>
     ensures { Gives (λ x. quota_resource_name_value x) result (step quotas.quota_resource_name i.now) }
 {
@@ -24,7 +24,7 @@ fn quota_resource_name(alloc: Global, i: &[u8]) -> IResult<&[u8], QuotaResourceN
     Ok((rest, QuotaResourceName::Atom(name)))
 }
 
-#[tactic(auto, unfolding(crate::specs::Quota::quota_resource))]
+#[tactic(auto, unfolding(crate::specs::Quotas::quota_resource))]
 fn quota_resource(alloc: Global, i: &[u8]) -> IResult<&[u8], QuotaResource<'_>>
     ensures { Gives (λ x. quota_resource_value x) result (step quotas.quota_resource i.now) }
 {
@@ -45,7 +45,7 @@ fn quota_resources(alloc: Global, i: &[u8]) -> IResult<&[u8], Vec<QuotaResource<
     maybe_separated(alloc, Separator::Blanks, resource, i)
 }
 
-#[tactic(auto, unfolding(crate::specs::Quota::quota_list))]
+#[tactic(auto, unfolding(crate::specs::Quotas::quota_list))]
 fn quota_list(alloc: Global, i: &[u8]) -> IResult<&[u8], Vec<QuotaResource<'_>>>
     ensures { Gives (λ x. map quota_resource_value x.items) result (step quotas.quota_list i.now) }
 {
@@ -55,7 +55,7 @@ fn quota_list(alloc: Global, i: &[u8]) -> IResult<&[u8], Vec<QuotaResource<'_>>>
     Ok((rest, resources))
 }
 
-#[tactic(auto, unfolding(crate::specs::Quota::quota))]
+#[tactic(auto, unfolding(crate::specs::Quotas::quota))]
 fn quota_parts(alloc: Global, i: &[u8]) -> IResult<&[u8], Quota<'_>>
     ensures { Gives (λ x. quota_value x) result (step quotas.quota i.now) }
 {
@@ -84,7 +84,7 @@ pub fn quota(alloc: Global, i: &[u8]) -> IResult<&[u8], Quota<'_>>
     quota_parts(alloc, i)
 }
 
-#[tactic(auto, unfolding(crate::specs::Quota::quota_root_name))]
+#[tactic(auto, unfolding(crate::specs::Quotas::quota_root_name))]
 fn quota_root_name(alloc: Global, i: &[u8]) -> IResult<&[u8], CowStr<'_>>
     ensures { Gives (λ x. text_of x) result (step quotas.quota_root_name i.now) }
 {
@@ -101,7 +101,7 @@ fn quota_root_names(alloc: Global, i: &[u8]) -> IResult<&[u8], Vec<CowStr<'_>>>
     repeated(alloc, name, i)
 }
 
-#[tactic(auto, unfolding(crate::specs::Quota::quota_root))]
+#[tactic(auto, unfolding(crate::specs::Quotas::quota_root))]
 fn quota_root_parts(alloc: Global, i: &[u8]) -> IResult<&[u8], QuotaRoot<'_>>
     ensures { Gives (λ x. quota_root_value x) result (step quotas.quota_root i.now) }
 {

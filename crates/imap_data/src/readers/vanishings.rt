@@ -2,8 +2,8 @@
 
 ghost use Rattle.imap_bytes.specs.Answer.{Answers, Exactly, Gives};
 ghost use Rattle.imap_bytes.specs.Step.{step};
-ghost use Rattle.imap_data.specs.Vanished as vanishings;
-ghost use Rattle.imap_data.specs.Vanished.{vanished_value};
+ghost use Rattle.imap_data.specs.Vanishings as vanishings;
+ghost use Rattle.imap_data.specs.Vanishings.{vanished_value};
 
 use imap_bytes::tags::{blanks1, word};
 use imap_bytes::{Err, IResult, sequence_set};
@@ -18,7 +18,7 @@ fn earlier_word(i: &[u8]) -> IResult<&[u8], bool>
     Ok((rest, true))
 }
 
-#[tactic(auto, unfolding(crate::specs::Vanished::earlier))]
+#[tactic(auto, unfolding(crate::specs::Vanishings::earlier))]
 fn earlier(i: &[u8]) -> IResult<&[u8], bool>
     ensures { Exactly (λ x. x) result (step vanishings.earlier i.now) }
 {
@@ -28,7 +28,7 @@ fn earlier(i: &[u8]) -> IResult<&[u8], bool>
     }
 }
 
-#[tactic(auto, unfolding(crate::specs::Vanished::vanished))]
+#[tactic(auto, unfolding(crate::specs::Vanishings::vanished))]
 fn vanished_parts(alloc: Global, i: &[u8]) -> IResult<&[u8], (bool, Vec<RangeInclusive<u32>>)>
     ensures { Gives vanished_value result (step vanishings.vanished i.now) }
 {

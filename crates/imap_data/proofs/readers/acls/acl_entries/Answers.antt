@@ -4,7 +4,7 @@ use Rattle.imap_bytes.proofs.Under.{kept_shortens, kept_at}
 use Rattle.imap_bytes.proofs.Callers.{maybe_separated_read}
 use Rattle.imap_bytes.specs.Texts.{astring_utf8}
 use Rattle.imap_bytes.specs.Strings.{astring, string, quoted, quoted_content, literal, literal_header}
-use Rattle.imap_data.specs.Acl.{acl_entry, acl_entries, acl_entry_value}
+use Rattle.imap_data.specs.Acls.{acl_entry, acl_entries, acl_entry_value}
 use Rattle.imap_data.proofs.readers.acls.acl_entries.Goals as goal
 
 pub maybe_separated-requires : goal.maybe_separated-requires

@@ -1,5 +1,5 @@
 use Rattle.std.proofs.Common.{◌≡◌, ◌++◌, map}
-use Rattle.imap_data.specs.Acl.{joined}
+use Rattle.imap_data.specs.Acls.{joined}
 use Rattle.imap_data.proofs.readers.acls.joined.Given as goal
 
 abbrev pub invariant-loop-group : goal.invariant-loop-group

@@ -4,8 +4,8 @@ use Rattle.imap_bytes.specs.Texts.{astring_utf8}
 use Rattle.imap_bytes.specs.Strings.{astring, string, quoted, quoted_content, literal, literal_header}
 use Rattle.imap_bytes.proofs.Under.{kept_shortens, kept_at}
 use Rattle.imap_bytes.proofs.Callers.{maybe_separated_read}
-use Rattle.imap_data.specs.Rights.{rights}
-use Rattle.imap_data.specs.Acl.{right_groups}
+use Rattle.imap_items.specs.Rights.{rights}
+use Rattle.imap_data.specs.Acls.{right_groups}
 use Rattle.imap_data.proofs.readers.acls.right_groups.Goals as goal
 
 pub maybe_separated-requires : goal.maybe_separated-requires

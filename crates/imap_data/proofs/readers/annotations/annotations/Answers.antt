@@ -3,7 +3,7 @@ use Rattle.imap_bytes.specs.Strings.{astring, string, quoted, quoted_content, li
 use Rattle.imap_bytes.proofs.Under.{kept_shortens, kept_at}
 use Rattle.imap_bytes.proofs.Callers.{nonempty_listed}
 use Rattle.imap_data.specs.MailboxValues.{metadata_value}
-use Rattle.imap_data.specs.Metadata.{entry, entry_utf8, annotation, annotations}
+use Rattle.imap_data.specs.Annotations.{entry, entry_utf8, annotation, annotations}
 use Rattle.imap_data.proofs.readers.annotations.annotations.Goals as goal
 
 pub parenthesized_nonempty_list-requires : goal.parenthesized_nonempty_list-requires

@@ -1,4 +1,4 @@
-use Rattle.imap_data.proofs.Prefixes.{behind_told}
+use Rattle.imap_data.proofs.Annotations.{behind_told}
 use Rattle.imap_data.proofs.readers.annotations.behind.Goals as goal
 
 pub returns : goal.returns

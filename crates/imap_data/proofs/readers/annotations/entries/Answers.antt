@@ -4,7 +4,7 @@ use Rattle.imap_bytes.specs.Text.{text_of}
 use Rattle.imap_bytes.specs.Strings.{astring, string, quoted, quoted_content, literal, literal_header}
 use Rattle.imap_bytes.proofs.Under.{kept_shortens, kept_at}
 use Rattle.imap_bytes.proofs.Callers.{maybe_separated_read}
-use Rattle.imap_data.specs.Metadata.{entry, entry_utf8, entries}
+use Rattle.imap_data.specs.Annotations.{entry, entry_utf8, entries}
 use Rattle.imap_data.proofs.readers.annotations.entries.Goals as goal
 
 pub maybe_separated-requires : goal.maybe_separated-requires

@@ -1,4 +1,4 @@
-use Rattle.imap_data.proofs.OrderedCodes.{ordered_code}
+use Rattle.imap_data.proofs.Codes.{ordered_code}
 use Rattle.imap_data.proofs.readers.codes.response_code.Goals as goal
 
 pub returns-clause-ordered : goal.returns-clause-ordered

@@ -4,8 +4,8 @@ use Rattle.imap_bytes.specs.Strings.{string, quoted, literal, literal_header}
 use Rattle.imap_bytes.specs.Texts.{string_utf8}
 use Rattle.imap_bytes.proofs.Under.{kept_shortens, kept_at}
 use Rattle.imap_bytes.proofs.Callers.{separated_read}
-use Rattle.imap_data.specs.Id.{id_pair, id_pairs}
-use Rattle.imap_data.specs.IdValues.{pair_value}
+use Rattle.imap_data.specs.Ids.{id_pair, id_pairs}
+use Rattle.imap_data.specs.Ids.{pair_value}
 use Rattle.imap_data.proofs.readers.ids.id_pairs.Goals as goal
 
 pub separated-requires : goal.separated-requires

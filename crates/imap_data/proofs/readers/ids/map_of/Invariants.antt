@@ -1,5 +1,5 @@
 use Rattle.std.proofs.Common.{◌≡◌, map}
-use Rattle.imap_data.specs.IdValues.{id_value, put_pairs, map_of_pairs, pair_value}
+use Rattle.imap_data.specs.Ids.{id_value, put_pairs, map_of_pairs, pair_value}
 use Rattle.imap_data.proofs.readers.ids.map_of.Given as goal
 
 abbrev pub invariant-loop-key : goal.invariant-loop-key

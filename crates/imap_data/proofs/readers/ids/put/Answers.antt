@@ -1,4 +1,4 @@
-use Rattle.imap_data.proofs.IdMaps.{id_value-insert}
+use Rattle.imap_data.proofs.Ids.{id_value-insert}
 use Rattle.imap_data.proofs.readers.ids.put.Goals as goal
 
 pub returns : goal.returns

@@ -1,9 +1,9 @@
 use Rattle.std.proofs.Common.{rules, refl}
 use Rattle.imap_bytes.proofs.Under.{kept_shortens, exactly_at}
 use Rattle.imap_bytes.proofs.Callers.{listed}
-use Rattle.imap_data.specs.Flags.{backslashed, backslashed_text}
+use Rattle.imap_items.specs.Flags.{backslashed, backslashed_text}
 use Rattle.imap_data.specs.Names.{name_attribute, name_attributes}
-use Rattle.imap_data.specs.MailboxValues.{attribute_value}
+use Rattle.imap_data.specs.Names.{attribute_value}
 use Rattle.imap_data.proofs.readers.names.name_attributes.Goals as goal
 
 pub parenthesized_list-requires : goal.parenthesized_list-requires

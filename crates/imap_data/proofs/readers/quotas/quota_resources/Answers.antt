@@ -4,8 +4,8 @@ use Rattle.imap_bytes.specs.Strings.{astring, string, quoted, literal, literal_h
 use Rattle.imap_bytes.specs.Texts.{astring_utf8}
 use Rattle.imap_bytes.proofs.Under.{kept_shortens, kept_at}
 use Rattle.imap_bytes.proofs.Callers.{maybe_separated_read}
-use Rattle.imap_data.specs.Quota.{quota_resource_name, quota_resource, quota_resources}
-use Rattle.imap_data.specs.QuotaValues.{quota_resource_value}
+use Rattle.imap_data.specs.Quotas.{quota_resource_name, quota_resource, quota_resources}
+use Rattle.imap_data.specs.Quotas.{quota_resource_value}
 use Rattle.imap_data.proofs.readers.quotas.quota_resources.Goals as goal
 
 pub maybe_separated-requires : goal.maybe_separated-requires

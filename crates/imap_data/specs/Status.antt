@@ -1,8 +1,0 @@
--- The status of a line (RFC 3501, section 7.1).
-use Rattle.imap_bytes.specs.Rule.{Rule, ◌or◌}
-use Rattle.imap_bytes.specs.Tags.{names}
-use Rattle.imap_data.specs.declared.types.status.Status.{Status}
-use Rattle.imap_data.specs.declared.types.status.Status.TheVariants.{Ok, No, Bad, PreAuth, Bye}
-
-unfoldable pub status : Rule Status
-status = names "OK" Ok or names "NO" No or names "BAD" Bad or names "PREAUTH" PreAuth or names "BYE" Bye

@@ -1,0 +1,46 @@
+//! Annotations of mailboxes.
+
+ghost use Rattle.std.specs.Prelude.{◌≡◌, IfOk, map};
+ghost use Rattle.std.specs.Option.{option_map};
+ghost use Rattle.std.specs.String.{string_bytes};
+ghost use Rattle.imap_data.specs.MailboxValues.{metadata_value};
+
+use std::alloc::AllocError;
+
+/// An annotation: its entry and its value, if it has one (RFC 5464, section 5).
+#[derive(Debug, Drop, PartialEq, Eq)]
+pub struct Metadata {
+    pub entry: String,
+    pub value: Option<String>,
+}
+
+impl Metadata {
+    /// A copy. It takes memory for the texts; `Err` where there is none.
+    pub fn clone(&self) -> Result<Self, AllocError>
+        ensures { IfOk result (λ c. metadata_value c ≡ metadata_value self.now) }
+    {
+        Ok(Metadata {
+            entry: self.entry.clone()?,
+            value: copied_value(&self.value)?,
+        })
+    }
+}
+
+fn copied_value(value: &Option<String>) -> Result<Option<String>, AllocError>
+    ensures { IfOk result (λ v. option_map string_bytes v ≡ option_map string_bytes value.now) }
+{
+    Ok(match value {
+        None => None,
+        Some(value) => Some(value.clone()?),
+    })
+}
+
+pub(crate) fn copied_annotations(annotations: &Vec<Metadata>) -> Result<Vec<Metadata>, AllocError>
+    ensures { IfOk result (λ v. map metadata_value v.items ≡ map metadata_value annotations.now.items) }
+{
+    let mut copy = Vec::with_capacity(*annotations.allocator(), annotations.len())?;
+    for annotation in annotations {
+        copy.push(annotation.clone()?)?;
+    }
+    Ok(copy)
+}

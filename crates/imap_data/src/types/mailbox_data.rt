@@ -1,0 +1,96 @@
+//! Data of a mailbox.
+
+ghost use Rattle.std.specs.Prelude.{◌≡◌, IfOk};
+ghost use Rattle.imap_data.specs.MailboxValues.{mailbox_value};
+
+use super::annotations::{Metadata, copied_annotations};
+use super::counts::StatusAttribute;
+use super::names::MailboxListData;
+use imap_items::copies::{copied_text, copied_texts};
+use std::alloc::AllocError;
+use std::borrow::CowStr;
+
+/// Data of a mailbox (RFC 3501, section 7.2; RFC 5256, section 4; RFC 5464, section 4.4; Gmail's items).
+#[derive(Debug, Drop, PartialEq, Eq)]
+pub enum MailboxDatum<'a> {
+    /// `EXISTS`
+    Exists(u32),
+    /// `FLAGS`
+    Flags(Vec<CowStr<'a>>),
+    /// `LIST` and `LSUB`
+    List(MailboxListData<'a>),
+    /// `SEARCH`
+    Search(Vec<u32>),
+    /// `SORT`
+    Sort(Vec<u32>),
+    /// `STATUS`
+    Status {
+        mailbox: CowStr<'a>,
+        status: Vec<StatusAttribute>,
+    },
+    /// `RECENT`
+    Recent(u32),
+    /// `METADATA` with values
+    MetadataSolicited {
+        mailbox: CowStr<'a>,
+        values: Vec<Metadata>,
+    },
+    /// `METADATA` without values
+    MetadataUnsolicited {
+        mailbox: CowStr<'a>,
+        values: Vec<CowStr<'a>>,
+    },
+    /// `X-GM-LABELS`
+    GmailLabels(Vec<CowStr<'a>>),
+    /// `X-GM-MSGID`
+    GmailMsgId(u64),
+    /// `X-GM-THRID`
+    GmailThrId(u64),
+}
+
+fn copied_numbers(numbers: &Vec<u32>) -> Result<Vec<u32>, AllocError>
+    ensures { IfOk result (λ v. v.items ≡ numbers.now.items) }
+{
+    Vec::from_slice(*numbers.allocator(), numbers)
+}
+
+fn copied_items(items: &Vec<StatusAttribute>) -> Result<Vec<StatusAttribute>, AllocError>
+    ensures { IfOk result (λ v. v.items ≡ items.now.items) }
+{
+    Vec::from_slice(*items.allocator(), items)
+}
+
+impl<'a> MailboxDatum<'a> {
+    /// A copy. It takes memory for lists and for owned texts; `Err` where there is none.
+    pub fn clone(&self) -> Result<Self, AllocError>
+        ensures { IfOk result (λ c. mailbox_value c ≡ mailbox_value self.now) }
+    {
+        Ok(match self {
+            MailboxDatum::Exists(count) => MailboxDatum::Exists(*count),
+            MailboxDatum::Flags(flags) => MailboxDatum::Flags(copied_texts(flags)?),
+            MailboxDatum::List(list) => MailboxDatum::List(list.clone()?),
+            MailboxDatum::Search(numbers) => MailboxDatum::Search(copied_numbers(numbers)?),
+            MailboxDatum::Sort(numbers) => MailboxDatum::Sort(copied_numbers(numbers)?),
+            MailboxDatum::Status { mailbox, status } => MailboxDatum::Status {
+                mailbox: copied_text(mailbox)?,
+                status: copied_items(status)?,
+            },
+            MailboxDatum::Recent(count) => MailboxDatum::Recent(*count),
+            MailboxDatum::MetadataSolicited { mailbox, values } => {
+                MailboxDatum::MetadataSolicited {
+                    mailbox: copied_text(mailbox)?,
+                    values: copied_annotations(values)?,
+                }
+            }
+            MailboxDatum::MetadataUnsolicited { mailbox, values } => {
+                MailboxDatum::MetadataUnsolicited {
+                    mailbox: copied_text(mailbox)?,
+                    values: copied_texts(values)?,
+                }
+            }
+            MailboxDatum::GmailLabels(labels) => MailboxDatum::GmailLabels(copied_texts(labels)?),
+            MailboxDatum::GmailMsgId(number) => MailboxDatum::GmailMsgId(*number),
+            MailboxDatum::GmailThrId(number) => MailboxDatum::GmailThrId(*number),
+        })
+    }
+}

@@ -1,0 +1,103 @@
+//! Attributes of mailbox names, and the data of LIST.
+
+ghost use Rattle.std.specs.Prelude.{◌≡◌, IfOk, map};
+ghost use Rattle.std.specs.Option.{option_map};
+ghost use Rattle.imap_bytes.specs.Text.{text_of};
+ghost use Rattle.imap_data.specs.Names.{attribute_value, list_value};
+
+use imap_items::copies::copied_text;
+use std::alloc::AllocError;
+use std::borrow::CowStr;
+
+/// An attribute of a mailbox's name (RFC 3501, section 7.2.2; RFC 6154, section 2).
+#[derive(Debug, Drop, PartialEq, Eq)]
+pub enum NameAttribute<'a> {
+    /// `\Noinferiors`
+    NoInferiors,
+    /// `\Noselect`
+    NoSelect,
+    /// `\Marked`
+    Marked,
+    /// `\Unmarked`
+    Unmarked,
+    /// `\All`
+    All,
+    /// `\Archive`
+    Archive,
+    /// `\Drafts`
+    Drafts,
+    /// `\Flagged`
+    Flagged,
+    /// `\Junk`
+    Junk,
+    /// `\Sent`
+    Sent,
+    /// `\Trash`
+    Trash,
+    /// Any other, its backslash included.
+    Extension(CowStr<'a>),
+}
+
+/// What LIST and LSUB say of a mailbox (RFC 3501, section 7.2.2).
+#[derive(Debug, Drop, PartialEq, Eq)]
+pub struct MailboxListData<'a> {
+    pub name_attributes: Vec<NameAttribute<'a>>,
+    pub delimiter: Option<CowStr<'a>>,
+    pub name: CowStr<'a>,
+}
+
+impl<'a> NameAttribute<'a> {
+    /// A copy. It takes memory only for an owned text; `Err` where there is none.
+    pub fn clone(&self) -> Result<Self, AllocError>
+        ensures { IfOk result (λ c. attribute_value c ≡ attribute_value self.now) }
+    {
+        Ok(match self {
+            NameAttribute::NoInferiors => NameAttribute::NoInferiors,
+            NameAttribute::NoSelect => NameAttribute::NoSelect,
+            NameAttribute::Marked => NameAttribute::Marked,
+            NameAttribute::Unmarked => NameAttribute::Unmarked,
+            NameAttribute::All => NameAttribute::All,
+            NameAttribute::Archive => NameAttribute::Archive,
+            NameAttribute::Drafts => NameAttribute::Drafts,
+            NameAttribute::Flagged => NameAttribute::Flagged,
+            NameAttribute::Junk => NameAttribute::Junk,
+            NameAttribute::Sent => NameAttribute::Sent,
+            NameAttribute::Trash => NameAttribute::Trash,
+            NameAttribute::Extension(text) => NameAttribute::Extension(copied_text(text)?),
+        })
+    }
+}
+
+fn copied_attributes<'a>(
+    attributes: &Vec<NameAttribute<'a>>,
+) -> Result<Vec<NameAttribute<'a>>, AllocError>
+    ensures { IfOk result (λ v. map attribute_value v.items ≡ map attribute_value attributes.now.items) }
+{
+    let mut copy = Vec::with_capacity(*attributes.allocator(), attributes.len())?;
+    for attribute in attributes {
+        copy.push(attribute.clone()?)?;
+    }
+    Ok(copy)
+}
+
+fn copied_delimiter<'a>(delimiter: &Option<CowStr<'a>>) -> Result<Option<CowStr<'a>>, AllocError>
+    ensures { IfOk result (λ t. option_map text_of t ≡ option_map text_of delimiter.now) }
+{
+    Ok(match delimiter {
+        None => None,
+        Some(text) => Some(copied_text(text)?),
+    })
+}
+
+impl<'a> MailboxListData<'a> {
+    /// A copy. It takes memory for the attributes and for owned texts; `Err` where there is none.
+    pub fn clone(&self) -> Result<Self, AllocError>
+        ensures { IfOk result (λ c. list_value c ≡ list_value self.now) }
+    {
+        Ok(MailboxListData {
+            name_attributes: copied_attributes(&self.name_attributes)?,
+            delimiter: copied_delimiter(&self.delimiter)?,
+            name: copied_text(&self.name)?,
+        })
+    }
+}

@@ -1,0 +1,3 @@
+pub mod Capabilities
+pub mod UidSets
+pub mod Rights

@@ -1,0 +1,24 @@
+use Rattle.std.proofs.Common.{rules, refl}
+use Rattle.imap_bytes.specs.declared.lists.Separator.TheVariants.{Comma}
+use Rattle.imap_bytes.specs.Numbers.{number, digits}
+use Rattle.imap_bytes.specs.Sets.{sequence_range}
+use Rattle.imap_bytes.proofs.Agreement.{answered}
+use Rattle.imap_bytes.proofs.Under.{kept_shortens, exactly_at}
+use Rattle.imap_bytes.proofs.Callers.{separated_read}
+use Rattle.imap_items.specs.UidSets.{member_value, uid_set, uid_set_member}
+use Rattle.imap_items.proofs.UidSets.{ordered_members}
+use Rattle.imap_items.proofs.readers.uid_sets.uid_set.Goals as goal
+
+pub separated-requires : goal.separated-requires
+unfolding uid_set_member sequence_range number digits
+separated-requires c = λ k. ((refl, tt), (search rules, kept_shortens member_value uid_set_member (λ n r h. exactly_at member_value uid_set_member r h.shows h.says.met) refl))
+
+pub returns-clause-steps : goal.returns-clause-steps
+unfolding uid_set
+returns-clause-steps c = separated_read Comma member_value uid_set_member c.separated.ensures (λ n r h. exactly_at member_value uid_set_member r h.shows h.says.met)
+
+pub returns-clause-answer : goal.returns-clause-answer
+returns-clause-answer c = answered _ _ _ _ (returns-clause-steps c)
+
+pub returns-clause-ordered : goal.returns-clause-ordered
+returns-clause-ordered c = ordered_members c.separated.result c.args.i.now (returns-clause-steps c)

@@ -1,0 +1,8 @@
+-- The status of a line (RFC 3501, section 7.1).
+use Rattle.imap_bytes.specs.Rule.{Rule, ◌or◌}
+use Rattle.imap_bytes.specs.Tags.{names}
+use Rattle.imap_items.specs.declared.types.statuses.Status.{Status}
+use Rattle.imap_items.specs.declared.types.statuses.Status.TheVariants.{Ok, No, Bad, PreAuth, Bye}
+
+unfoldable pub status : Rule Status
+status = names "OK" Ok or names "NO" No or names "BAD" Bad or names "PREAUTH" PreAuth or names "BYE" Bye

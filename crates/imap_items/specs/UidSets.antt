@@ -1,0 +1,40 @@
+-- Sets of UIDs (RFC 4315, section 4: uid-set).
+use Rattle.std.specs.Prelude.{ℕ, min, max, ◌≤◌, Bool, true, false, List}
+use Rattle.std.specs.Range.{range_inclusive_start, range_inclusive_end, range_inclusive_exhausted}
+use Rattle.imap_bytes.specs.Rule.{Rule, gives, list1, ◌or◌}
+use Rattle.imap_bytes.specs.Tags.{tag}
+use Rattle.imap_bytes.specs.Numbers.{number}
+use Rattle.imap_bytes.specs.Sets.{sequence_range}
+use Rattle.imap_items.specs.declared.types.uid_sets.UidSetMember.{UidSetMember}
+use Rattle.imap_items.specs.declared.types.uid_sets.UidSetMember.TheVariants as member
+
+pub data MemberValue : Type 0 where
+  UidRange : ℕ → ℕ → MemberValue
+  Uid : ℕ → MemberValue
+  -- a range whose numbers were all taken, as an iterator takes them
+  Spent : ℕ → ℕ → MemberValue
+
+abbrev pub range_value : Bool → ℕ → ℕ → MemberValue
+range_value false start end = UidRange start end
+range_value true start end = Spent start end
+
+abbrev pub member_value : UidSetMember → MemberValue
+member_value (member.UidRange r) = range_value (range_inclusive_exhausted r) (range_inclusive_start r) (range_inclusive_end r)
+member_value (member.Uid n) = Uid n
+
+-- a range starts not above its end
+abbrev pub IsOrdered : UidSetMember → Type 0
+IsOrdered (member.UidRange r) = range_inclusive_start r ≤ range_inclusive_end r
+IsOrdered (member.Uid n) = Unit {0}
+
+-- ---- rules
+
+-- the ends in either order
+abbrev pub range_of : ℕ × ℕ → MemberValue
+range_of ends = UidRange (min ends.0 ends.1) (max ends.0 ends.1)
+
+unfoldable pub uid_set_member : Rule MemberValue
+uid_set_member = gives range_of sequence_range or gives Uid number
+
+unfoldable pub uid_set : Rule (List MemberValue)
+uid_set = list1 (tag ",") uid_set_member

@@ -1,0 +1,68 @@
+//! Laws of the rules and types of this crate, as contracts of functions that do nothing.
+
+ghost use Rattle.std.specs.Prelude.{ℕ, ◌≡◌};
+ghost use Rattle.imap_bytes.specs.Stable.{Stable};
+ghost use Rattle.imap_bytes.specs.Equality.{Tells, HashesAlike};
+ghost use Rattle.imap_items.specs.Statuses as statuses;
+ghost use Rattle.imap_items.specs.Flags as flags;
+ghost use Rattle.imap_items.specs.Capabilities as capabilities;
+ghost use Rattle.imap_items.specs.Capabilities.{capability_content};
+ghost use Rattle.imap_items.specs.UidSets as uid_sets;
+ghost use Rattle.imap_items.specs.UidSets.{member_value};
+ghost use Rattle.imap_items.specs.declared.types.uid_sets.UidSetMember.{UidSetMember as Member};
+ghost use Rattle.imap_items.specs.Mailboxes as mailboxes;
+ghost use Rattle.imap_items.specs.Gmail as gmail;
+ghost use Rattle.imap_items.specs.declared.types.rights.AclRight.{AclRight as Right};
+ghost use Rattle.imap_items.specs.Rights as rights;
+ghost use Rattle.imap_items.specs.Rights.{right_of, letter_of, IsShadowed, right_content};
+
+use crate::types::capabilities::Capability;
+use crate::types::rights::AclRight;
+use crate::types::statuses::Status;
+use crate::types::uid_sets::UidSetMember;
+use std::hash::Hash;
+
+/// Each rule has one answer, and appended bytes change neither a value nor a denial, and make what is lacking as much smaller.
+#[tactic(auto, using(imap_bytes::proofs::Stability::is_stable))]
+pub fn stable()
+    ensures status { Stable statuses.status }
+    ensures flag { Stable flags.flag }
+    ensures flag_perm { Stable flags.flag_perm }
+    ensures flag_list { Stable flags.flag_list }
+    ensures capability { Stable capabilities.capability }
+    ensures capability_data { Stable capabilities.capability_data }
+    ensures enabled_data { Stable capabilities.enabled_data }
+    ensures uid_set { Stable uid_sets.uid_set }
+    ensures mailbox { Stable mailboxes.mailbox }
+    ensures gmail_label_list { Stable gmail.gmail_label_list }
+    ensures gmail_msgid { Stable gmail.gmail_msgid }
+    ensures gmail_thrid { Stable gmail.gmail_thrid }
+    ensures rights { Stable rights.rights }
+{}
+
+/// `==` tells whether two values say the same: texts by their bytes, whichever lie in the input.
+#[tactic(auto, using(crate::proofs::Capabilities::capability_tells, crate::proofs::UidSets::member_tells))]
+pub fn equality()
+    ensures status { Tells ⟦<Status as PartialEq>⟧.eq (λ s. s) }
+    ensures capability { Tells ⟦<Capability<'static> as PartialEq>⟧.eq capability_content }
+    ensures uid_set_member { Tells ⟦<UidSetMember as PartialEq>⟧.eq member_value }
+    ensures acl_right { Tells ⟦<AclRight as PartialEq>⟧.eq right_content }
+{}
+
+/// Values that say the same hash alike.
+pub fn hashing()
+    ensures capability { HashesAlike ⟦<Capability<'static> as Hash>⟧.hash_input capability_content }
+    ensures acl_right { HashesAlike ⟦<AclRight as Hash>⟧.hash_input right_content }
+{}
+
+/// A clone of a UID set's member takes no memory, and is the same value.
+pub fn cloning()
+    ensures no_memory { (m : Member) → ⟦<UidSetMember as Clone>⟧.is_infallible m }
+    ensures same { (m copy : Member) → ⟦<UidSetMember as Clone>⟧.is_clone m copy → member_value copy ≡ member_value m }
+{}
+
+/// A letter's right has that letter, and a right's letter has that right, but for a `Custom` of a letter that has a right of its own.
+pub fn conversions()
+    ensures letters { (c : ℕ) → letter_of (right_of c) ≡ c }
+    ensures rights { (right : Right) → ¬ (IsShadowed right) → right_of (letter_of right) ≡ right }
+{}

@@ -1,0 +1,12 @@
+//! What several kinds of line share: statuses, capabilities, flags, Gmail's items, UID sets, mailbox names, rights, and copies of texts.
+#![tactic(auto)]
+
+pub mod copies;
+pub mod laws;
+pub mod readers;
+mod types;
+
+pub use types::capabilities::Capability;
+pub use types::rights::AclRight;
+pub use types::statuses::Status;
+pub use types::uid_sets::UidSetMember;

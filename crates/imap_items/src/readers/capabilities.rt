@@ -1,0 +1,115 @@
+//! Capabilities.
+
+ghost use Rattle.std.specs.Prelude.{◌≡◌, map};
+ghost use Rattle.std.specs.List.{list_any};
+ghost use Rattle.imap_bytes.specs.Answer.{Answers, Exactly, Gives};
+ghost use Rattle.imap_bytes.specs.Step.{step};
+ghost use Rattle.imap_items.specs.Capabilities as capabilities;
+ghost use Rattle.imap_items.specs.Capabilities.{capability_value};
+
+use crate::types::capabilities::Capability;
+use imap_bytes::lists::repeated;
+use imap_bytes::strings::atom;
+use imap_bytes::tags::{tag, word};
+use imap_bytes::{Err, IResult, first, named};
+use std::alloc::Global;
+use std::borrow::CowStr;
+
+fn auth(i: &[u8]) -> IResult<&[u8], Capability<'_>>
+    ensures { Exactly (λ x. capability_value x) result (step capabilities.auth i.now) }
+{
+    let (i, _) = word(b"AUTH=", i)?;
+    let (i, mechanism) = atom(i)?;
+    Ok((i, Capability::Auth(CowStr::Borrowed(mechanism))))
+}
+
+fn name(i: &[u8]) -> IResult<&[u8], Capability<'_>>
+    ensures { Exactly (λ x. capability_value x) result (step capabilities.name i.now) }
+{
+    let (i, name) = atom(i)?;
+    Ok((i, Capability::Atom(CowStr::Borrowed(name))))
+}
+
+#[tactic(auto, unfolding(crate::specs::Capabilities::capability))]
+fn capability(i: &[u8]) -> IResult<&[u8], Capability<'_>>
+    ensures { Exactly (λ x. capability_value x) result (step capabilities.capability i.now) }
+{
+    named!(b"IMAP4rev1", i, Capability::Imap4rev1);
+    first!(auth(i));
+    name(i)
+}
+
+/// A capability behind a space.
+#[tactic(auto, unfolding(crate::specs::Capabilities::spaced_capability))]
+pub(crate) fn spaced_capability(i: &[u8]) -> IResult<&[u8], Capability<'_>>
+    ensures { Exactly (λ x. capability_value x) result (step capabilities.spaced_capability i.now) }
+{
+    let (i, _) = tag(b" ", i)?;
+    capability(i)
+}
+
+/// A name behind a space, as it stands.
+#[tactic(auto, unfolding(crate::specs::Capabilities::spaced_name))]
+pub(crate) fn spaced_name(i: &[u8]) -> IResult<&[u8], Capability<'_>>
+    ensures { Exactly (λ x. capability_value x) result (step capabilities.spaced_name i.now) }
+{
+    let (rest, _) = tag(b" ", i)?;
+    name(rest)
+}
+
+fn spaced_capabilities(alloc: Global, i: &[u8]) -> IResult<&[u8], Vec<Capability<'_>>>
+    ensures { Gives (λ x. map capability_value x.items) result (step capabilities.spaced_capabilities i.now) }
+{
+    repeated(alloc, spaced_capability, i)
+}
+
+fn spaced_names(alloc: Global, i: &[u8]) -> IResult<&[u8], Vec<Capability<'_>>>
+    ensures { Gives (λ x. map capability_value x.items) result (step capabilities.spaced_names i.now) }
+{
+    repeated(alloc, spaced_name, i)
+}
+
+fn is_revision(capability: &Capability<'_>) -> bool
+    ensures { result ≡ capabilities.is_revision (capability_value capability.now) }
+{
+    matches!(capability, Capability::Imap4rev1)
+}
+
+fn has_revision(items: &[Capability<'_>]) -> bool
+    ensures { result ≡ list_any (λ c. capabilities.is_revision (capability_value c)) items.now }
+{
+    items.iter().any(|c| is_revision(c))
+}
+
+#[tactic(auto, using(crate::proofs::Capabilities::any_of_values), unfolding(crate::specs::Capabilities::capability_data))]
+fn with_revision(alloc: Global, i: &[u8]) -> IResult<&[u8], Vec<Capability<'_>>>
+    ensures { Gives (λ x. map capability_value x.items) result (step capabilities.capability_data i.now) }
+{
+    let (i, _) = word(b"CAPABILITY", i)?;
+    let (i, items) = spaced_capabilities(alloc, i)?;
+    if !has_revision(&items) {
+        return Err(Err::Error);
+    }
+    Ok((i, items))
+}
+
+/// `CAPABILITY` and capabilities (RFC 3501, section 9: capability-data).
+///
+/// They are `Error` where none is `IMAP4rev1`.
+#[tactic(auto, using(imap_bytes::proofs::Agreement::answered))]
+pub fn capability_data(alloc: Global, i: &[u8]) -> IResult<&[u8], Vec<Capability<'_>>>
+    ensures steps { Gives (λ x. map capability_value x.items) result (step capabilities.capability_data i.now) }
+    ensures answer { Answers capabilities.capability_data (λ x. map capability_value x.items) i.now result }
+{
+    with_revision(alloc, i)
+}
+
+/// `ENABLED` and the names of capabilities, each as it stands, maybe none (RFC 5161, section 4: enable-data).
+#[tactic(auto, using(imap_bytes::proofs::Agreement::answered), unfolding(crate::specs::Capabilities::enabled_data))]
+pub fn enabled_data(alloc: Global, i: &[u8]) -> IResult<&[u8], Vec<Capability<'_>>>
+    ensures steps { Gives (λ x. map capability_value x.items) result (step capabilities.enabled_data i.now) }
+    ensures answer { Answers capabilities.enabled_data (λ x. map capability_value x.items) i.now result }
+{
+    let (i, _) = word(b"ENABLED", i)?;
+    spaced_names(alloc, i)
+}

@@ -1,0 +1,87 @@
+//! Gmail's items of a message.
+
+ghost use Rattle.std.specs.Prelude.{map};
+ghost use Rattle.imap_bytes.specs.Answer.{Answers, Exactly, Gives};
+ghost use Rattle.imap_bytes.specs.Step.{step};
+ghost use Rattle.imap_bytes.specs.Text.{text_of};
+ghost use Rattle.imap_items.specs.Gmail as rules;
+
+use super::flags::flag;
+use imap_bytes::tags::word;
+use imap_bytes::{Err, IResult, number_64, parenthesized_list, quoted_utf8};
+use std::alloc::Global;
+use std::borrow::CowStr;
+
+// A label: a flag, or a quoted string.
+#[tactic(auto, unfolding(crate::specs::Gmail::gmail_label))]
+fn gmail_label(alloc: Global, i: &[u8]) -> IResult<&[u8], CowStr<'_>>
+    ensures { Gives (λ x. text_of x) result (step rules.gmail_label i.now) }
+{
+    match flag(i) {
+        Ok((rest, text)) => return Ok((rest, CowStr::Borrowed(text))),
+        Err(Err::Error) => {}
+        Err(e) => return Err(e),
+    }
+    quoted_utf8(alloc, i)
+}
+
+fn gmail_labels(alloc: Global, i: &[u8]) -> IResult<&[u8], Vec<CowStr<'_>>>
+    ensures { Gives (λ x. map text_of x.items) result (step rules.gmail_labels i.now) }
+{
+    let label = |i|
+        ensures { Gives (λ x. text_of x) result (step rules.gmail_label i.entry.now) }
+    { gmail_label(alloc, i) };
+    parenthesized_list(alloc, label, i)
+}
+
+#[tactic(auto, unfolding(crate::specs::Gmail::gmail_label_list))]
+fn labels(alloc: Global, i: &[u8]) -> IResult<&[u8], Vec<CowStr<'_>>>
+    ensures { Gives (λ x. map text_of x.items) result (step rules.gmail_label_list i.now) }
+{
+    let (rest, _) = word(b"X-GM-LABELS ", i)?;
+    let (rest, labels) = gmail_labels(alloc, rest)?;
+    Ok((rest, labels))
+}
+
+/// `X-GM-LABELS` and the labels of a message in parentheses, maybe none (Gmail's X-GM-EXT-1).
+#[tactic(auto, using(imap_bytes::proofs::Agreement::answered))]
+pub fn gmail_label_list(alloc: Global, i: &[u8]) -> IResult<&[u8], Vec<CowStr<'_>>>
+    ensures steps { Gives (λ x. map text_of x.items) result (step rules.gmail_label_list i.now) }
+    ensures answer { Answers rules.gmail_label_list (λ x. map text_of x.items) i.now result }
+{
+    labels(alloc, i)
+}
+
+#[tactic(auto, unfolding(crate::specs::Gmail::gmail_msgid))]
+fn msgid(i: &[u8]) -> IResult<&[u8], u64>
+    ensures { Exactly (λ x. x) result (step rules.gmail_msgid i.now) }
+{
+    let (rest, _) = word(b"X-GM-MSGID ", i)?;
+    number_64(rest)
+}
+
+/// `X-GM-MSGID` and the number of a message (Gmail's X-GM-EXT-1). No memory.
+#[tactic(auto, using(imap_bytes::proofs::Agreement::exact_answered))]
+pub fn gmail_msgid(i: &[u8]) -> IResult<&[u8], u64>
+    ensures steps { Exactly (λ x. x) result (step rules.gmail_msgid i.now) }
+    ensures answer { Answers rules.gmail_msgid (λ x. x) i.now result }
+{
+    msgid(i)
+}
+
+#[tactic(auto, unfolding(crate::specs::Gmail::gmail_thrid))]
+fn thrid(i: &[u8]) -> IResult<&[u8], u64>
+    ensures { Exactly (λ x. x) result (step rules.gmail_thrid i.now) }
+{
+    let (rest, _) = word(b"X-GM-THRID ", i)?;
+    number_64(rest)
+}
+
+/// `X-GM-THRID` and the number of a thread (Gmail's X-GM-EXT-1). No memory.
+#[tactic(auto, using(imap_bytes::proofs::Agreement::exact_answered))]
+pub fn gmail_thrid(i: &[u8]) -> IResult<&[u8], u64>
+    ensures steps { Exactly (λ x. x) result (step rules.gmail_thrid i.now) }
+    ensures answer { Answers rules.gmail_thrid (λ x. x) i.now result }
+{
+    thrid(i)
+}

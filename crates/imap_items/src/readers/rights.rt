@@ -1,0 +1,32 @@
+//! Rights, as letters.
+
+ghost use Rattle.std.specs.Prelude.{◌≡◌, IfOk};
+ghost use Rattle.imap_bytes.specs.Answer.{Answers, Gives};
+ghost use Rattle.imap_bytes.specs.Step.{step};
+ghost use Rattle.imap_items.specs.Rights as rule;
+ghost use Rattle.imap_items.specs.Rights.{rights_of};
+
+use crate::types::rights::AclRight;
+use imap_bytes::{IResult, astring_utf8};
+use std::alloc::{AllocError, Global};
+
+fn rights_in(alloc: Global, text: &str) -> Result<Vec<AclRight>, AllocError>
+    ensures { IfOk result (λ v. v.items ≡ rights_of text.now) }
+{
+    text.chars()
+        .map(|letter| AclRight::from(letter))
+        .collect(alloc)
+}
+
+/// The rights that the characters of an astring name, in order (RFC 4314, section 4: rights).
+///
+/// It takes memory for them.
+#[tactic(auto, using(imap_bytes::proofs::Agreement::answered), unfolding(crate::specs::Rights::rights))]
+pub fn rights(alloc: Global, i: &[u8]) -> IResult<&[u8], Vec<AclRight>>
+    ensures steps { Gives (λ x. x.items) result (step rule.rights i.now) }
+    ensures answer { Answers rule.rights (λ x. x.items) i.now result }
+{
+    let (i, text) = astring_utf8(alloc, i)?;
+    let found = rights_in(alloc, text.as_str())?;
+    Ok((i, found))
+}

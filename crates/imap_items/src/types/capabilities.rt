@@ -1,0 +1,14 @@
+//! Capabilities.
+
+use std::borrow::CowStr;
+
+/// A capability (RFC 3501, section 7.2.1).
+#[derive(Debug, Drop, PartialEq, Eq, Hash)]
+pub enum Capability<'a> {
+    /// `IMAP4rev1`
+    Imap4rev1,
+    /// What stands behind `AUTH=`.
+    Auth(CowStr<'a>),
+    /// Any other.
+    Atom(CowStr<'a>),
+}
