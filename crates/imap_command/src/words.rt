@@ -14,7 +14,7 @@ pub enum AttrMacro {
     Full,
 }
 
-/// An attribute of a message: of RFC 3501 section 6.4.5, `ModSeq` of RFC 4551 section 3.2, and
+/// An attribute of a message: of RFC 3501 section 6.4.5, `ModSeq` of RFC 4551 section 3.3.2, and
 /// three of Gmail's.
 #[derive(Clone, Copy, Debug, PartialEq, Eq)]
 pub enum Attribute {
