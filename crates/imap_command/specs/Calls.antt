@@ -132,7 +132,7 @@ pub record Told : Type 0 where
 abbrev pub told : List Call → Told
 told calls = record { text = begun calls ++ closing (stage calls); next_state = next_state calls }
 
--- the command holds what the calls tell
-pub record Tells (calls : List Call) (command : Command) : Type 0 where
+-- the command holds what the calls tell: their text and next state
+pub record Holds (calls : List Call) (command : Command) : Type 0 where
   pub text : command.args.items ≡ (told calls).text
   pub next_state : command.next_state ≡ (told calls).next_state

@@ -3,7 +3,7 @@
 ghost use Rattle.std.specs.Prelude.{◌≡◌, [], ◌∷◌, IfOk};
 ghost use Rattle.std.specs.Option.{option_or};
 ghost use Rattle.imap_command.specs.Arguments.{refusal, Judges};
-ghost use Rattle.imap_command.specs.Calls.{begun, Tells};
+ghost use Rattle.imap_command.specs.Calls.{begun, Holds};
 ghost use Rattle.imap_command.specs.Calls as call;
 
 use crate::arguments::{with_argument, with_arguments};
@@ -20,7 +20,7 @@ pub struct CommandBuilder {}
 impl CommandBuilder {
     /// CHECK (RFC 3501 section 6.4.1). It takes memory.
     pub fn check(alloc: Global) -> Result<Command, AllocError>
-        ensures { IfOk result (λ command. Tells (call.check ∷ []) command) }
+        ensures { IfOk result (λ command. Holds (call.check ∷ []) command) }
     {
         let args = Vec::from_slice(alloc, b"CHECK")?;
         Ok(Command {
@@ -31,7 +31,7 @@ impl CommandBuilder {
 
     /// CLOSE (RFC 3501 section 6.4.2). It takes memory.
     pub fn close(alloc: Global) -> Result<Command, AllocError>
-        ensures { IfOk result (λ command. Tells (call.close ∷ []) command) }
+        ensures { IfOk result (λ command. Holds (call.close ∷ []) command) }
     {
         let args = Vec::from_slice(alloc, b"CLOSE")?;
         Ok(Command {
@@ -61,7 +61,7 @@ impl CommandBuilder {
     pub fn list(alloc: Global, reference: &str, glob: &str) -> Result<Command, BuildError>
         ensures judged { Judges (option_or (refusal reference.now) (refusal glob.now)) result }
         ensures told { IfOk result (λ command.
-            Tells (call.list reference.now glob.now ∷ []) command) }
+            Holds (call.list reference.now glob.now ∷ []) command) }
     {
         let args = with_arguments(alloc, b"LIST ", reference, glob)?;
         Ok(Command {
@@ -74,7 +74,7 @@ impl CommandBuilder {
     pub fn login(alloc: Global, user_name: &str, password: &str) -> Result<Command, BuildError>
         ensures judged { Judges (option_or (refusal user_name.now) (refusal password.now)) result }
         ensures told { IfOk result (λ command.
-            Tells (call.login user_name.now password.now ∷ []) command) }
+            Holds (call.login user_name.now password.now ∷ []) command) }
     {
         let args = with_arguments(alloc, b"LOGIN ", user_name, password)?;
         Ok(Command {

@@ -3,9 +3,13 @@
 /// The states of a connection (RFC 3501 section 3).
 #[derive(Clone, Copy, Debug, PartialEq, Eq)]
 pub enum State {
+    /// The client has yet to say who it is.
     NotAuthenticated,
+    /// It may select a mailbox.
     Authenticated,
+    /// A mailbox is selected.
     Selected,
+    /// The connection is about to be closed.
     Logout,
 }
 

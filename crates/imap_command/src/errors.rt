@@ -9,13 +9,16 @@ use thiserror::Error;
 /// argument first, that a quoted string can't have (RFC 3501 section 9, `TEXT-CHAR`).
 #[derive(Debug, Drop, Error, PartialEq, Eq)]
 pub enum BuildError {
+    /// Byte 13.
     #[error("carriage return in an argument")]
     CarriageReturn,
+    /// Byte 10.
     #[error("line feed in an argument")]
     LineFeed,
+    /// Byte 0.
     #[error("zero byte in an argument")]
     Nul,
-    /// A growth was refused.
+    /// Memory ran out.
     #[error("out of memory")]
     OutOfMemory,
 }

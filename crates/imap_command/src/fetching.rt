@@ -2,7 +2,7 @@
 
 ghost use Rattle.std.specs.Prelude.{◌≡◌, ℕ, List, ◌∷◌, IfOk};
 ghost use Rattle.std.specs.Range.{range_inclusive_start, range_inclusive_end};
-ghost use Rattle.imap_command.specs.Calls.{Call, stage, begun, empty, modifiers, Tells};
+ghost use Rattle.imap_command.specs.Calls.{Call, stage, begun, empty, modifiers, Holds};
 ghost use Rattle.imap_command.specs.Calls as call;
 
 use crate::Command;
@@ -89,7 +89,7 @@ impl FetchCommand<Modifiers> {
 /// The finished command. It takes no memory.
 impl From<FetchCommand<Modifiers>> for Command {
     ghost from_gives = { λ fetch command. (calls : List Call) → stage calls ≡ modifiers
-        → fetch ≡ begun calls → Tells calls command };
+        → fetch ≡ begun calls → Holds calls command };
 
     fn from(fetch: FetchCommand<Modifiers>) -> Command {
         Command {

@@ -1,4 +1,4 @@
-//! Laws over the definitions of commands, each the contract of a function that does nothing.
+//! Laws over the definitions of commands. Each is the contract of a function that does nothing.
 
 ghost use Rattle.imap_command.specs.Apart.{CallsToldApart};
 

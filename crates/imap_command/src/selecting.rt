@@ -1,7 +1,7 @@
 //! SELECT and EXAMINE.
 
 ghost use Rattle.std.specs.Prelude.{◌≡◌, ℕ, List, ◌∷◌, IfOk};
-ghost use Rattle.imap_command.specs.Calls.{Call, stage, begun, no_params, params, Tells};
+ghost use Rattle.imap_command.specs.Calls.{Call, stage, begun, no_params, params, Holds};
 ghost use Rattle.imap_command.specs.Calls as call;
 
 use crate::select::{NoParams, Params};
@@ -62,7 +62,7 @@ impl SelectCommand<Params> {
     #[tactic(auto, using(crate::proofs::NextStates::selects_with_params))]
     pub fn into_command(self) -> Result<Command, AllocError>
         ensures { IfOk result (λ command. (calls : List Call) → stage calls ≡ params
-            → self ≡ begun calls → Tells calls command) }
+            → self ≡ begun calls → Holds calls command) }
     {
         let mut args = self.args;
         args.push(b')')?;
@@ -73,7 +73,7 @@ impl SelectCommand<Params> {
 /// The finished command. It takes no memory.
 impl From<SelectCommand<NoParams>> for Command {
     ghost from_gives = { λ select command. (calls : List Call) → stage calls ≡ no_params
-        → select ≡ begun calls → Tells calls command };
+        → select ≡ begun calls → Holds calls command };
 
     fn from(select: SelectCommand<NoParams>) -> Command {
         selecting(select.args)

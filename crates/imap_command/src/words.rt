@@ -6,26 +6,41 @@ ghost use Rattle.imap_command.specs.Words.{attribute_word, macro_word};
 /// A group of attributes (RFC 3501 section 6.4.5).
 #[derive(Clone, Copy, Debug, PartialEq, Eq)]
 pub enum AttrMacro {
+    /// `ALL`: flags, internal date, size and envelope.
     All,
+    /// `FAST`: flags, internal date and size.
     Fast,
+    /// `FULL`: flags, internal date, size, envelope and body.
     Full,
 }
 
-/// An attribute of a message: of RFC 3501 section 6.4.5, `ModSeq` of RFC 4551 section 3.2, and
+/// An attribute of a message: of RFC 3501 section 6.4.5, `ModSeq` of RFC 4551 section 3.3.2, and
 /// three of Gmail's.
 #[derive(Clone, Copy, Debug, PartialEq, Eq)]
 pub enum Attribute {
+    /// `BODY`: the structure of the body, without its extensions.
     Body,
+    /// `ENVELOPE`: the parsed header.
     Envelope,
+    /// `FLAGS`.
     Flags,
+    /// `INTERNALDATE`: when the server received the message.
     InternalDate,
+    /// `MODSEQ`: the message's mod-sequence.
     ModSeq,
+    /// `RFC822`: the whole message.
     Rfc822,
+    /// `RFC822.SIZE`: its size in bytes.
     Rfc822Size,
+    /// `RFC822.TEXT`: its text, without the header.
     Rfc822Text,
+    /// `UID`: its unique identifier.
     Uid,
+    /// `X-GM-LABELS`: its labels.
     GmailLabels,
+    /// `X-GM-MSGID`: Gmail's number of the message.
     GmailMsgId,
+    /// `X-GM-THRID`: Gmail's number of its thread.
     GmailThrId,
 }
 

@@ -1,7 +1,7 @@
 //! A FETCH that has been told attributes.
 
 ghost use Rattle.std.specs.Prelude.{◌≡◌, ◌++◌, List, ◌∷◌, codes, IfOk};
-ghost use Rattle.imap_command.specs.Calls.{Call, stage, begun, attributes, Tells};
+ghost use Rattle.imap_command.specs.Calls.{Call, stage, begun, attributes, Holds};
 ghost use Rattle.imap_command.specs.Calls as call;
 
 use super::FetchCommand;
@@ -47,7 +47,7 @@ impl FetchCommand<Attributes> {
     #[tactic(auto, using(crate::proofs::NextStates::fetches_attributes))]
     pub fn into_command(self) -> Result<Command, AllocError>
         ensures { IfOk result (λ command. (calls : List Call) → stage calls ≡ attributes
-            → self ≡ begun calls → Tells calls command) }
+            → self ≡ begun calls → Holds calls command) }
     {
         Ok(Command {
             args: self.closed()?,

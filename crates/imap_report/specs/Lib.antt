@@ -1,0 +1,3 @@
+pub mod Report
+pub mod Devices
+pub mod Ending

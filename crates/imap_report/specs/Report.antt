@@ -1,0 +1,69 @@
+-- The report of some bytes: a line for each response at their front, and a last line on the rest.
+use Rattle.std.specs.Prelude.{◌≡◌, ◌≢◌, ℕ, ◌-◌, ◌<◌, ◌≤◌, List, [], ◌∷◌, ◌++◌, length, Option, codes}
+use Rattle.std.specs.Io.KnownBytes.{Appends, Consumes, IsAtEnd}
+use Rattle.imap_report.specs.Devices.{AppendsFront}
+use Rattle.std.specs.Fmt.{decimal}
+use Rattle.imap_bytes.specs.Rule.{meaning}
+use Rattle.imap_bytes.specs.Meaning.{Denies}
+use Rattle.imap_proto.specs.Responses.{ResponseValue, Capabilities, Continue, Done, Data, Expunge, Vanished, MailboxData, Quota, QuotaRoot, Id, Acl, ListRights, MyRights}
+use Rattle.imap_proto.specs.Lines.{response}
+use Rattle.std.specs.String.{string_bytes}
+use Rattle.imap_report.specs.declared.telling.Turn.{Turn}
+use Rattle.imap_report.specs.declared.telling.Turn.TheVariants.{Next, Last}
+use Rattle.imap_report.specs.declared.outcome.Finish.{Finish}
+use Rattle.imap_report.specs.declared.outcome.Finish.TheVariants.{End, Waiting, Denied}
+
+-- the name of a response's kind, in lower case
+abbrev pub name_of : ResponseValue → List ℕ
+name_of (Capabilities capabilities) = codes "capabilities"
+name_of (Continue o) = codes "continue"
+name_of (Done tag status o) = codes "done"
+name_of (Data status o) = codes "data"
+name_of (Expunge n) = codes "expunge"
+name_of (Vanished earlier uids) = codes "vanished"
+name_of (MailboxData datum) = codes "mailboxdata"
+name_of (Quota quota) = codes "quota"
+name_of (QuotaRoot root) = codes "quotaroot"
+name_of (Id map) = codes "id"
+name_of (Acl acl) = codes "acl"
+name_of (ListRights rights) = codes "listrights"
+name_of (MyRights rights) = codes "myrights"
+
+-- a name, SP, a number and byte 10
+abbrev pub line : List ℕ → ℕ → List ℕ
+line name n = name ++ (32 ∷ decimal n) ++ (10 ∷ [])
+
+abbrev pub Waits : List ℕ → Type 0
+Waits m = ((v : ResponseValue) (rest : List ℕ) → ¬ ((meaning response).yields m v rest)) × (¬ (Denies (meaning response) m))
+
+-- the text is the report of m, and the last line is of this kind
+pub data IsReport : List ℕ → List ℕ → Finish → Type 0 where
+  next : (m : List ℕ) (r : ResponseValue) (rest text : List ℕ) (f : Finish) → (meaning response).yields m r rest → IsReport rest text f → IsReport m (line (name_of r) (length m - length rest) ++ text) f
+  ends : IsReport [] (codes "end\n") End
+  waits : (m : List ℕ) → m ≢ [] → Waits m → IsReport m (line (codes "waiting") (length m)) Waiting
+  denied : (m : List ℕ) → Denies (meaning response) m → IsReport m (line (codes "denied") (length m)) Denied
+
+-- one turn: a response's line and what is left, or the last line
+abbrev pub IsTurn : List ℕ → Turn → Type 0
+IsTurn m (Next after text) = (r : ResponseValue) × (meaning response).yields m r after.now × (string_bytes text ≡ line (name_of r) (length m - length after.now)) × (length after.now < length m)
+IsTurn m (Last finish text) = IsReport m (string_bytes text) finish
+
+-- the whole report was appended
+abbrev pub Writes : Option (List ℕ) → Option (List ℕ) → List ℕ → Finish → Type 0
+Writes old new m finish = (text : List ℕ) × IsReport m text finish × Appends old new text
+
+-- a beginning of the report was appended
+abbrev pub Begins : Option (List ℕ) → Option (List ℕ) → List ℕ → Type 0
+Begins old new m = (text : List ℕ) × (finish : Finish) × IsReport m text finish × AppendsFront old new text
+
+-- what a source gave was read to its end, and its whole report was written
+abbrev pub ReportsAll : Option (List ℕ) → Option (List ℕ) → Option (List ℕ) → Option (List ℕ) → Finish → Type 0
+ReportsAll remaining left old new finish = (input : List ℕ) × Consumes remaining left input × IsAtEnd left × Writes old new input finish
+
+-- a beginning of the report of what was read was written
+abbrev pub ReportsSome : Option (List ℕ) → Option (List ℕ) → Option (List ℕ) → Option (List ℕ) → Type 0
+ReportsSome remaining left old new = (input : List ℕ) × Consumes remaining left input × Begins old new input
+
+-- at least so many bytes were read
+abbrev pub ReadsAtLeast : ℕ → Option (List ℕ) → Option (List ℕ) → Type 0
+ReadsAtLeast n remaining left = (input : List ℕ) × Consumes remaining left input × (n ≤ length input)

@@ -1,0 +1,46 @@
+//! The whole program, and the exit status that it ends with.
+
+ghost use Rattle.std.specs.Prelude.{◌≡◌, ◌<◌, false};
+ghost use Rattle.std.specs.Process.{exit_status};
+ghost use Rattle.imap_report.specs.Ending.{status_of};
+ghost use Rattle.imap_report.specs.Report.{ReportsAll, ReportsSome};
+
+use crate::devices::{Sink, Source};
+use crate::outcome::{Fault, Finish};
+use crate::running::run;
+use std::alloc::Global;
+use std::process::ExitCode;
+
+/// The exit status that tells how a run ended: 0 for `End`, 2 for `Waiting`, 3 for `Denied`, and 1
+/// for a fault. No memory.
+pub fn exit_of(outcome: Result<Finish, Fault>) -> ExitCode
+    ensures { exit_status result ≡ status_of outcome }
+{
+    match outcome {
+        Ok(Finish::End) => ExitCode::SUCCESS,
+        Ok(Finish::Waiting) => ExitCode::from(2),
+        Ok(Finish::Denied) => ExitCode::from(3),
+        Err(_) => ExitCode::FAILURE,
+    }
+}
+
+/// Reads the source to its end, writes the report of its bytes, and tells by the exit status how
+/// that ended. After a fault it prints `fault` on standard error. It takes memory.
+pub fn cat<E: Eprint, R: Source, W: Sink>(
+    alloc: Global,
+    rt: &E,
+    reader: &mut R,
+    writer: &mut W,
+) -> ExitCode
+    requires reads { R.has_failed reader.old ≡ false }
+    requires writes { W.has_failed writer.old ≡ false }
+    ensures finished { (finish : Finish) → exit_status result ≡ status_of (Ok finish) → ReportsAll (R.remaining reader.old) (R.remaining reader.new) (W.contents writer.old) (W.contents writer.new) finish }
+    ensures broken_off { exit_status result ≡ 1 → ReportsSome (R.remaining reader.old) (R.remaining reader.new) (W.contents writer.old) (W.contents writer.new) }
+    ensures known { exit_status result < 4 }
+{
+    let outcome = run(alloc, reader, writer);
+    if outcome.is_err() {
+        let _ = eprintln!(rt; "fault");
+    }
+    exit_of(outcome)
+}
