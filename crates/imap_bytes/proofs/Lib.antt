@@ -18,6 +18,8 @@ pub mod Hashing
 pub mod Yields
 pub mod Plain
 pub mod Starts
+pub mod StringStarts
+pub mod Ranges
 pub mod Positions
 pub mod PositionJoins
 pub mod PositionUnder

@@ -1,7 +1,7 @@
 -- What the first byte says of a rule, for every rule, and of the rules that begin alike.
 use Rattle.std.proofs.Common.{◌≡◌, ℕ, Bool, true, false, List, [], ◌∷◌, Option, None, Some, Ok, Err, refl, sym, ap, ◌∙◌, inl, inr}
 use Rattle.std.specs.Prelude.{not, ◌||◌, slice_get}
-use Rattle.std.proofs.lemmas.Bool.{false≢true, or_left}
+use Rattle.std.proofs.lemmas.Bool.{or_left}
 use Rattle.imap_bytes.specs.declared.answer.Err.TheVariants.{Incomplete, Error, Failure}
 use Rattle.imap_bytes.specs.declared.answer.Needed.TheVariants.{Unknown}
 use Rattle.imap_bytes.specs.Meaning.{Denies, Waits, differs}

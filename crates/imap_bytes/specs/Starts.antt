@@ -1,11 +1,8 @@
 -- What the first byte says of a rule, told by the rule alone. What begins with a byte that a rule may not start with it denies,
 -- so that a choice need try only those alternatives that may start so. What may take nothing may start with any byte.
-use Rattle.std.specs.Prelude.{ℕ, Bool, true, false, List, [], ◌∷◌, ◌||◌, ◌≡◌, Option, None, Some, Err, slice_get}
-use Rattle.imap_bytes.specs.declared.answer.Err.TheVariants.{Incomplete, Error}
-use Rattle.imap_bytes.specs.declared.answer.Needed.TheVariants.{Unknown}
+use Rattle.std.specs.Prelude.{ℕ, Bool, true, false, List, [], ◌∷◌, ◌||◌, ◌≡◌, Option, None, Some}
 use Rattle.imap_bytes.specs.Meaning.{Denies, Waits}
 use Rattle.imap_bytes.specs.Rule.{Rule, meaning, tag_by, run0, run1, seq, alt, gives, tested, raw, nothing, never, many, counted}
-use Rattle.imap_bytes.specs.Step.{step}
 
 abbrev pub word_starts : (ℕ → ℕ → Bool) → List ℕ → ℕ → Bool
 word_starts same [] b = true

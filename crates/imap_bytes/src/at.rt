@@ -8,9 +8,11 @@ pub mod sets;
 pub mod span;
 pub mod strings;
 pub mod tags;
+pub mod texts;
 
 pub use lists::{opt_opt, paren_delimited, parenthesized_list, parenthesized_nonempty_list};
 pub use numbers::{number, number_64};
-pub use sets::sequence_range;
+pub use sets::{sequence_range, sequence_set};
 pub use span::Span;
-pub use strings::{astring, literal, nil, nstring, quoted, string};
+pub use strings::{astring, atom, literal, nil, nstring, quoted, string};
+pub use texts::text;

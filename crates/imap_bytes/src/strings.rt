@@ -1,20 +1,17 @@
 //! Strings and atoms. None takes memory.
 
-ghost use Rattle.std.specs.Prelude.{◌≡◌, ◌<◌, length, position, IfSome};
+ghost use Rattle.std.specs.Prelude.{◌≡◌};
 ghost use Rattle.std.specs.Option.{option_map};
 ghost use Rattle.std.specs.Str.{is_utf8};
 ghost use Rattle.imap_bytes.specs.Answer.{Answers, Exactly};
 ghost use Rattle.imap_bytes.specs.Step.{step};
-ghost use Rattle.imap_bytes.specs.Meaning.{outside};
-ghost use Rattle.imap_bytes.specs.Rule.{run0, run1, opt, only};
+ghost use Rattle.imap_bytes.specs.Rule.{run0, run1, only};
 ghost use Rattle.imap_bytes.specs.Classes as classes;
 ghost use Rattle.imap_bytes.specs.Strings as strings;
 
-use crate::answer::{Err, IResult};
+use crate::answer::IResult;
 use crate::at;
 use crate::at::span::{rest, sliced};
-use crate::classes::is_atom_char;
-use crate::tags::{cut0, cut1};
 use std::str;
 
 /// A quoted string: its raw content, backslashes and all (RFC 3501, section 9: quoted).
@@ -94,25 +91,18 @@ pub fn as_utf8(bytes: &[u8]) -> Option<&str>
     }
 }
 
-fn atom_end(i: &[u8]) -> Option<usize>
-    ensures at { result ≡ position (outside classes.is_atom_char) i.now }
-    ensures within { IfSome result (λ n. n < length i.now) }
-{
-    i.iter().position(|c| !is_atom_char(*c))
-}
-
 /// Atom-chars, maybe none.
 pub fn atom_chars0(i: &[u8]) -> IResult<&[u8], &[u8]>
     ensures { Exactly (λ x. x.now) result (step (run0 classes.is_atom_char) i.now) }
 {
-    cut0(atom_end(i), i)
+    sliced(i, at::strings::atom_chars0(i, 0))
 }
 
 /// At least one atom-char.
 pub fn atom_chars(i: &[u8]) -> IResult<&[u8], &[u8]>
     ensures { Exactly (λ x. x.now) result (step (run1 classes.is_atom_char) i.now) }
 {
-    cut1(atom_end(i), i)
+    sliced(i, at::strings::atom_chars(i, 0))
 }
 
 /// An atom; bytes that are no UTF-8 are `Error` (RFC 3501, section 9: atom).
@@ -121,9 +111,6 @@ pub fn atom(i: &[u8]) -> IResult<&[u8], &str>
     ensures steps { Exactly (λ x. x.now) result (step strings.atom i.now) }
     ensures answer { Answers strings.atom (λ x. x.now) i.now result }
 {
-    let (i, bytes) = atom_chars(i)?;
-    match as_utf8(bytes) {
-        None => Err(Err::Error),
-        Some(text) => Ok((i, text)),
-    }
+    let (q, (_, text)) = at::strings::atom_text(i, 0)?;
+    Ok((rest(i, q), text))
 }

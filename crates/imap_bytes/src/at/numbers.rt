@@ -1,93 +1,78 @@
 //! Numbers at a position. None takes memory.
 
-ghost use Rattle.std.specs.Prelude.{◌≡◌, ◌≤◌, ◌<◌, ◌^◌, length, drop, position, nat_lt, IfSome, IsTrue};
-ghost use Rattle.std.specs.List.{list_all};
-ghost use Rattle.std.specs.Str.Parse.{digits_value};
-ghost use Rattle.imap_bytes.specs.Positions.{AnswersAt, ExactlyAt, Ahead, Inside, named_in};
+ghost use Rattle.std.specs.Prelude.{◌≡◌, ◌≤◌, ◌<◌, ◌+◌, ◌*◌, ◌-◌, ◌^◌, ℕ, length, drop, nat_lt, IfSome, IsTrue};
+ghost use Rattle.imap_bytes.specs.Positions.{AnswersAt, ExactlyAt, Ahead};
 ghost use Rattle.imap_bytes.specs.Step.{step};
-ghost use Rattle.imap_bytes.specs.Meaning.{outside};
 ghost use Rattle.imap_bytes.specs.Rule.{only};
 ghost use Rattle.imap_bytes.specs.Classes as classes;
 ghost use Rattle.imap_bytes.specs.Numbers as numbers;
+ghost use Rattle.imap_bytes.specs.Numbers.{InFront};
 
-use crate::answer::Err;
-use crate::at::span::Span;
-use crate::at::tags::cut1;
+use crate::answer::{Err, Needed};
 use crate::classes::is_digit;
 
-fn digits_end(i: &[u8]) -> Option<usize>
-    ensures at { result ≡ position (outside classes.is_digit) i.now }
-    ensures within { IfSome result (λ n. n < length i.now) }
+// The number with one more digit, if 64 bits hold it.
+fn with_digit(number: Option<u64>, digit: u8) -> Option<u64>
+    ensures { (v : ℕ) → number ≡ only (λ n. nat_lt n (2 ^ 64)) v → result ≡ only (λ n. nat_lt n (2 ^ 64)) (v * 10 + (digit - 48)) }
 {
-    i.iter().position(|c| !is_digit(*c))
+    number?
+        .checked_mul(10)?
+        .checked_add(u64::from(digit.saturating_sub(b'0')))
 }
 
-#[tactic(auto, unfolding(crate::specs::Numbers::digits))]
-fn digits(m: &[u8], p: usize) -> Result<(usize, Span), Err>
-    requires { p ≤ length m.now }
-    ensures steps { ExactlyAt (λ x. named_in m.now x) m.now result (step numbers.digits (drop p m.now)) }
-    ensures inside { Inside m.now p result }
+// How many digits stand in front, and the number that they write, if 64 bits hold it. `None` where nothing follows them.
+fn digits_in_front(i: &[u8]) -> Option<(usize, Option<u64>)>
+    ensures at { InFront i.now result }
+    ensures within { IfSome result (λ x. x.0 < length i.now) }
 {
-    let (_, i) = m.split_at(p);
-    cut1(digits_end(i), m, p)
-}
-
-// The number that the digits write, if 32 bits hold it.
-fn number_of(digits: &[u8]) -> Option<u32>
-    requires { IsTrue (list_all classes.is_digit digits.now) }
-    ensures { result ≡ only (λ n. nat_lt n (2 ^ 32)) (digits_value 10 digits.now) }
-{
-    let mut n: u32 = 0;
-    for d in digits {
-        n = n
-            .checked_mul(10)?
-            .checked_add(u32::from(d.saturating_sub(b'0')))?;
+    let mut count = 0;
+    let mut number = Some(0);
+    for d in i {
+        if !is_digit(*d) {
+            return Some((count, number));
+        }
+        number = with_digit(number, *d);
+        count += 1;
     }
-    Some(n)
-}
-
-/// A number below 2^32, leading zeros allowed (RFC 3501, section 9: number).
-///
-/// It is judged behind the byte that ends its digits: a larger one is `Error`, digits up to the end of the message wait.
-#[tactic(auto, using(crate::proofs::Agreement::exact_answered_at), unfolding(crate::specs::Numbers::number))]
-pub fn number(m: &[u8], p: usize) -> Result<(usize, u32), Err>
-    requires { p ≤ length m.now }
-    ensures steps { ExactlyAt (λ x. x) m.now result (step numbers.number (drop p m.now)) }
-    ensures answer { AnswersAt numbers.number (λ x. x) m.now p result }
-    ensures ahead { Ahead m.now p result }
-{
-    let (p, digits) = digits(m, p)?;
-    match number_of(digits.bytes(m)) {
-        None => Err(Err::Error),
-        Some(n) => Ok((p, n)),
-    }
-}
-
-// The number that the digits write, if 64 bits hold it.
-fn number_64_of(digits: &[u8]) -> Option<u64>
-    requires { IsTrue (list_all classes.is_digit digits.now) }
-    ensures { result ≡ only (λ n. nat_lt n (2 ^ 64)) (digits_value 10 digits.now) }
-{
-    let mut n: u64 = 0;
-    for d in digits {
-        n = n
-            .checked_mul(10)?
-            .checked_add(u64::from(d.saturating_sub(b'0')))?;
-    }
-    Some(n)
+    None
 }
 
 /// A number below 2^64, leading zeros allowed (RFC 4551, section 4: mod-sequence-value).
-#[tactic(auto, using(crate::proofs::Agreement::exact_answered_at), unfolding(crate::specs::Numbers::number_64))]
+///
+/// It is judged behind the byte that ends its digits: a larger one is `Error`, digits up to the end of the message wait.
+#[tactic(auto, using(crate::proofs::Agreement::exact_answered_at))]
 pub fn number_64(m: &[u8], p: usize) -> Result<(usize, u64), Err>
     requires { p ≤ length m.now }
     ensures steps { ExactlyAt (λ x. x) m.now result (step numbers.number_64 (drop p m.now)) }
     ensures answer { AnswersAt numbers.number_64 (λ x. x) m.now p result }
     ensures ahead { Ahead m.now p result }
 {
-    let (p, digits) = digits(m, p)?;
-    match number_64_of(digits.bytes(m)) {
-        None => Err(Err::Error),
-        Some(n) => Ok((p, n)),
+    let (_, i) = m.split_at(p);
+    match digits_in_front(i) {
+        None => Err(Err::Incomplete(Needed::Unknown)),
+        Some((count, number)) => {
+            if count == 0 {
+                return Err(Err::Error);
+            }
+            match number {
+                None => Err(Err::Error),
+                Some(n) => Ok((p + count, n)),
+            }
+        }
     }
+}
+
+/// A number below 2^32, leading zeros allowed (RFC 3501, section 9: number). It is judged as `number_64` is.
+#[tactic(auto, using(crate::proofs::Agreement::exact_answered_at))]
+pub fn number(m: &[u8], p: usize) -> Result<(usize, u32), Err>
+    requires { p ≤ length m.now }
+    ensures steps { ExactlyAt (λ x. x) m.now result (step numbers.number (drop p m.now)) }
+    ensures answer { AnswersAt numbers.number (λ x. x) m.now p result }
+    ensures ahead { Ahead m.now p result }
+{
+    let (q, n) = number_64(m, p)?;
+    if n > u64::from(u32::MAX) {
+        return Err(Err::Error);
+    }
+    Ok((q, n as u32))
 }

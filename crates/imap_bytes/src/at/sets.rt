@@ -1,17 +1,23 @@
-//! Ranges of numbers at a position. None takes memory.
+//! Sequence sets at a position.
 
-ghost use Rattle.std.specs.Prelude.{◌≤◌, length, drop};
-ghost use Rattle.imap_bytes.specs.Positions.{AnswersAt, ExactlyAt, Ahead};
+ghost use Rattle.std.specs.Prelude.{◌≤◌, length, drop, map};
+ghost use Rattle.imap_bytes.specs.Positions.{AnswersAt, ExactlyAt, GivesAt, Ahead};
 ghost use Rattle.imap_bytes.specs.Step.{step};
+ghost use Rattle.imap_bytes.specs.Rule.{◌▹◌};
+ghost use Rattle.imap_bytes.specs.Numbers as numbers;
+ghost use Rattle.imap_bytes.specs.Tags as tags;
 ghost use Rattle.imap_bytes.specs.Sets as sets;
 ghost use Rattle.imap_bytes.specs.Sets.{ends};
 
 use crate::answer::Err;
+use crate::at::lists::separated;
 use crate::at::numbers::number;
 use crate::at::tags::tag;
+use crate::lists::{Separator, tried};
+use std::alloc::Global;
 use std::ops::RangeInclusive;
 
-/// Two numbers with a colon between, their order kept (RFC 3501, section 9: seq-range).
+/// Two numbers with a colon between, their order kept. No memory (RFC 3501, section 9: seq-range).
 #[tactic(auto, using(crate::proofs::Agreement::exact_answered_at), unfolding(crate::specs::Sets::sequence_range))]
 pub fn sequence_range(m: &[u8], p: usize) -> Result<(usize, RangeInclusive<u32>), Err>
     requires { p ≤ length m.now }
@@ -23,4 +29,46 @@ pub fn sequence_range(m: &[u8], p: usize) -> Result<(usize, RangeInclusive<u32>)
     let (p, _) = tag(b":", m, p)?;
     let (p, last) = number(m, p)?;
     Ok((p, first..=last))
+}
+
+// A colon and the number behind it.
+fn range_end(m: &[u8], p: usize) -> Result<(usize, u32), Err>
+    requires { p ≤ length m.now }
+    ensures steps { ExactlyAt (λ x. x) m.now result (step (tags.tag ":" ▹ numbers.number) (drop p m.now)) }
+    ensures ahead { Ahead m.now p result }
+{
+    let (p, _) = tag(b":", m, p)?;
+    number(m, p)
+}
+
+/// A range, or a number as the range of it alone. No memory.
+pub fn sequence_item(m: &[u8], p: usize) -> Result<(usize, RangeInclusive<u32>), Err>
+    requires { p ≤ length m.now }
+    ensures steps { ExactlyAt (λ x. ends x) m.now result (step sets.sequence_item (drop p m.now)) }
+    ensures ahead { Ahead m.now p result }
+{
+    let (p, first) = number(m, p)?;
+    match tried(range_end(m, p))? {
+        Some((q, last)) => Ok((q, first..=last)),
+        None => Ok((p, first..=first)),
+    }
+}
+
+/// Numbers and ranges, with commas between (RFC 3501, section 9: sequence-set, without `*`).
+pub fn sequence_set(
+    alloc: Global,
+    m: &[u8],
+    p: usize,
+) -> Result<(usize, Vec<RangeInclusive<u32>>), Err>
+    requires { p ≤ length m.now }
+    ensures steps { GivesAt (λ x. map (λ r. ends r) x.items) m.now result (step sets.sequence_set (drop p m.now)) }
+    ensures answer { AnswersAt sets.sequence_set (λ x. map (λ r. ends r) x.items) m.now p result }
+    ensures ahead { Ahead m.now p result }
+{
+    let item = |k: usize|
+        requires { k ≤ length m.now }
+        ensures steps { ExactlyAt (λ x. ends x) m.entry.now result (step sets.sequence_item (drop k m.entry.now)) }
+        ensures ahead { Ahead m.entry.now k result }
+    { sequence_item(m, k) };
+    separated(alloc, Separator::Comma, item, m, p)
 }

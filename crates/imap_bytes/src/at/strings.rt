@@ -1,19 +1,21 @@
 //! Strings at a position, as spans of their content. None takes memory.
 
-ghost use Rattle.std.specs.Prelude.{◌≡◌, ◌≤◌, ◌<◌, length, drop, position, IfSome};
-ghost use Rattle.imap_bytes.specs.Positions.{AnswersAt, ExactlyAt, Ahead, Inside, RestsOn, maybe_in, named_in};
+ghost use Rattle.std.specs.Prelude.{◌≡◌, ◌==◌, ◌||◌, ◌≤◌, ◌<◌, length, drop, position, IfOk, IfSome};
+ghost use Rattle.imap_bytes.specs.Positions.{AnswersAt, ExactlyAt, Ahead, Inside, Lies, RestsOn, maybe_in, named_in};
 ghost use Rattle.imap_bytes.specs.Step.{step, take_step};
-ghost use Rattle.imap_bytes.specs.Meaning.{outside};
-ghost use Rattle.imap_bytes.specs.Rule.{run1, opt};
+ghost use Rattle.imap_bytes.specs.Meaning.{begins, outside};
+ghost use Rattle.imap_bytes.specs.Rule.{run0, run1, opt};
 ghost use Rattle.imap_bytes.specs.Classes as classes;
 ghost use Rattle.imap_bytes.specs.Strings as strings;
 
 use crate::answer::{Err, Needed};
 use crate::at::numbers::number;
 use crate::at::span::Span;
-use crate::at::tags::{cut1, tag, word};
-use crate::classes::{is_astring_char, is_quoted_char};
+use crate::at::tags::{cut0, cut1, tag, word};
+use crate::classes::{is_astring_char, is_atom_char, is_quoted_char};
 use crate::first;
+use crate::lists::tried;
+use crate::strings::as_utf8;
 
 fn plain_end(i: &[u8]) -> Option<usize>
     ensures at { result ≡ position (outside classes.is_quoted_char) i.now }
@@ -47,10 +49,9 @@ fn next_part(m: &[u8], p: usize) -> Result<(usize, Option<Span>), Err>
     ensures steps { ExactlyAt (λ x. maybe_in m.now x) m.now result (step (opt strings.quoted_part) (drop p m.now)) }
     ensures ahead { Ahead m.now p result }
 {
-    match quoted_part(m, p) {
-        Ok((q, part)) => Ok((q, Some(part))),
-        Err(Err::Error) => Ok((p, None)),
-        Err(e) => Err(e),
+    match tried(quoted_part(m, p))? {
+        Some((q, part)) => Ok((q, Some(part))),
+        None => Ok((p, None)),
     }
 }
 
@@ -126,6 +127,18 @@ pub fn literal(m: &[u8], p: usize) -> Result<(usize, Span), Err>
     counted(count as usize, m, p)
 }
 
+// Whether the next byte opens a quoted string.
+fn opens_quoted(m: &[u8], p: usize) -> bool
+    requires { p ≤ length m.now }
+    ensures { result ≡ begins (λ b. b == 34) (drop p m.now) }
+{
+    let (_, i) = m.split_at(p);
+    match i.first() {
+        Some(c) => *c == b'"',
+        None => false,
+    }
+}
+
 /// A string: quoted, or a literal (RFC 3501, section 9: string).
 #[tactic(auto, using(crate::proofs::Agreement::exact_answered_at), unfolding(crate::specs::Strings::string))]
 pub fn string(m: &[u8], p: usize) -> Result<(usize, Span), Err>
@@ -134,9 +147,10 @@ pub fn string(m: &[u8], p: usize) -> Result<(usize, Span), Err>
     ensures answer { AnswersAt strings.string (λ x. named_in m.now x) m.now p result }
     ensures inside { Inside m.now p result }
 {
-    match quoted(m, p) {
-        Err(Err::Error) => literal(m, p),
-        other => other,
+    if opens_quoted(m, p) {
+        quoted(m, p)
+    } else {
+        literal(m, p)
     }
 }
 
@@ -165,10 +179,8 @@ pub fn astring(m: &[u8], p: usize) -> Result<(usize, Span), Err>
     ensures answer { AnswersAt strings.astring (λ x. named_in m.now x) m.now p result }
     ensures inside { Inside m.now p result }
 {
-    match astring_chars(m, p) {
-        Err(Err::Error) => string(m, p),
-        other => other,
-    }
+    first!(astring_chars(m, p));
+    string(m, p)
 }
 
 /// `NIL` in any case: the three bytes, whatever follows them (RFC 3501, section 9: nil).
@@ -182,6 +194,18 @@ pub fn nil(m: &[u8], p: usize) -> Result<(usize, Span), Err>
     word(b"NIL", m, p)
 }
 
+// Whether the next byte opens a string.
+fn opens_string(m: &[u8], p: usize) -> bool
+    requires { p ≤ length m.now }
+    ensures { result ≡ begins (λ b. (b == 34) || (b == 123)) (drop p m.now) }
+{
+    let (_, i) = m.split_at(p);
+    match i.first() {
+        Some(c) => *c == b'"' || *c == b'{',
+        None => false,
+    }
+}
+
 /// `NIL`, or a string (RFC 3501, section 9: nstring).
 #[tactic(auto, using(crate::proofs::Agreement::exact_answered_at), unfolding(crate::specs::Strings::nstring))]
 pub fn nstring(m: &[u8], p: usize) -> Result<(usize, Option<Span>), Err>
@@ -191,11 +215,64 @@ pub fn nstring(m: &[u8], p: usize) -> Result<(usize, Option<Span>), Err>
     ensures ahead { Ahead m.now p result }
     ensures rests { RestsOn maybe_in result }
 {
-    match nil(m, p) {
-        Ok((q, _)) => return Ok((q, None)),
-        Err(Err::Error) => {}
-        Err(e) => return Err(e),
+    if opens_string(m, p) {
+        let (q, content) = string(m, p)?;
+        return Ok((q, Some(content)));
     }
-    let (q, content) = string(m, p)?;
-    Ok((q, Some(content)))
+    let (q, _) = nil(m, p)?;
+    Ok((q, None))
+}
+
+fn atom_end(i: &[u8]) -> Option<usize>
+    ensures at { result ≡ position (outside classes.is_atom_char) i.now }
+    ensures within { IfSome result (λ n. n < length i.now) }
+{
+    i.iter().position(|c| !is_atom_char(*c))
+}
+
+/// Atom-chars, maybe none.
+pub fn atom_chars0(m: &[u8], p: usize) -> Result<(usize, Span), Err>
+    requires { p ≤ length m.now }
+    ensures steps { ExactlyAt (λ x. named_in m.now x) m.now result (step (run0 classes.is_atom_char) (drop p m.now)) }
+    ensures inside { Inside m.now p result }
+{
+    let (_, i) = m.split_at(p);
+    cut0(atom_end(i), m, p)
+}
+
+/// At least one atom-char.
+pub fn atom_chars(m: &[u8], p: usize) -> Result<(usize, Span), Err>
+    requires { p ≤ length m.now }
+    ensures steps { ExactlyAt (λ x. named_in m.now x) m.now result (step (run1 classes.is_atom_char) (drop p m.now)) }
+    ensures inside { Inside m.now p result }
+{
+    let (_, i) = m.split_at(p);
+    cut1(atom_end(i), m, p)
+}
+
+// An atom, as its span and as its text.
+#[tactic(auto, using(crate::proofs::Positions::kept_self), unfolding(crate::specs::Strings::atom))]
+pub(crate) fn atom_text(m: &[u8], p: usize) -> Result<(usize, (Span, &str)), Err>
+    requires { p ≤ length m.now }
+    ensures span { ExactlyAt (λ x. named_in m.now x.0) m.now result (step strings.atom (drop p m.now)) }
+    ensures text { ExactlyAt (λ x. x.1.now) m.now result (step strings.atom (drop p m.now)) }
+    ensures inside { IfOk result (λ x. Lies p x.1.0 x.0 × (x.0 ≤ length m.now)) }
+{
+    let (q, content) = atom_chars(m, p)?;
+    match as_utf8(content.bytes(m)) {
+        None => Err(Err::Error),
+        Some(text) => Ok((q, (content, text))),
+    }
+}
+
+/// An atom; bytes that are no UTF-8 are `Error` (RFC 3501, section 9: atom).
+#[tactic(auto, using(crate::proofs::Agreement::exact_answered_at))]
+pub fn atom(m: &[u8], p: usize) -> Result<(usize, Span), Err>
+    requires { p ≤ length m.now }
+    ensures steps { ExactlyAt (λ x. named_in m.now x) m.now result (step strings.atom (drop p m.now)) }
+    ensures answer { AnswersAt strings.atom (λ x. named_in m.now x) m.now p result }
+    ensures inside { Inside m.now p result }
+{
+    let (q, (content, _)) = atom_text(m, p)?;
+    Ok((q, content))
 }

@@ -29,36 +29,44 @@ fn agrees_in_any_case(word: &[u8], i: &[u8]) -> bool
 }
 
 /// Exactly these bytes.
-#[tactic(auto, using(crate::proofs::Positions::stepped), unfolding(crate::specs::Step::tag_step))]
+#[tactic(auto, using(crate::proofs::Positions::stepped, crate::proofs::Positions::zip_cut), unfolding(crate::specs::Step::tag_step))]
 pub fn tag(text: &[u8], m: &[u8], p: usize) -> Result<(usize, Span), Err>
     requires { p ≤ length m.now }
     ensures steps { ExactlyAt (λ x. named_in m.now x) m.now result (step (tag_by ◌==◌ text.now) (drop p m.now)) }
     ensures inside { Inside m.now p result }
 {
     let (_, i) = m.split_at(p);
-    if !agrees(text, i) {
+    if i.len() < text.len() {
+        if agrees(text, i) {
+            return Err(Err::Incomplete(Needed::Unknown));
+        }
         return Err(Err::Error);
     }
-    if i.len() < text.len() {
-        return Err(Err::Incomplete(Needed::Unknown));
+    let (front, _) = i.split_at(text.len());
+    if !agrees(text, front) {
+        return Err(Err::Error);
     }
     let q = p + text.len();
     Ok((q, Span { start: p, end: q }))
 }
 
 /// These bytes, ASCII letters in either case.
-#[tactic(auto, using(crate::proofs::Positions::stepped), unfolding(crate::specs::Step::tag_step))]
+#[tactic(auto, using(crate::proofs::Positions::stepped, crate::proofs::Positions::zip_cut), unfolding(crate::specs::Step::tag_step))]
 pub fn word(text: &[u8], m: &[u8], p: usize) -> Result<(usize, Span), Err>
     requires { p ≤ length m.now }
     ensures steps { ExactlyAt (λ x. named_in m.now x) m.now result (step (tag_by same_letter text.now) (drop p m.now)) }
     ensures inside { Inside m.now p result }
 {
     let (_, i) = m.split_at(p);
-    if !agrees_in_any_case(text, i) {
+    if i.len() < text.len() {
+        if agrees_in_any_case(text, i) {
+            return Err(Err::Incomplete(Needed::Unknown));
+        }
         return Err(Err::Error);
     }
-    if i.len() < text.len() {
-        return Err(Err::Incomplete(Needed::Unknown));
+    let (front, _) = i.split_at(text.len());
+    if !agrees_in_any_case(text, front) {
+        return Err(Err::Error);
     }
     let q = p + text.len();
     Ok((q, Span { start: p, end: q }))
