@@ -1,7 +1,7 @@
 //! Devices that bytes are read from and written to, and writing of all bytes.
 
-ghost use Rattle.std.specs.Prelude.{◌≡◌, ℕ, ◌≤◌, ◌<◌, Bool, true, false, List, Option, length, IfOk, OnOk, OnErr, MatchResult, ◌↔◌, IsTrue, IsErrOf};
-ghost use Rattle.std.specs.Io.KnownBytes.{Appends, Keeps, ReadConsumes, WriteAppends};
+ghost use Rattle.std.specs.Prelude.{◌≡◌, ℕ, ◌≤◌, ◌<◌, Bool, true, false, List, Option, length, IfOk, OnOk, OnErr, MatchResult, IsErrOf};
+ghost use Rattle.std.specs.Io.KnownBytes.{Appends, ReadConsumes, WriteAppends};
 ghost use Rattle.imap_report.specs.Devices.{AppendsFront};
 
 use crate::outcome::Fault;

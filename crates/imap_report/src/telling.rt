@@ -1,6 +1,6 @@
 //! Reports: the line of each response, and the last line.
 
-ghost use Rattle.std.specs.Prelude.{◌≡◌, false, true, IfOk, OnErr, IfErr, string_bytes, codes};
+ghost use Rattle.std.specs.Prelude.{◌≡◌, false, true, IfOk, OnErr, IfErr, string_bytes};
 ghost use Rattle.imap_proto.specs.Responses.{response_value};
 ghost use Rattle.imap_report.specs.Report.{name_of, line, IsTurn, Writes, Begins};
 

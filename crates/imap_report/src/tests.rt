@@ -1,6 +1,6 @@
 //! Runs over devices that are made here.
 
-ghost use Rattle.std.specs.Prelude.{ℕ, None};
+ghost use Rattle.std.specs.Prelude.{None};
 
 use crate::devices::{Sink, Source};
 use crate::outcome::{Fault, Finish};
