@@ -22,3 +22,11 @@ pub mod Positions
 pub mod PositionJoins
 pub mod PositionUnder
 pub mod PositionRests
+pub mod LossyTwice
+pub mod LossyParts
+pub mod Reading
+pub mod ReadingTexts
+pub mod ReadingWords
+pub mod ReadingQuoted
+pub mod Spelling
+pub mod ReadingSets
