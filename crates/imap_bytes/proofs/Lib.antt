@@ -30,3 +30,4 @@ pub mod ReadingWords
 pub mod ReadingQuoted
 pub mod Spelling
 pub mod ReadingSets
+pub mod ReadingCounts

@@ -1,13 +1,13 @@
 -- Each form reads back what it once yielded.
-use Rattle.std.proofs.Common.{◌≡◌, ℕ, ◌<◌, ◌==◌, ◌||◌, Bool, true, false, List, [], ◌∷◌, ◌++◌, length, IsTrue, Option, None, Some, sym, ◌∙◌, ap, subst, refl, inl, inr, append_assoc, append-nil, map, cond}
+use Rattle.std.proofs.Common.{◌≡◌, ℕ, ◌<◌, ◌==◌, Bool, true, false, List, [], ◌∷◌, ◌++◌, length, IsTrue, Option, None, Some, sym, ◌∙◌, ap, subst, refl, inl, inr, append_assoc, append-nil, map, cond}
 use Rattle.std.proofs.lemmas.Bool.{false≢true, and_from, or_cases, eq-eqb, eqb-true}
 use Rattle.std.specs.List.{list_all}
-use Rattle.imap_bytes.specs.declared.answer.Err.TheVariants.{Error}
 use Rattle.imap_bytes.specs.Meaning.{Denies, is_word, differs, begins, outside, Cuts}
 use Rattle.imap_bytes.specs.Rule.{Rule, tag_by, run0, run1, alt, gives, test, raw as taken_by, nothing, never, opt, many, counted, ◌⨾◌, ◌▹◌, ◌◃◌, some1, list1, list0, meaning}
 use Rattle.imap_bytes.specs.Text.{Bytes}
 use Rattle.imap_bytes.specs.Pieces.{Pieces, written, Fits, ◌then◌, raw, each, separated, literal_of}
 use Rattle.imap_bytes.specs.Pieces.Piece.{Raw, Lit}
+use Rattle.imap_bytes.proofs.Yields.{Yields}
 use Rattle.imap_bytes.specs.ReadBack.{ReadsBack, Takes, Apart, Any, Starts, Closes, EndsItem, closes, ends_item, as_is}
 
 -- ---- pieces
@@ -454,3 +454,73 @@ closes-in q h41 h13 = starts closes q (closing q h41 h13)
 pub ends_item-in : (q : ℕ → Bool) → q 41 ≡ true → q 13 ≡ true → q 32 ≡ true → (t : Bytes) → EndsItem t → Starts q t
 ends_item-in q h41 h13 h32 = starts ends_item q
     (λ b e. elim (or_cases (closes b) (b == 32) e) [ inl two ↦ closing q h41 h13 b two | inr x ↦ ap q (eqb-true b 32 x) ∙ h32 ])
+
+-- ---- values of which something is known
+
+module _ {A : Type 0} {a : Rule A} {l : A → A} {c : A → Pieces} {F : Bytes → Type 0} where
+  -- another text that is the same for each value that the rule yields
+  pub reads-where : {P : A → Type 0} {d : A → Pieces} → Yields P a → ReadsBack a l c F → ((v : A) → P v → c v ≡ d v) → ReadsBack a l d F
+  reads-where p h e = record {
+    again = λ m v rest y f t g.
+        let same = e v (p.each m v rest y) in
+        subst (λ q. (meaning a).yields (written q ++ t) (l v) t) same (h.again m v rest y (subst Fits (sym same) f) t g);
+  }
+
+-- a word that stands for a value is denied where the word is
+pub names-denied : {A S : Type 0} (s : Rule S) (x : A) (m : Bytes) → Denies (meaning (s ▹ nothing x)) m → Denies (meaning s) m
+unfolding meaning
+names-denied s x m (inl d) = d
+names-denied s x m (inr y) = absurd y.3
+
+pub tag-denied : (same : ℕ → ℕ → Bool) (k m : Bytes) → Denies (meaning (tag_by same k)) m → IsTrue (differs same k m)
+unfolding meaning
+tag-denied same k m d = d
+
+pub first_yields : {A B : Type 0} {P : A → Type 0} {a : Rule A} {b : Rule B} → Yields P a → Yields (λ v. P v.0) (a ⨾ b)
+unfolding meaning
+first_yields p = record { each = λ m v rest y. p.each m v.0 y.0 y.1 }
+
+module _ {A B : Type 0} {a : Rule A} {b : Rule B} {p : Pieces} {lb : B → B} {cb : B → Pieces} {F G : Bytes → Type 0} where
+  -- what may follow the first part, by what is known of the second's values
+  pub reads-after_where : {P : B → Type 0} → Takes a p F → Yields P b → ReadsBack b lb cb G → ((y : B) (t : Bytes) → P y → G t → F (written (cb y) ++ t)) → ReadsBack (a ▹ b) lb (λ v. p then cb v) G
+  unfolding meaning
+  reads-after_where h known k follow = record {
+    again = λ m v rest y fits t g.
+        let parts = fits-parts p (cb v) fits in
+        let mid = written (cb v) ++ t in
+        let inner = subst (λ x. (meaning b).yields y.1.0 x rest) y.2 y.1.2 in
+        let front = h.taken parts.0 mid (follow v t (known.each y.1.0 v rest inner) g) in (
+          (front.0, lb v),
+          (mid, subst (λ l. (meaning a).yields l front.0 mid) (sym (written_on p (cb v) t)) front.1, k.again y.1.0 v rest inner parts.1 t g),
+          refl,
+        );
+  }
+
+module _ {A B : Type 0} {a : Rule A} {b : Rule B} {la : A → A} {lb : B → B} {ca : A → Pieces} {cb : B → Pieces} {F G : Bytes → Type 0} where
+  pub reads-seq_where : {P : B → Type 0} → Yields P b → ReadsBack a la ca F → ReadsBack b lb cb G → ((y : B) (t : Bytes) → P y → G t → F (written (cb y) ++ t)) → ReadsBack (a ⨾ b) (λ v. (la v.0, lb v.1)) (λ v. ca v.0 then cb v.1) G
+  unfolding meaning
+  reads-seq_where known h k follow = record {
+    again = λ m v rest y fits t g.
+        let parts = fits-parts (ca v.0) (cb v.1) fits in
+        let mid = written (cb v.1) ++ t in (
+          mid,
+          subst (λ l. (meaning a).yields l (la v.0) mid) (sym (written_on (ca v.0) (cb v.1) t)) (h.again m v.0 y.0 y.1 parts.0 mid (follow v.1 t (known.each y.0 v.1 rest y.2) g)),
+          k.again y.0 v.1 rest y.2 parts.1 t g,
+        );
+  }
+
+-- of two alternatives the first reads back what either yields; then others
+module _ {A : Type 0} {a b r : Rule A} {l : A → A} {c : A → Pieces} {F : Bytes → Type 0} where
+  pub first_instead : ReadsBack a l c F → ((m : Bytes) (v : A) (rest : Bytes) → (meaning b).yields m v rest → Fits (c v) → (t : Bytes) → F t → (meaning a).yields (written (c v) ++ t) (l v) t)
+      → Apart a r c F → Apart b r c F → ReadsBack r l c F → ReadsBack (alt a (alt b r)) l c F
+  unfolding meaning
+  first_instead h k apart apart' others = record {
+    again = λ m v rest y f t g.
+        elim y [
+          | inl ya ↦ inl (h.again m v rest ya f t g)
+          | inr yb ↦ elim yb.1 [
+              | inl here ↦ inl (k m v rest here f t g)
+              | inr later ↦ inr (apart.denied m v rest yb.0 later.1 f t g, inr (apart'.denied m v rest later.0 later.1 f t g, others.again m v rest later.1 f t g))
+            ]
+        ];
+  }

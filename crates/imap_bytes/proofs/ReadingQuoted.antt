@@ -3,7 +3,7 @@ use Rattle.std.proofs.Common.{◌≡◌, ℕ, ◌<◌, true, false, not, ◌==�
 use Rattle.std.proofs.lemmas.Bool.{and_parts, both_ways, not-true, cases_eq, cases_Bool}
 use Rattle.std.proofs.lemmas.Bool.Decides.{nat_tests}
 use Rattle.std.proofs.lemmas.List.{append_cancel_right}
-use Rattle.std.proofs.lemmas.Str.{encodes-append, utf8_lossy_step, utf8_lossy-IsUtf8, utf8_lossy_empty}
+use Rattle.std.proofs.lemmas.Str.{encode_ascii, encodes-append, utf8_lossy_step, utf8_lossy-IsUtf8, utf8_lossy_empty}
 use Rattle.std.specs.List.{list_all}
 use Rattle.std.specs.Str.{all_scalars}
 use Rattle.std.specs.Str.Lossy.{utf8_lossy, utf8_valid_len, replacement_bytes, after_first_chunk}
@@ -30,6 +30,15 @@ lossy-front : (cs rest : List ℕ) → all_scalars cs ≡ true → utf8_lossy (e
 lossy-front cs rest h =
     sym (lossy_chars-utf8_lossy (encode_utf8_all cs ++ rest)) ∙ ap encode_utf8_all (lossy_chars-front cs rest h)
     ∙ encodes-append cs (lossy_chars rest) ∙ ap (λ l. encode_utf8_all cs ++ l) (lossy_chars-utf8_lossy rest)
+
+scalar : (b : ℕ) → b < 128 → all_scalars (b ∷ []) ≡ true
+scalar b h = grind (arith, nat_tests)
+
+-- a byte of ASCII stays
+pub lossy_ascii : (b : ℕ) (rest : List ℕ) → b < 128 → utf8_lossy (b ∷ rest) ≡ b ∷ utf8_lossy rest
+lossy_ascii b rest small =
+    let one : encode_utf8_all (b ∷ []) ≡ b ∷ [] = ap (λ l. l ++ []) (encode_ascii b small) in
+    subst (λ c. utf8_lossy (c ++ rest) ≡ c ++ utf8_lossy rest) one (lossy-front (b ∷ []) rest (scalar b small))
 
 pub lossy_some : (bs : List ℕ) → 0 < length bs → 0 < length (utf8_lossy bs)
 lossy_some bs some = elim (cases_eq (utf8_valid_len bs) (length bs)) [

@@ -1,5 +1,5 @@
 -- Numbers, strings, texts and lists read back.
-use Rattle.std.proofs.Common.{◌≡◌, ℕ, ◌<◌, ◌≤◌, ◌^◌, Bool, true, ◌==◌, ◌||◌, [], ◌∷◌, ◌++◌, length, IsTrue, Option, None, Some, sym, subst, refl, inl, inr, append_assoc, append-nil, arith, codes, decimal, ap, ap₂, map, nat_lt, IsUtf8, ◌∙◌}
+use Rattle.std.proofs.Common.{◌≡◌, ℕ, ◌<◌, ◌≤◌, ◌^◌, Bool, true, ◌==◌, [], ◌∷◌, ◌++◌, length, IsTrue, Option, None, Some, sym, subst, refl, inr, append_assoc, append-nil, arith, codes, decimal, ap₂, map, nat_lt, IsUtf8}
 use Prim.Native.String.{String}
 use Rattle.std.proofs.lemmas.Bool.{eq-eqb, and_from, lt-ltb, ltb-true}
 use Rattle.std.proofs.lemmas.Bool.Decides.{nat_tests}
@@ -9,18 +9,19 @@ use Rattle.std.specs.Option.{option_map}
 use Rattle.std.specs.Char.{digit_value}
 use Rattle.std.specs.Str.Parse.{AllDigits, IsNumeral, digits_value}
 use Rattle.std.proofs.lemmas.Str.{is_utf8-from_IsUtf8, utf8_lossy-IsUtf8}
-use Rattle.imap_bytes.specs.Meaning.{Denies, is_word, differs, begins, outside}
+use Rattle.imap_bytes.specs.Meaning.{Denies, is_word, differs, outside}
 use Rattle.imap_bytes.specs.Rule.{Rule, run0, run1, gives, meaning}
 use Rattle.imap_bytes.specs.Text.{Bytes, Text, decoded, as_text, lent_text}
 use Rattle.imap_bytes.specs.Classes.{is_digit, is_blank}
-use Rattle.imap_bytes.specs.Tags.{same_letter, tag, word, sp, blanks0, blanks1}
+use Rattle.imap_bytes.specs.Tags.{same_letter, tag, word, blanks0, blanks1}
 use Rattle.imap_bytes.specs.Numbers.{digits, number_below, number, number_64}
 use Rattle.imap_bytes.specs.Strings.{literal_header, literal, quoted, string, astring, nil, nil_or, nstring}
 use Rattle.imap_bytes.specs.Texts.{utf8, string_utf8, astring_utf8, nstring_utf8}
 use Rattle.imap_bytes.specs.Lists.{list_of, nonempty_list_of}
 use Rattle.imap_bytes.specs.Pieces.{Pieces, written, words, space, lit, literal_of, number_text, nstring_text, literal_text, ntext, list_text}
 use Rattle.imap_bytes.specs.ReadBack.{ReadsBack, Takes, Any, Starts, as_is}
-use Rattle.imap_bytes.proofs.Reading.{raw_on, test-has, test-on, denies-after, denies-gives, denies-tag, takes-tag, takes-seq, reads-after, reads-before, reads-gives, reads-alt, reads-list1, reads-list0, reads-names, apart-gives, takes-absent, ◌▹ʳ◌, Begins, begun}
+use Rattle.imap_bytes.proofs.Yields.{Yields, made_yields}
+use Rattle.imap_bytes.proofs.Reading.{raw_on, test-has, test-on, denies-after, denies-tag, takes-tag, takes-seq, reads-before, reads-gives, reads-alt, reads-list1, reads-list0, reads-names, apart-gives, takes-absent, ◌▹ʳ◌, Begins, begun}
 use Rattle.imap_bytes.proofs.LossyTwice.{IsUtf8-lossy}
 
 -- ---- numbers
@@ -121,6 +122,10 @@ decoded_utf8 b u = ap₂ text_with (utf8_lossy-IsUtf8 b u) (is_utf8-from_IsUtf8 
 -- the text that bytes were decoded to is decoded as that text, borrowed
 pub decoded_twice : (b : Bytes) (t : Text) → decoded b ≡ t → decoded t.bytes ≡ lent_text t
 decoded_twice b t e = decoded_utf8 t.bytes (subst (λ (x : Text). IsUtf8 x.bytes) e (IsUtf8-lossy b))
+
+-- a decoded text is UTF-8
+pub utf8_yields : {a : Rule Bytes} → Yields (λ (t : Text). IsUtf8 t.bytes) (utf8 a)
+utf8_yields = made_yields decoded (λ b. IsUtf8-lossy b)
 
 pub reads-utf8 : (a : Rule Bytes) → ((b t : Bytes) → length b < 2 ^ 32 → (meaning a).yields (literal_of b ++ t) b t) → ReadsBack (utf8 a) lent_text literal_text Any
 unfolding meaning

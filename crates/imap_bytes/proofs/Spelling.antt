@@ -1,12 +1,12 @@
 -- What each form takes spells its value.
-use Rattle.std.proofs.Common.{◌≡◌, ℕ, ◌<◌, ◌^◌, ◌⊎◌, Bool, ◌==◌, List, [], ◌∷◌, ◌++◌, length, Option, None, Some, sym, ◌∙◌, ap, subst, refl, inl, inr, append_assoc, codes}
+use Rattle.std.proofs.Common.{◌≡◌, ℕ, ◌^◌, ◌⊎◌, Bool, true, ◌==◌, List, [], ◌∷◌, ◌++◌, length, None, Some, sym, ◌∙◌, ap, subst, refl, inl, inr, append_assoc, codes}
 use Prim.Native.String.{String}
 use Rattle.std.proofs.lemmas.List.{append_cancel_right}
 use Rattle.imap_bytes.specs.Meaning.{Cuts}
-use Rattle.imap_bytes.specs.Rule.{Rule, tag_by, run0, run1, gives, test, raw, nothing, never, opt, many, counted, otherwise, ◌⨾◌, ◌▹◌, ◌◃◌, ◌or◌, some1, list1, list0, meaning}
+use Rattle.imap_bytes.specs.Rule.{Rule, tag_by, run0, run1, gives, test, raw, nothing, never, opt, many, counted, ◌⨾◌, ◌▹◌, ◌◃◌, ◌or◌, list1, list0, meaning}
 use Rattle.imap_bytes.specs.Text.{Bytes, Text}
-use Rattle.imap_bytes.specs.Classes.{is_digit, is_blank, is_quoted_char, is_astring_char, is_text_char}
-use Rattle.imap_bytes.specs.Tags.{tag, word, sp, maybe_space, blanks0, blanks1, crlf, names}
+use Rattle.imap_bytes.specs.Classes.{is_blank, is_quoted_char, is_astring_char, is_text_char}
+use Rattle.imap_bytes.specs.Tags.{tag, word, maybe_space, blanks0, blanks1, crlf}
 use Rattle.imap_bytes.specs.Numbers.{digits, number_below, number, number_64}
 use Rattle.imap_bytes.specs.Strings.{quoted_part, quoted_content, quoted, literal_header, literal, string, astring, nil, nil_or as nil_or_rule, nstring}
 use Rattle.imap_bytes.specs.Texts.{utf8, string_utf8, quoted_utf8, astring_utf8, nstring_utf8, text}
@@ -14,9 +14,9 @@ use Rattle.imap_bytes.specs.Sets.{sequence_range, single, sequence_item, sequenc
 use Rattle.imap_bytes.specs.Lists.{list_of, nonempty_list_of}
 use Rattle.imap_bytes.specs.ReadBack.{Texts, Spells}
 use Rattle.imap_bytes.specs.Spelling.{this, exactly, in_any_case, ◌and◌, all_of, as_it_is, lossily, maybe, blanks, some_blanks, nil_or, each_of, with_between, spells_list, spells_some_list, spells_number, spells_literal, is_content_part, is_content, spells_quoted, spells_string, spells_astring, spells_nstring, spells_string_text, spells_quoted_text, spells_astring_text, spells_ntext, spells_line_text, spells_range, spells_ranges}
+use Rattle.imap_bytes.proofs.Yields.{Yields}
 use Rattle.imap_bytes.proofs.Reading.{test-has}
 use Rattle.imap_bytes.proofs.ReadingWords.{exact}
-use Rattle.imap_bytes.proofs.ReadingQuoted.{joined}
 
 module _ {A B : Type 0} {a : Rule A} {b : Rule B} {S : A → Texts} {T : B → Texts} where
   infixr 25 ◌⨾ˢ◌
@@ -64,6 +64,13 @@ module _ {A : Type 0} {a : Rule A} {S : A → Texts} where
 
   pub spells-test : (p : A → Bool) → Spells a S → Spells (test p a) S
   spells-test p h = record { consumed = λ m v rest y. h.consumed m v rest (test-has p a m v rest y).0 }
+
+  -- with what is known of the value
+  pub spells-where : {P : A → Type 0} {T : A → Texts} → Yields P a → Spells a S → ((v : A) (c : Bytes) → P v → S v c → T v c) → Spells a T
+  spells-where p h k = record { consumed = λ m v rest y. let x = h.consumed m v rest y in (x.0, x.1, k v x.0 (p.each m v rest y) x.2) }
+
+  pub spells-tested : (p : A → Bool) → Spells a S → Spells (test p a) (λ v c. (p v ≡ true) × S v c)
+  spells-tested p h = record { consumed = λ m v rest y. let has = test-has p a m v rest y in let x = h.consumed m v rest has.0 in (x.0, x.1, (has.1, x.2)) }
 
 module _ {A : Type 0} {a b : Rule A} {T : A → Texts} where
   infixr 20 ◌orˢ◌
@@ -118,6 +125,13 @@ unfolding meaning
 spells-blanks1 = record { consumed = λ m v rest y. (v, y.0.0, (y.0.1, y.1)) }
 
 -- the bytes that a rule takes, as they are
+pub spells-taken : {A : Type 0} {a : Rule A} → Spells (raw a) this
+unfolding meaning
+spells-taken = record { consumed = λ m v rest y. (v, y.2, refl) }
+
+pub spells-run : (p : ℕ → Bool) → Spells (run1 p) this
+spells-run p = spells-wider (spells-run1 p) (λ v c h. h.0)
+
 pub spells-raw : {A : Type 0} {a : Rule A} {S : A → Texts} {P : Texts} → Spells a S → ((x : A) (c : Bytes) → S x c → P c) → Spells (raw a) (as_it_is P)
 unfolding meaning
 spells-raw {P = P} h k = record {
