@@ -24,3 +24,12 @@ pub mod Positions
 pub mod PositionJoins
 pub mod PositionUnder
 pub mod PositionRests
+pub mod LossyTwice
+pub mod LossyParts
+pub mod Reading
+pub mod ReadingTexts
+pub mod ReadingWords
+pub mod ReadingQuoted
+pub mod Spelling
+pub mod ReadingSets
+pub mod ReadingCounts

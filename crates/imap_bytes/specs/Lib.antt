@@ -16,3 +16,6 @@ pub mod Positions
 pub mod PositionLists
 pub mod Equality
 pub mod Starts
+pub mod Pieces
+pub mod ReadBack
+pub mod Spelling
