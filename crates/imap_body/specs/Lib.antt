@@ -4,3 +4,8 @@ pub mod FieldValues
 pub mod ExtensionValues
 pub mod BodyValues
 pub mod SectionValues
+pub mod Sections
+pub mod Envelopes
+pub mod Fields
+pub mod Extensions
+pub mod Bodies
