@@ -17,3 +17,8 @@ pub mod Seen
 pub mod Hashing
 pub mod Yields
 pub mod Plain
+pub mod Starts
+pub mod Positions
+pub mod PositionJoins
+pub mod PositionUnder
+pub mod PositionRests

@@ -8,7 +8,7 @@ use Rattle.imap_bytes.specs.Rule.{Rule, meaning}
 use Rattle.imap_bytes.specs.Step.{step}
 use Rattle.imap_bytes.specs.Answer.{Returned, Gives, Exactly}
 use Rattle.imap_bytes.specs.Tags.{tag}
-use Rattle.imap_bytes.specs.Lists.{called, Shortens, or_memory, flat, Tells, behind_means, list1_means, list0_means, opt_means, enclosed_means, opt_opt_means}
+use Rattle.imap_bytes.specs.Lists.{called, Shortens, or_memory, flat, Allows, behind_means, some1_means, list1_means, list0_means, opt_means, enclosed_means, opt_opt_means}
 use Rattle.imap_bytes.proofs.Agreement.{agrees, exactly_gives}
 use Rattle.imap_bytes.proofs.Consumption.{consumes, less}
 
@@ -68,6 +68,11 @@ opt_under v a b p = alt_under (option_map v) (gives_means Some a) (gives_means S
 behind_under : {S A B : Type 0} {P : Fault → Type 0} (s : Meaning S) (v : A → B) (a : Meaning A) (b : Meaning B) → Under P v a b → Under P v (behind_means s a) (behind_means s b)
 behind_under s v a b p = gives_under (λ x. (x.0, v x.1)) v (λ x. x.1) (λ x. x.1) (seq_means s a) (seq_means s b) (λ x. refl) (seq_under (λ x. x) v s s a b (same s p.error) p)
 
+pub some1_under : {A B : Type 0} {P : Fault → Type 0} (v : A → B) (a : Meaning A) (b : Meaning B) → Under P v a b → Under P (map v) (some1_means a) (some1_means b)
+some1_under v a b p =
+    gives_under (λ x. (v x.0, map v x.1)) (map v) (λ x. x.0 ∷ x.1) (λ x. x.0 ∷ x.1) (seq_means a (many_means a)) (seq_means b (many_means b)) (λ x. refl)
+    (seq_under v (map v) a b (many_means a) (many_means b) p (many_under v a b p))
+
 pub list1_under : {S A B : Type 0} {P : Fault → Type 0} (s : Meaning S) (v : A → B) (a : Meaning A) (b : Meaning B) → Under P v a b → Under P (map v) (list1_means s a) (list1_means s b)
 list1_under s v a b p =
     let more = many_under v (behind_means s a) (behind_means s b) (behind_under s v a b p) in
@@ -98,7 +103,7 @@ Kept e = e ≢ Failure
 abbrev pub All : Fault → Type 0
 All e = Unit {0}
 
-error_kept : Kept Error
+pub error_kept : Kept Error
 error_kept e = cc
 
 -- the reader that was passed keeps the clause of a rule
@@ -127,17 +132,17 @@ exactly_under answers v b says = record {
   fails = λ m e o f. (agrees b m).failed e (says m (Err e) f);
 }
 
-pub under_gives : {A B X : Type 0} (w : A → B) (a : Meaning A) (r : Rule B) (view : X → A) (m : List ℕ) (result : Returned X) → Under Kept w a (meaning r) → Tells (or_memory a) view m result → Gives (λ x. w (view x)) result (step r m)
+pub under_gives : {A B X : Type 0} (w : A → B) (a : Meaning A) (r : Rule B) (view : X → A) (m : List ℕ) (result : Returned X) → Under Kept w a (meaning r) → Allows (or_memory a) view m result → Gives (λ x. w (view x)) result (step r m)
 under_gives w a r view m (Ok x) p h = (agrees r m).yields (w (view x.1)) x.0.now (p.yields m (view x.1) x.0.now h)
 under_gives w a r view m (Err Failure) p h = tt
 under_gives w a r view m (Err Error) p h = elim h [ inl f ↦ (agrees r m).fails Error (p.fails m Error error_kept f) | inr q ↦ absurd cc ]
 under_gives w a r view m (Err (Incomplete n)) p h = elim h [ inl f ↦ (agrees r m).fails (Incomplete n) (p.fails m (Incomplete n) (λ q. cc) f) | inr q ↦ absurd cc ]
 
-pub under_exactly : {A B X : Type 0} (w : A → B) (a : Meaning A) (r : Rule B) (view : X → A) (m : List ℕ) (result : Returned X) → Under All w a (meaning r) → Tells a view m result → Exactly (λ x. w (view x)) result (step r m)
+pub under_exactly : {A B X : Type 0} (w : A → B) (a : Meaning A) (r : Rule B) (view : X → A) (m : List ℕ) (result : Returned X) → Under All w a (meaning r) → Allows a view m result → Exactly (λ x. w (view x)) result (step r m)
 under_exactly w a r view m (Ok x) p h = (agrees r m).yields (w (view x.1)) x.0.now (p.yields m (view x.1) x.0.now h)
 under_exactly w a r view m (Err e) p h = (agrees r m).fails e (p.fails m e tt h)
 
-pub memory_aside : {A X : Type 0} (a : Meaning A) (view : X → A) (m : List ℕ) (result : Returned X) → Tells a view m result → Tells (or_memory a) view m result
+pub memory_aside : {A X : Type 0} (a : Meaning A) (view : X → A) (m : List ℕ) (result : Returned X) → Allows a view m result → Allows (or_memory a) view m result
 memory_aside a view m (Ok x) h = h
 memory_aside a view m (Err e) h = inl h
 

@@ -12,4 +12,7 @@ pub mod Strings
 pub mod Texts
 pub mod Sets
 pub mod Lists
+pub mod Positions
+pub mod PositionLists
 pub mod Equality
+pub mod Starts

@@ -2,6 +2,7 @@
 #![tactic(auto)]
 
 mod answer;
+pub mod at;
 pub mod classes;
 pub mod laws;
 pub mod lists;

@@ -1,46 +1,12 @@
 //! Numbers. None takes memory.
 
-ghost use Rattle.std.specs.Prelude.{◌≡◌, ◌<◌, ◌^◌, ℕ, length, position, nat_lt, IfSome, IsTrue};
-ghost use Rattle.std.specs.List.{list_all};
-ghost use Rattle.std.specs.Str.Parse.{digits_value};
 ghost use Rattle.imap_bytes.specs.Answer.{Answers, Exactly};
 ghost use Rattle.imap_bytes.specs.Step.{step};
-ghost use Rattle.imap_bytes.specs.Meaning.{outside};
-ghost use Rattle.imap_bytes.specs.Rule.{only};
-ghost use Rattle.imap_bytes.specs.Classes as classes;
 ghost use Rattle.imap_bytes.specs.Numbers as numbers;
 
-use crate::answer::{Err, IResult};
-use crate::classes::is_digit;
-use crate::tags::cut1;
-
-fn digits_end(i: &[u8]) -> Option<usize>
-    ensures at { result ≡ position (outside classes.is_digit) i.now }
-    ensures within { IfSome result (λ n. n < length i.now) }
-{
-    i.iter().position(|c| !is_digit(*c))
-}
-
-#[tactic(auto, unfolding(crate::specs::Numbers::digits))]
-fn digits(i: &[u8]) -> IResult<&[u8], &[u8]>
-    ensures { Exactly (λ x. x.now) result (step numbers.digits i.now) }
-{
-    cut1(digits_end(i), i)
-}
-
-// The number that the digits write, if 32 bits hold it.
-fn number_of(digits: &[u8]) -> Option<u32>
-    requires { IsTrue (list_all classes.is_digit digits.now) }
-    ensures { result ≡ only (λ n. nat_lt n (2 ^ 32)) (digits_value 10 digits.now) }
-{
-    let mut n: u32 = 0;
-    for d in digits {
-        n = n
-            .checked_mul(10)?
-            .checked_add(u32::from(d.saturating_sub(b'0')))?;
-    }
-    Some(n)
-}
+use crate::answer::IResult;
+use crate::at;
+use crate::at::span::rest;
 
 /// A number below 2^32, leading zeros allowed (RFC 3501, section 9: number).
 ///
@@ -50,25 +16,8 @@ pub fn number(i: &[u8]) -> IResult<&[u8], u32>
     ensures steps { Exactly (λ x. x) result (step numbers.number i.now) }
     ensures answer { Answers numbers.number (λ x. x) i.now result }
 {
-    let (i, digits) = digits(i)?;
-    match number_of(digits) {
-        None => Err(Err::Error),
-        Some(n) => Ok((i, n)),
-    }
-}
-
-// The number that the digits write, if 64 bits hold it.
-fn number_64_of(digits: &[u8]) -> Option<u64>
-    requires { IsTrue (list_all classes.is_digit digits.now) }
-    ensures { result ≡ only (λ n. nat_lt n (2 ^ 64)) (digits_value 10 digits.now) }
-{
-    let mut n: u64 = 0;
-    for d in digits {
-        n = n
-            .checked_mul(10)?
-            .checked_add(u64::from(d.saturating_sub(b'0')))?;
-    }
-    Some(n)
+    let (q, n) = at::numbers::number(i, 0)?;
+    Ok((rest(i, q), n))
 }
 
 /// A number below 2^64, leading zeros allowed (RFC 4551, section 4: mod-sequence-value).
@@ -77,9 +26,6 @@ pub fn number_64(i: &[u8]) -> IResult<&[u8], u64>
     ensures steps { Exactly (λ x. x) result (step numbers.number_64 i.now) }
     ensures answer { Answers numbers.number_64 (λ x. x) i.now result }
 {
-    let (i, digits) = digits(i)?;
-    match number_64_of(digits) {
-        None => Err(Err::Error),
-        Some(n) => Ok((i, n)),
-    }
+    let (q, n) = at::numbers::number_64(i, 0)?;
+    Ok((rest(i, q), n))
 }

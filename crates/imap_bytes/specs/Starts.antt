@@ -1,0 +1,70 @@
+-- What the first byte says of a rule, told by the rule alone. What begins with a byte that a rule may not start with it denies,
+-- so that a choice need try only those alternatives that may start so. What may take nothing may start with any byte.
+use Rattle.std.specs.Prelude.{ℕ, Bool, true, false, List, [], ◌∷◌, ◌||◌, ◌≡◌, Option, None, Some, Err, slice_get}
+use Rattle.imap_bytes.specs.declared.answer.Err.TheVariants.{Incomplete, Error}
+use Rattle.imap_bytes.specs.declared.answer.Needed.TheVariants.{Unknown}
+use Rattle.imap_bytes.specs.Meaning.{Denies, Waits}
+use Rattle.imap_bytes.specs.Rule.{Rule, meaning, tag_by, run0, run1, seq, alt, gives, tested, raw, nothing, never, many, counted}
+use Rattle.imap_bytes.specs.Step.{step}
+
+abbrev pub word_starts : (ℕ → ℕ → Bool) → List ℕ → ℕ → Bool
+word_starts same [] b = true
+word_starts same (x ∷ word) b = same x b
+
+abbrev pub may_start : {V : Type 0} → Rule V → ℕ → Bool
+may_start (tag_by same word) b = word_starts same word b
+may_start (run0 class) b = true
+may_start (run1 class) b = class b
+may_start (seq x y) b = may_start x b
+may_start (alt x y) b = may_start x b || may_start y b
+may_start (gives f x) b = may_start x b
+may_start (tested f x) b = may_start x b
+may_start (raw x) b = may_start x b
+may_start (nothing x) b = true
+may_start never b = false
+may_start (many x) b = true
+may_start (counted x) b = may_start x b
+
+abbrev pub is_some : List ℕ → Bool
+is_some [] = false
+is_some (b ∷ word) = true
+
+-- whether it waits where there are no bytes
+abbrev pub wants_byte : {V : Type 0} → Rule V → Bool
+wants_byte (tag_by same word) = is_some word
+wants_byte (run0 class) = true
+wants_byte (run1 class) = true
+wants_byte (seq x y) = wants_byte x
+wants_byte (alt x y) = wants_byte x
+wants_byte (gives f x) = wants_byte x
+wants_byte (tested f x) = wants_byte x
+wants_byte (raw x) = wants_byte x
+wants_byte (nothing x) = false
+wants_byte never = false
+wants_byte (many x) = wants_byte x
+wants_byte (counted x) = wants_byte x
+
+pub record Starts {V : Type 0} (r : Rule V) : Type 0 where
+  pub denies : (b : ℕ) (m : List ℕ) → may_start r b ≡ false → Denies (meaning r) (b ∷ m)
+  pub waits : wants_byte r ≡ true → Waits (meaning r) []
+
+-- ---- choices
+
+-- those of two alternatives that are kept
+abbrev pub kept : {V : Type 0} → Bool → Bool → Rule V → Rule V → Rule V
+kept true true x y = alt x y
+kept true false x y = x
+kept false true x y = y
+kept false false x y = never
+
+-- the first alternative decides where it waits without bytes
+abbrev pub kept_first : {V : Type 0} → Bool → Rule V → Rule V → Rule V
+kept_first true x y = x
+kept_first false x y = alt x y
+
+-- the rule on bytes that begin so (with none: on no bytes), without the alternatives that can't answer there
+abbrev pub among : {V : Type 0} → Option ℕ → Rule V → Rule V
+among (Some b) (alt x y) = kept (may_start x b) (may_start y b) (among (Some b) x) (among (Some b) y)
+among None (alt x y) = kept_first (wants_byte x) (among None x) y
+among first (gives f x) = gives f (among first x)
+among first other = other

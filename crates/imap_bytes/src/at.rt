@@ -1,0 +1,16 @@
+//! Readers that walk positions in one message. What they find of it is told by spans.
+//!
+//! Each reads m from p on as the reader of the same name reads a slice, and answers the position behind what it read in place of the rest. The condition of each is that p is at most m's length. Strings come as the span of their content, so that reading them takes no memory.
+
+pub mod lists;
+pub mod numbers;
+pub mod sets;
+pub mod span;
+pub mod strings;
+pub mod tags;
+
+pub use lists::{opt_opt, paren_delimited, parenthesized_list, parenthesized_nonempty_list};
+pub use numbers::{number, number_64};
+pub use sets::sequence_range;
+pub use span::Span;
+pub use strings::{astring, literal, nil, nstring, quoted, string};

@@ -1,0 +1,201 @@
+//! Strings at a position, as spans of their content. None takes memory.
+
+ghost use Rattle.std.specs.Prelude.{◌≡◌, ◌≤◌, ◌<◌, length, drop, position, IfSome};
+ghost use Rattle.imap_bytes.specs.Positions.{AnswersAt, ExactlyAt, Ahead, Inside, RestsOn, maybe_in, named_in};
+ghost use Rattle.imap_bytes.specs.Step.{step, take_step};
+ghost use Rattle.imap_bytes.specs.Meaning.{outside};
+ghost use Rattle.imap_bytes.specs.Rule.{run1, opt};
+ghost use Rattle.imap_bytes.specs.Classes as classes;
+ghost use Rattle.imap_bytes.specs.Strings as strings;
+
+use crate::answer::{Err, Needed};
+use crate::at::numbers::number;
+use crate::at::span::Span;
+use crate::at::tags::{cut1, tag, word};
+use crate::classes::{is_astring_char, is_quoted_char};
+use crate::first;
+
+fn plain_end(i: &[u8]) -> Option<usize>
+    ensures at { result ≡ position (outside classes.is_quoted_char) i.now }
+    ensures within { IfSome result (λ n. n < length i.now) }
+{
+    i.iter().position(|c| !is_quoted_char(*c))
+}
+
+fn plain(m: &[u8], p: usize) -> Result<(usize, Span), Err>
+    requires { p ≤ length m.now }
+    ensures steps { ExactlyAt (λ x. named_in m.now x) m.now result (step (run1 classes.is_quoted_char) (drop p m.now)) }
+    ensures inside { Inside m.now p result }
+{
+    let (_, i) = m.split_at(p);
+    cut1(plain_end(i), m, p)
+}
+
+#[tactic(auto, unfolding(crate::specs::Strings::quoted_part))]
+fn quoted_part(m: &[u8], p: usize) -> Result<(usize, Span), Err>
+    requires { p ≤ length m.now }
+    ensures steps { ExactlyAt (λ x. named_in m.now x) m.now result (step strings.quoted_part (drop p m.now)) }
+    ensures inside { Inside m.now p result }
+{
+    first!(plain(m, p));
+    first!(tag(b"\\\\", m, p));
+    tag(b"\\\"", m, p)
+}
+
+fn next_part(m: &[u8], p: usize) -> Result<(usize, Option<Span>), Err>
+    requires { p ≤ length m.now }
+    ensures steps { ExactlyAt (λ x. maybe_in m.now x) m.now result (step (opt strings.quoted_part) (drop p m.now)) }
+    ensures ahead { Ahead m.now p result }
+{
+    match quoted_part(m, p) {
+        Ok((q, part)) => Ok((q, Some(part))),
+        Err(Err::Error) => Ok((p, None)),
+        Err(e) => Err(e),
+    }
+}
+
+#[tactic(auto, unfolding(crate::specs::Strings::quoted_content))]
+fn quoted_content(m: &[u8], p: usize) -> Result<(usize, Span), Err>
+    requires { p ≤ length m.now }
+    ensures steps { ExactlyAt (λ x. named_in m.now x) m.now result (step strings.quoted_content (drop p m.now)) }
+    ensures inside { Inside m.now p result }
+{
+    let mut q = p;
+    'parts: loop {
+        let (after, part) = next_part(m, q)?;
+        match part {
+            None => return Ok((q, Span { start: p, end: q })),
+            Some(_) => q = after,
+        }
+    }
+}
+
+/// A quoted string: its raw content, backslashes and all (RFC 3501, section 9: quoted).
+#[tactic(auto, using(crate::proofs::Agreement::exact_answered_at), unfolding(crate::specs::Strings::quoted))]
+pub fn quoted(m: &[u8], p: usize) -> Result<(usize, Span), Err>
+    requires { p ≤ length m.now }
+    ensures steps { ExactlyAt (λ x. named_in m.now x) m.now result (step strings.quoted (drop p m.now)) }
+    ensures answer { AnswersAt strings.quoted (λ x. named_in m.now x) m.now p result }
+    ensures inside { Inside m.now p result }
+{
+    let (p, _) = tag(b"\"", m, p)?;
+    let (p, content) = quoted_content(m, p)?;
+    let (p, _) = tag(b"\"", m, p)?;
+    Ok((p, content))
+}
+
+#[tactic(auto, unfolding(crate::specs::Strings::literal_header))]
+fn literal_header(m: &[u8], p: usize) -> Result<(usize, u32), Err>
+    requires { p ≤ length m.now }
+    ensures steps { ExactlyAt (λ x. x) m.now result (step strings.literal_header (drop p m.now)) }
+    ensures ahead { Ahead m.now p result }
+{
+    let (p, _) = tag(b"{", m, p)?;
+    let (p, count) = number(m, p)?;
+    let (p, _) = tag(b"}", m, p)?;
+    let (p, _) = tag(b"\r\n", m, p)?;
+    Ok((p, count))
+}
+
+// So many bytes, of any value.
+#[tactic(auto, using(crate::proofs::Positions::stepped), unfolding(crate::specs::Step::take_step))]
+fn counted(count: usize, m: &[u8], p: usize) -> Result<(usize, Span), Err>
+    requires { p ≤ length m.now }
+    ensures steps { ExactlyAt (λ x. named_in m.now x) m.now result (take_step count (drop p m.now)) }
+    ensures inside { Inside m.now p result }
+{
+    let left = m.len() - p;
+    if left < count {
+        return Err(Err::Incomplete(Needed::Size(count - left)));
+    }
+    let q = p + count;
+    Ok((q, Span { start: p, end: q }))
+}
+
+/// A literal: as many bytes as its header says, of any value (RFC 3501, section 4.3).
+///
+/// Where fewer follow, `Needed::Size` is how many are missing.
+#[tactic(auto, using(crate::proofs::Agreement::exact_answered_at), unfolding(crate::specs::Strings::literal))]
+pub fn literal(m: &[u8], p: usize) -> Result<(usize, Span), Err>
+    requires { p ≤ length m.now }
+    ensures steps { ExactlyAt (λ x. named_in m.now x) m.now result (step strings.literal (drop p m.now)) }
+    ensures answer { AnswersAt strings.literal (λ x. named_in m.now x) m.now p result }
+    ensures inside { Inside m.now p result }
+{
+    let (p, count) = literal_header(m, p)?;
+    counted(count as usize, m, p)
+}
+
+/// A string: quoted, or a literal (RFC 3501, section 9: string).
+#[tactic(auto, using(crate::proofs::Agreement::exact_answered_at), unfolding(crate::specs::Strings::string))]
+pub fn string(m: &[u8], p: usize) -> Result<(usize, Span), Err>
+    requires { p ≤ length m.now }
+    ensures steps { ExactlyAt (λ x. named_in m.now x) m.now result (step strings.string (drop p m.now)) }
+    ensures answer { AnswersAt strings.string (λ x. named_in m.now x) m.now p result }
+    ensures inside { Inside m.now p result }
+{
+    match quoted(m, p) {
+        Err(Err::Error) => literal(m, p),
+        other => other,
+    }
+}
+
+fn astring_end(i: &[u8]) -> Option<usize>
+    ensures at { result ≡ position (outside classes.is_astring_char) i.now }
+    ensures within { IfSome result (λ n. n < length i.now) }
+{
+    i.iter().position(|c| !is_astring_char(*c))
+}
+
+/// At least one astring-char.
+pub fn astring_chars(m: &[u8], p: usize) -> Result<(usize, Span), Err>
+    requires { p ≤ length m.now }
+    ensures steps { ExactlyAt (λ x. named_in m.now x) m.now result (step (run1 classes.is_astring_char) (drop p m.now)) }
+    ensures inside { Inside m.now p result }
+{
+    let (_, i) = m.split_at(p);
+    cut1(astring_end(i), m, p)
+}
+
+/// Bare astring-chars, or a string (RFC 3501, section 9: astring).
+#[tactic(auto, using(crate::proofs::Agreement::exact_answered_at), unfolding(crate::specs::Strings::astring))]
+pub fn astring(m: &[u8], p: usize) -> Result<(usize, Span), Err>
+    requires { p ≤ length m.now }
+    ensures steps { ExactlyAt (λ x. named_in m.now x) m.now result (step strings.astring (drop p m.now)) }
+    ensures answer { AnswersAt strings.astring (λ x. named_in m.now x) m.now p result }
+    ensures inside { Inside m.now p result }
+{
+    match astring_chars(m, p) {
+        Err(Err::Error) => string(m, p),
+        other => other,
+    }
+}
+
+/// `NIL` in any case: the three bytes, whatever follows them (RFC 3501, section 9: nil).
+#[tactic(auto, using(crate::proofs::Agreement::exact_answered_at), unfolding(crate::specs::Strings::nil))]
+pub fn nil(m: &[u8], p: usize) -> Result<(usize, Span), Err>
+    requires { p ≤ length m.now }
+    ensures steps { ExactlyAt (λ x. named_in m.now x) m.now result (step strings.nil (drop p m.now)) }
+    ensures answer { AnswersAt strings.nil (λ x. named_in m.now x) m.now p result }
+    ensures inside { Inside m.now p result }
+{
+    word(b"NIL", m, p)
+}
+
+/// `NIL`, or a string (RFC 3501, section 9: nstring).
+#[tactic(auto, using(crate::proofs::Agreement::exact_answered_at), unfolding(crate::specs::Strings::nstring))]
+pub fn nstring(m: &[u8], p: usize) -> Result<(usize, Option<Span>), Err>
+    requires { p ≤ length m.now }
+    ensures steps { ExactlyAt (λ x. maybe_in m.now x) m.now result (step strings.nstring (drop p m.now)) }
+    ensures answer { AnswersAt strings.nstring (λ x. maybe_in m.now x) m.now p result }
+    ensures ahead { Ahead m.now p result }
+    ensures rests { RestsOn maybe_in result }
+{
+    match nil(m, p) {
+        Ok((q, _)) => return Ok((q, None)),
+        Err(Err::Error) => {}
+        Err(e) => return Err(e),
+    }
+    let (q, content) = string(m, p)?;
+    Ok((q, Some(content)))
+}
