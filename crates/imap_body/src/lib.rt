@@ -1,6 +1,7 @@
 //! Bodies of messages: sections, envelopes, body structures with their levels, and part search.
 #![tactic(auto)]
 
+mod maps;
 pub mod shapes;
 pub mod spans;
 mod types;

@@ -25,3 +25,7 @@ told_at h = record { met = h }
 pub behind_told_at : {S O : Type 0} (s : Meaning S) (answers : ℕ → Reached O → Type 0) (m : List ℕ) (p k : ℕ) (x : S) (result : Reached O) → s.yields (drop p m) x (drop k m) → k ≤ length m → answers k result → FollowsAt (behind_means s) answers (λ y. y) m p result
 behind_told_at s answers m p k x (Ok y) one le two = record { met = ((x, y.1), (drop k m, one, (k, y.0, refl, le, refl, two)), refl) }
 behind_told_at s answers m p k x (Err d) one le two = record { met = inr (x, drop k m, one, (k, refl, le, two)) }
+
+pub called_told_at : {O : Type 0} (answers : ℕ → Reached O → Type 0) (m : List ℕ) (p : ℕ) (result : Reached O) → p ≤ length m → answers p result → FollowsAt (λ a. a) answers (λ y. y) m p result
+called_told_at answers m p (Ok y) le one = record { met = (p, y.0, refl, le, refl, one) }
+called_told_at answers m p (Err d) le one = record { met = (p, refl, le, one) }

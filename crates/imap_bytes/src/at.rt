@@ -9,8 +9,8 @@ pub mod span;
 pub mod strings;
 pub mod tags;
 
-pub use lists::parenthesized_list;
-pub use numbers::number;
+pub use lists::{opt_opt, paren_delimited, parenthesized_list, parenthesized_nonempty_list};
+pub use numbers::{number, number_64};
 pub use sets::sequence_range;
 pub use span::Span;
 pub use strings::{astring, literal, nil, nstring, quoted, string};

@@ -2,14 +2,15 @@
 
 ghost use Rattle.std.specs.Prelude.{◌≡◌, ◌≤◌, ℕ, length, drop};
 ghost use Rattle.imap_bytes.specs.Positions.{ExactlyAt, Ahead, named_in};
-ghost use Rattle.imap_bytes.specs.PositionLists.{FollowsAt, Advances, Onward};
+ghost use Rattle.imap_bytes.specs.PositionLists.{FollowsAt, Advances, KeepsAhead, Onward};
 ghost use Rattle.imap_bytes.specs.Step.{step};
 ghost use Rattle.imap_bytes.specs.Rule.{meaning};
-ghost use Rattle.imap_bytes.specs.Lists.{or_memory, separator as separator_rule, behind_means, list1_means, list0_means, list_means};
+ghost use Rattle.imap_bytes.specs.Meaning.{many_means};
+ghost use Rattle.imap_bytes.specs.Lists.{or_memory, separator as separator_rule, behind_means, some1_means, list1_means, list0_means, list_means, nonempty_list_means, delimited_means, opt_opt_means};
 
 use crate::answer::Err;
 use crate::at::span::Span;
-use crate::at::tags::{blanks1, maybe_space, tag};
+use crate::at::tags::{blanks0, blanks1, maybe_space, tag};
 use crate::lists::{Separator, tried};
 use std::alloc::Global;
 
@@ -41,6 +42,68 @@ fn next_item<O: Drop, F: Fn(usize) -> Result<(usize, O), Err>>(
 {
     let (q, _) = read_separator(between, m, p)?;
     f(q)
+}
+
+// What f reads.
+fn one_item<O: Drop, F: Fn(usize) -> Result<(usize, O), Err>>(
+    f: &F,
+    m: &[u8],
+    p: usize,
+) -> Result<(usize, O), Err>
+    requires start { p ≤ length m.now }
+    requires may { (k : ℕ) → k ≤ length m.now → F.pre f.now k }
+    requires advances { Advances m.now (F.post f.now) }
+    ensures follows { FollowsAt (λ a. a) (F.post f.now) (λ x. x) m.now p result }
+    ensures onward { Onward m.now p result }
+{
+    f(p)
+}
+
+/// What f reads, as often as it does, with nothing between.
+///
+/// f has to consume at least a byte. Its `Incomplete` and `Failure` go through.
+pub fn repeated<O: Drop, F: Fn(usize) -> Result<(usize, O), Err>>(
+    alloc: Global,
+    f: F,
+    m: &[u8],
+    p: usize,
+) -> Result<(usize, Vec<O>), Err>
+    requires start { p ≤ length m.now }
+    requires may { (k : ℕ) → k ≤ length m.now → F.pre f k }
+    requires advances { Advances m.now (F.post f) }
+    ensures follows { FollowsAt (λ a. or_memory (many_means a)) (F.post f) (λ x. x.items) m.now p result }
+    ensures ahead { Ahead m.now p result }
+{
+    let mut q = p;
+    let mut items = Vec::new(alloc);
+    while let Some((next, item)) = tried(one_item(&f, m, q))? {
+        items.push(item)?;
+        q = next;
+    }
+    Ok((q, items))
+}
+
+/// The same, at least once.
+pub fn repeated_once<O: Drop, F: Fn(usize) -> Result<(usize, O), Err>>(
+    alloc: Global,
+    f: F,
+    m: &[u8],
+    p: usize,
+) -> Result<(usize, Vec<O>), Err>
+    requires start { p ≤ length m.now }
+    requires may { (k : ℕ) → k ≤ length m.now → F.pre f k }
+    requires advances { Advances m.now (F.post f) }
+    ensures follows { FollowsAt (λ a. or_memory (some1_means a)) (F.post f) (λ x. x.items) m.now p result }
+    ensures ahead { Ahead m.now p result }
+{
+    let (mut q, first) = f(p)?;
+    let mut items = Vec::new(alloc);
+    items.push(first)?;
+    while let Some((next, item)) = tried(one_item(&f, m, q))? {
+        items.push(item)?;
+        q = next;
+    }
+    Ok((q, items))
 }
 
 /// What f reads, and again behind each separator: one or more.
@@ -109,4 +172,60 @@ pub fn parenthesized_list<O: Drop, F: Fn(usize) -> Result<(usize, O), Err>>(
     let (p, _) = maybe_space(m, p)?;
     let (p, _) = tag(b")", m, p)?;
     Ok((p, items))
+}
+
+/// The same of at least one element, with spaces and tabs before the `)`.
+pub fn parenthesized_nonempty_list<O: Drop, F: Fn(usize) -> Result<(usize, O), Err>>(
+    alloc: Global,
+    f: F,
+    m: &[u8],
+    p: usize,
+) -> Result<(usize, Vec<O>), Err>
+    requires start { p ≤ length m.now }
+    requires may { (k : ℕ) → k ≤ length m.now → F.pre f k }
+    requires advances { Advances m.now (F.post f) }
+    ensures follows { FollowsAt (λ a. or_memory (nonempty_list_means a)) (F.post f) (λ x. x.items) m.now p result }
+    ensures ahead { Ahead m.now p result }
+{
+    let (p, _) = tag(b"(", m, p)?;
+    let (p, items) = separated(alloc, Separator::Space, f, m, p)?;
+    let (p, _) = blanks0(m, p)?;
+    let (p, _) = tag(b")", m, p)?;
+    Ok((p, items))
+}
+
+/// What f reads, in parentheses. It takes no memory of its own; f's `Incomplete` and `Failure` go through.
+pub fn paren_delimited<O: Drop, F: Fn(usize) -> Result<(usize, O), Err>>(
+    f: F,
+    m: &[u8],
+    p: usize,
+) -> Result<(usize, O), Err>
+    requires start { p ≤ length m.now }
+    requires may { (k : ℕ) → k ≤ length m.now → F.pre f k }
+    requires keeps { KeepsAhead m.now (F.post f) }
+    ensures follows { FollowsAt delimited_means (F.post f) (λ x. x) m.now p result }
+    ensures ahead { Ahead m.now p result }
+{
+    let (p, _) = tag(b"(", m, p)?;
+    let (p, item) = f(p)?;
+    let (p, _) = tag(b")", m, p)?;
+    Ok((p, item))
+}
+
+/// What f reads, and `None` at this place where it denies. It takes no memory of its own; f's `Incomplete` and `Failure` go through.
+pub fn opt_opt<O: Drop, F: Fn(usize) -> Result<(usize, Option<O>), Err>>(
+    f: F,
+    m: &[u8],
+    p: usize,
+) -> Result<(usize, Option<O>), Err>
+    requires start { p ≤ length m.now }
+    requires may { (k : ℕ) → k ≤ length m.now → F.pre f k }
+    requires keeps { KeepsAhead m.now (F.post f) }
+    ensures follows { FollowsAt opt_opt_means (F.post f) (λ x. x) m.now p result }
+    ensures ahead { Ahead m.now p result }
+{
+    match tried(f(p))? {
+        Some(found) => Ok(found),
+        None => Ok((p, None)),
+    }
 }
