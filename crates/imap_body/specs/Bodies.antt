@@ -1,6 +1,6 @@
 -- Structures of bodies, down to a level (RFC 3501, section 9: body, body-type-text, body-type-msg, body-type-basic, body-type-mpart).
 use Rattle.std.specs.Prelude.{ℕ, zero, suc, List, None, codes}
-use Rattle.imap_bytes.specs.Text.{Text, as_text}
+use Rattle.imap_bytes.specs.Text.{Bytes, Text, as_text}
 use Rattle.imap_bytes.specs.Rule.{Rule, gives, never, some1, ◌⨾◌, ◌▹◌, ◌◃◌, ◌or◌}
 use Rattle.imap_bytes.specs.Tags.{tag, word}
 use Rattle.imap_bytes.specs.Numbers.{number}
@@ -48,10 +48,13 @@ multipart_of v =
 unfoldable pub body_type_text : Rule BodyValue
 body_type_text = gives text_of_parts (word "\"TEXT\"" ▹ spaced string_utf8 ⨾ spaced body_fields ⨾ spaced number ⨾ body_ext_1part)
 
+unfoldable pub message_word : Rule Bytes
+message_word = word "\"MESSAGE\" \"RFC822\""
+
 -- body-type-msg = media-message SP body-fields SP envelope SP body SP body-fld-lines [SP body-ext-1part],
 -- where media-message = DQUOTE "MESSAGE" DQUOTE SP DQUOTE "RFC822" DQUOTE
 unfoldable pub body_type_msg : Rule BodyValue → Rule BodyValue
-body_type_msg body = gives message_of (word "\"MESSAGE\" \"RFC822\"" ▹ spaced body_fields ⨾ spaced envelope ⨾ spaced body ⨾ spaced number ⨾ body_ext_1part)
+body_type_msg body = gives message_of (message_word ▹ spaced body_fields ⨾ spaced envelope ⨾ spaced body ⨾ spaced number ⨾ body_ext_1part)
 
 -- body-type-basic = media-basic SP body-fields [SP body-ext-1part], where media-basic = string SP media-subtype
 unfoldable pub body_type_basic : Rule BodyValue
@@ -65,10 +68,18 @@ some_bodies body = some1 body
 unfoldable pub body_type_mpart : Rule BodyValue → Rule BodyValue
 body_type_mpart body = gives multipart_of (some_bodies body ⨾ spaced string_utf8 ⨾ body_ext_mpart)
 
--- body = "(" (body-type-1part / body-type-mpart) ")", with bodies inside up to the level below; at level 0 it denies without looking
+-- body-type-1part / body-type-mpart, the narrower types of a single part first
+unfoldable pub body_type : Rule BodyValue → Rule BodyValue
+body_type inner = body_type_text or body_type_msg inner or body_type_basic or body_type_mpart inner
+
+-- body = "(" (body-type-1part / body-type-mpart) ")"
+unfoldable pub bracketed_body : Rule BodyValue → Rule BodyValue
+bracketed_body inner = tag "(" ▹ body_type inner ◃ tag ")"
+
+-- a body, with bodies inside up to the level below; at level 0 it denies without looking
 unfoldable pub body : ℕ → Rule BodyValue
 body zero = never
-body (suc level) = tag "(" ▹ (body_type_text or body_type_msg (body level) or body_type_basic or body_type_mpart (body level)) ◃ tag ")"
+body (suc level) = bracketed_body (body level)
 
 -- a body, up to 100 inside one another
 unfoldable pub body_structure : Rule BodyValue

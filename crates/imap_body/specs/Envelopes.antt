@@ -57,6 +57,6 @@ unfoldable pub envelope : Rule EnvelopeValue
 envelope =
     gives envelope_of
     (tag "(" ▹ byte_string ⨾ spaced byte_string
-        ⨾ spaced addresses ⨾ spaced addresses ⨾ spaced addresses
-        ⨾ spaced addresses ⨾ spaced addresses ⨾ spaced addresses
-        ⨾ spaced byte_string ⨾ spaced byte_string ◃ tag ")")
+    ⨾ spaced addresses ⨾ spaced addresses ⨾ spaced addresses
+    ⨾ spaced addresses ⨾ spaced addresses ⨾ spaced addresses
+    ⨾ spaced byte_string ⨾ spaced byte_string ◃ tag ")")

@@ -30,23 +30,38 @@ some_languages = list1 sp string_utf8
 abbrev pub single : Option Text → Option (List Text)
 single t = option_map (λ x. x ∷ []) t
 
+-- "(" string *(SP string) ")"
+unfoldable pub language_list : Rule (Option (List Text))
+language_list = gives Some (tag "(" ▹ some_languages ◃ blanks0 ⨾ tag ")")
+
 -- body-fld-lang = nstring / "(" string *(SP string) ")"
 unfoldable pub body_fld_lang : Rule (Option (List Text))
-body_fld_lang = gives single nstring_utf8 or gives Some (tag "(" ▹ some_languages ◃ blanks0 ⨾ tag ")")
+body_fld_lang = gives single nstring_utf8 or language_list
 
 -- ---- extensions, down to a level
 
 -- number / nstring / a list
-abbrev pub extension_over : Rule ExtensionValue → Rule ExtensionValue
+unfoldable pub extension_over : Rule ExtensionValue → Rule ExtensionValue
 extension_over lists = gives Num number or gives Str nstring_utf8 or lists
 
--- "(" body-extension *(SP body-extension) ")", with lists inside up to the level below; at level 0 it denies without looking
+-- body-extension *(SP body-extension), where lists inside are those
+unfoldable pub some_extensions : Rule ExtensionValue → Rule (List ExtensionValue)
+some_extensions lists = list1 sp (extension_over lists)
+
+abbrev pub listed : List ExtensionValue → ExtensionValue
+listed es = Listed (extensions_of es)
+
+-- "(" body-extension *(SP body-extension) ")", where lists inside are those
+unfoldable pub bracketed_extensions : Rule ExtensionValue → Rule ExtensionValue
+bracketed_extensions lists = gives listed (tag "(" ▹ some_extensions lists ◃ blanks0 ⨾ tag ")")
+
+-- a list, with lists inside up to the level below; at level 0 it denies without looking
 unfoldable pub extension_list : ℕ → Rule ExtensionValue
 extension_list zero = never
-extension_list (suc level) = gives (λ es. Listed (extensions_of es)) (tag "(" ▹ list1 sp (extension_over (extension_list level)) ◃ blanks0 ⨾ tag ")")
+extension_list (suc level) = bracketed_extensions (extension_list level)
 
--- body-extension = nstring / number / "(" body-extension *(SP body-extension) ")"; up to so many lists inside one another
-unfoldable pub extension : ℕ → Rule ExtensionValue
+-- body-extension = nstring / number / "(" body-extension *(SP body-extension) ")", up to so many lists inside one another
+abbrev pub extension : ℕ → Rule ExtensionValue
 extension level = extension_over (extension_list level)
 
 -- body-extension, up to 100 lists inside one another

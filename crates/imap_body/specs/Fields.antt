@@ -22,9 +22,17 @@ some_params = list1 sp body_param
 unfoldable pub body_fld_param : Rule ParamsValue
 body_fld_param = nil_or (tag "(" ▹ some_params ◃ blanks0 ⨾ tag ")")
 
+-- "7BIT" / "8BIT" / "BINARY", which leave a body as it is
+unfoldable pub plain_encoding : Rule EncodingValue
+plain_encoding = names "7BIT" SevenBit or names "8BIT" EightBit or names "BINARY" Binary
+
+-- "BASE64" / "QUOTED-PRINTABLE"
+unfoldable pub coded_encoding : Rule EncodingValue
+coded_encoding = names "BASE64" Base64 or names "QUOTED-PRINTABLE" QuotedPrintable
+
 -- "7BIT" / "8BIT" / "BINARY" / "BASE64" / "QUOTED-PRINTABLE"
 unfoldable pub encoding_name : Rule EncodingValue
-encoding_name = names "7BIT" SevenBit or names "8BIT" EightBit or names "BINARY" Binary or names "BASE64" Base64 or names "QUOTED-PRINTABLE" QuotedPrintable
+encoding_name = plain_encoding or coded_encoding
 
 -- DQUOTE ("7BIT" / "8BIT" / "BINARY" / "BASE64" / "QUOTED-PRINTABLE") DQUOTE
 unfoldable pub quoted_encoding : Rule EncodingValue

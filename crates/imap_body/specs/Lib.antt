@@ -9,3 +9,4 @@ pub mod Envelopes
 pub mod Fields
 pub mod Extensions
 pub mod Bodies
+pub mod Spanned

@@ -1,5 +1,6 @@
 -- Sections of a message (RFC 3501, section 9: section, section-spec, section-part, section-text, section-msgtext, header-list).
 use Rattle.std.specs.Prelude.{ℕ, List, Option}
+use Rattle.imap_bytes.specs.Text.{Bytes}
 use Rattle.imap_bytes.specs.Rule.{Rule, gives, nothing, opt, otherwise, dropped, list1, ◌⨾◌, ◌▹◌, ◌◃◌, ◌or◌}
 use Rattle.imap_bytes.specs.Tags.{tag, word, names, sp}
 use Rattle.imap_bytes.specs.Numbers.{number}
@@ -16,9 +17,15 @@ header_names = dropped (list1 sp astring)
 unfoldable pub header_list : Rule (Unit {0})
 header_list = tag "(" ▹ otherwise header_names tt ◃ opt sp ⨾ tag ")"
 
+unfoldable pub fields_word : Rule Bytes
+fields_word = word "HEADER.FIELDS"
+
+unfoldable pub not_word : Rule Bytes
+not_word = word ".NOT"
+
 -- "HEADER.FIELDS" [".NOT"] SP header-list
 unfoldable pub header_fields : Rule MessageSection
-header_fields = word "HEADER.FIELDS" ▹ opt (word ".NOT") ▹ sp ▹ header_list ▹ nothing Header
+header_fields = fields_word ▹ opt not_word ▹ sp ▹ header_list ▹ nothing Header
 
 -- section-msgtext = "HEADER" / "HEADER.FIELDS" [".NOT"] SP header-list / "TEXT"; the longer word is tried first
 unfoldable pub section_msgtext : Rule MessageSection

@@ -1,15 +1,12 @@
 -- What spans name in a message.
-use Rattle.std.specs.Prelude.{ℕ, ◌-◌, take, drop, true, false, codes}
+use Rattle.std.specs.Prelude.{ℕ, true, false, codes}
 use Rattle.std.specs.declared.borrow.CowSlice.{CowSlice}
 use Rattle.std.specs.declared.borrow.CowSlice.TheVariants as slice
 use Rattle.imap_bytes.specs.Text.{Bytes, Text, decoded, as_text}
-use Rattle.imap_body.specs.declared.spans.Span.{Span}
+use Rattle.imap_bytes.specs.declared.at.span.Span.{Span}
+use Rattle.imap_bytes.specs.Positions.{named_in}
 use Rattle.imap_body.specs.declared.spans.SpannedText.{SpannedText}
 use Rattle.imap_body.specs.declared.spans.SpannedText.TheVariants as spanned
-
--- the bytes that a span names in m
-abbrev pub named_in : Bytes → Span → Bytes
-named_in m s = take (s.end - s.start) (drop s.start m)
 
 -- the byte string that a span names in m, as a text
 abbrev pub bytes_in : Bytes → Span → Text

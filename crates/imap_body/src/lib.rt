@@ -1,11 +1,15 @@
 //! Bodies of messages: sections, envelopes, body structures with their levels, and part search.
 #![tactic(auto)]
 
+pub mod at;
+pub mod laws;
 mod maps;
+pub mod readers;
 pub mod shapes;
 pub mod spans;
 mod types;
 
+pub use readers::sections::{section, section_msgtext, section_part};
 pub use types::bodies::{BodyContentCommon, BodyContentSinglePart, BodyStructure, ContentType};
 pub use types::envelopes::{Address, Envelope};
 pub use types::extensions::{BodyExt1Part, BodyExtMPart, BodyExtension, ContentDisposition};
