@@ -1,0 +1,7 @@
+pub mod Lists
+pub mod Trees
+pub mod Naming
+pub mod Gathering
+pub mod Seeing
+pub mod Levels
+pub mod Reading

@@ -1,0 +1,41 @@
+use Rattle.std.proofs.Common.{refl, [], ◌∷◌, ◌++◌, drop, arith, ◌<◌}
+use Rattle.std.proofs.lemmas.Result.{err_from_is_err_and}
+use Rattle.imap_bytes.specs.Strings.{astring}
+use Rattle.imap_body.specs.Envelopes.{spaced}
+use Rattle.imap_body.specs.Sections.{header_names}
+use Rattle.imap_body.proofs.Gathering.{first, next_one, all, stopped, onward}
+use Rattle.imap_body.proofs.at.sections.header_names.Goals as goal
+
+pub names-init : goal.names-init
+names-init c = record {
+  gathered = (_, first astring (spaced astring) _ _ _ c.in_ok-q.ensures.steps);
+  ahead = omega (arith, c.in_ok-q.ensures.inside);
+  within = omega (arith, c.in_ok-q.ensures.inside);
+}
+
+pub names-smaller : goal.names-smaller
+names-smaller c =
+    let less : c.names.q < c.in_ok-after.after = onward (spaced astring) c.args.m.now _ _ _ (rw c.in-Some.is at c.in_ok-after.ensures.steps) refl in
+    omega (arith, less, c.in_ok-after.ensures.ahead)
+
+pub names-preserved : goal.names-preserved
+names-preserved c =
+    let so_far = c.names.invariant.gathered in
+    record {
+      gathered = (_, next_one _ (spaced astring) so_far.0 _ _ _ so_far.1 (rw c.in-Some.is at c.in_ok-after.ensures.steps) refl);
+      ahead = omega (arith, c.names.invariant.ahead, c.in_ok-after.ensures.ahead);
+      within = c.in_ok-after.ensures.ahead.1;
+    }
+
+pub returns-in-None-clause-steps : goal.returns-in-None-clause-steps
+unfolding header_names
+returns-in-None-clause-steps c =
+    let so_far = c.names.invariant.gathered in
+    rw (all _ (spaced astring) so_far.0 _ _ so_far.1 (rw c.in-None.is at c.in_ok-after.ensures.steps)) refl
+
+pub returns-in_err-after-clause-steps : goal.returns-in_err-after-clause-steps
+unfolding header_names
+returns-in_err-after-clause-steps c =
+    let so_far = c.names.invariant.gathered in
+    let p = err_from_is_err_and c.from_residual-in_err-after.result c.from_residual-in_err-after.ensures.1 in
+    rw (p.1, p.2) (rw (stopped _ (spaced astring) so_far.0 _ c.in_err-after.field-0.0 so_far.1 c.in_err-after.ensures.steps) refl)

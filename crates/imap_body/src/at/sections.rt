@@ -1,0 +1,284 @@
+//! Sections at a position.
+
+ghost use Rattle.std.specs.Prelude.{◌≤◌, length, drop};
+ghost use Rattle.std.specs.Option.{option_map};
+ghost use Rattle.imap_bytes.specs.Positions.{ExactlyAt, GivesAt, Ahead, named_in};
+ghost use Rattle.imap_bytes.specs.Step.{step};
+ghost use Rattle.imap_bytes.specs.Rule.{opt, otherwise, ◌▹◌};
+ghost use Rattle.imap_bytes.specs.Strings as strings;
+ghost use Rattle.imap_bytes.specs.Numbers as numbers;
+ghost use Rattle.imap_bytes.specs.Tags as tags;
+ghost use Rattle.imap_body.specs.Sections as sections;
+ghost use Rattle.imap_body.specs.Envelopes.{spaced};
+ghost use Rattle.imap_body.specs.SectionValues.{path_value};
+ghost use Rattle.imap_body.specs.declared.types.sections.MessageSection.TheVariants as what;
+
+use crate::at::lists::list_of_one;
+use crate::spans::Span;
+use crate::types::sections::{MessageSection, SectionPath};
+use imap_bytes::at::numbers::number;
+use imap_bytes::at::strings::astring;
+use imap_bytes::at::tags::{maybe_space, tag, word};
+use imap_bytes::{Err, first};
+use std::alloc::Global;
+
+fn spaced_name(m: &[u8], p: usize) -> Result<(usize, Span), Err>
+    requires { p ≤ length m.now }
+    ensures steps { ExactlyAt (λ x. named_in m.now x) m.now result (step (spaced strings.astring) (drop p m.now)) }
+    ensures ahead { Ahead m.now p result }
+{
+    let (p, _) = tag(b" ", m, p)?;
+    astring(m, p)
+}
+
+fn next_name(m: &[u8], p: usize) -> Result<(usize, Option<Span>), Err>
+    requires { p ≤ length m.now }
+    ensures steps { ExactlyAt (λ x. option_map (λ y. named_in m.now y) x) m.now result (step (opt (spaced strings.astring)) (drop p m.now)) }
+    ensures ahead { Ahead m.now p result }
+{
+    match spaced_name(m, p) {
+        Ok((q, name)) => Ok((q, Some(name))),
+        Err(Err::Error) => Ok((p, None)),
+        Err(e) => Err(e),
+    }
+}
+
+// Names of header fields, read and dropped.
+#[tactic(auto, unfolding(crate::specs::Sections::header_names))]
+fn header_names(m: &[u8], p: usize) -> Result<(usize, ()), Err>
+    requires { p ≤ length m.now }
+    ensures steps { ExactlyAt (λ x. tt) m.now result (step sections.header_names (drop p m.now)) }
+    ensures ahead { Ahead m.now p result }
+{
+    let (mut q, _) = astring(m, p)?;
+    'names: loop {
+        let (after, name) = next_name(m, q)?;
+        match name {
+            None => return Ok((q, ())),
+            Some(_) => q = after,
+        }
+    }
+}
+
+fn maybe_header_names(m: &[u8], p: usize) -> Result<(usize, ()), Err>
+    requires { p ≤ length m.now }
+    ensures steps { ExactlyAt (λ x. tt) m.now result (step (otherwise sections.header_names tt) (drop p m.now)) }
+    ensures ahead { Ahead m.now p result }
+{
+    match header_names(m, p) {
+        Err(Err::Error) => Ok((p, ())),
+        other => other,
+    }
+}
+
+#[tactic(auto, unfolding(crate::specs::Sections::header_list))]
+fn header_list(m: &[u8], p: usize) -> Result<(usize, ()), Err>
+    requires { p ≤ length m.now }
+    ensures steps { ExactlyAt (λ x. tt) m.now result (step sections.header_list (drop p m.now)) }
+    ensures ahead { Ahead m.now p result }
+{
+    let (p, _) = tag(b"(", m, p)?;
+    let (p, _) = maybe_header_names(m, p)?;
+    let (p, _) = maybe_space(m, p)?;
+    let (p, _) = tag(b")", m, p)?;
+    Ok((p, ()))
+}
+
+#[tactic(auto, unfolding(crate::specs::Sections::fields_word))]
+fn fields_word(m: &[u8], p: usize) -> Result<(usize, Span), Err>
+    requires { p ≤ length m.now }
+    ensures steps { ExactlyAt (λ x. named_in m.now x) m.now result (step sections.fields_word (drop p m.now)) }
+    ensures ahead { Ahead m.now p result }
+{
+    word(b"HEADER.FIELDS", m, p)
+}
+
+#[tactic(auto, unfolding(crate::specs::Sections::not_word))]
+fn maybe_not(m: &[u8], p: usize) -> Result<(usize, Option<Span>), Err>
+    requires { p ≤ length m.now }
+    ensures steps { ExactlyAt (λ x. option_map (λ y. named_in m.now y) x) m.now result (step (opt sections.not_word) (drop p m.now)) }
+    ensures ahead { Ahead m.now p result }
+{
+    match word(b".NOT", m, p) {
+        Ok((q, not)) => Ok((q, Some(not))),
+        Err(Err::Error) => Ok((p, None)),
+        Err(e) => Err(e),
+    }
+}
+
+#[tactic(auto, unfolding(crate::specs::Sections::header_fields))]
+fn header_fields(m: &[u8], p: usize) -> Result<(usize, MessageSection), Err>
+    requires { p ≤ length m.now }
+    ensures steps { ExactlyAt (λ x. x) m.now result (step sections.header_fields (drop p m.now)) }
+    ensures ahead { Ahead m.now p result }
+{
+    let (p, _) = fields_word(m, p)?;
+    let (p, _) = maybe_not(m, p)?;
+    let (p, _) = tag(b" ", m, p)?;
+    let (p, _) = header_list(m, p)?;
+    Ok((p, MessageSection::Header))
+}
+
+fn header(m: &[u8], p: usize) -> Result<(usize, MessageSection), Err>
+    requires { p ≤ length m.now }
+    ensures steps { ExactlyAt (λ x. x) m.now result (step (tags.names "HEADER" what.Header) (drop p m.now)) }
+    ensures ahead { Ahead m.now p result }
+{
+    let (p, _) = word(b"HEADER", m, p)?;
+    Ok((p, MessageSection::Header))
+}
+
+fn text(m: &[u8], p: usize) -> Result<(usize, MessageSection), Err>
+    requires { p ≤ length m.now }
+    ensures steps { ExactlyAt (λ x. x) m.now result (step (tags.names "TEXT" what.Text) (drop p m.now)) }
+    ensures ahead { Ahead m.now p result }
+{
+    let (p, _) = word(b"TEXT", m, p)?;
+    Ok((p, MessageSection::Text))
+}
+
+fn mime(m: &[u8], p: usize) -> Result<(usize, MessageSection), Err>
+    requires { p ≤ length m.now }
+    ensures steps { ExactlyAt (λ x. x) m.now result (step (tags.names "MIME" what.Mime) (drop p m.now)) }
+    ensures ahead { Ahead m.now p result }
+{
+    let (p, _) = word(b"MIME", m, p)?;
+    Ok((p, MessageSection::Mime))
+}
+
+/// What of a message is meant (RFC 3501, section 9: section-msgtext). No memory: names of header fields are read and dropped.
+#[tactic(auto, unfolding(crate::specs::Sections::section_msgtext))]
+pub fn section_msgtext(m: &[u8], p: usize) -> Result<(usize, MessageSection), Err>
+    requires { p ≤ length m.now }
+    ensures steps { ExactlyAt (λ x. x) m.now result (step sections.section_msgtext (drop p m.now)) }
+    ensures ahead { Ahead m.now p result }
+{
+    first!(header_fields(m, p));
+    first!(header(m, p));
+    text(m, p)
+}
+
+/// What of a part is meant (RFC 3501, section 9: section-text). No memory.
+#[tactic(auto, unfolding(crate::specs::Sections::section_text))]
+pub fn section_text(m: &[u8], p: usize) -> Result<(usize, MessageSection), Err>
+    requires { p ≤ length m.now }
+    ensures steps { ExactlyAt (λ x. x) m.now result (step sections.section_text (drop p m.now)) }
+    ensures ahead { Ahead m.now p result }
+{
+    first!(section_msgtext(m, p));
+    mime(m, p)
+}
+
+fn dotted_number(m: &[u8], p: usize) -> Result<(usize, u32), Err>
+    requires { p ≤ length m.now }
+    ensures steps { ExactlyAt (λ x. x) m.now result (step (tags.tag "." ▹ numbers.number) (drop p m.now)) }
+    ensures ahead { Ahead m.now p result }
+{
+    let (p, _) = tag(b".", m, p)?;
+    number(m, p)
+}
+
+fn next_number(m: &[u8], p: usize) -> Result<(usize, Option<u32>), Err>
+    requires { p ≤ length m.now }
+    ensures steps { ExactlyAt (λ x. option_map (λ n. n) x) m.now result (step (opt (tags.tag "." ▹ numbers.number)) (drop p m.now)) }
+    ensures ahead { Ahead m.now p result }
+{
+    match dotted_number(m, p) {
+        Ok((q, n)) => Ok((q, Some(n))),
+        Err(Err::Error) => Ok((p, None)),
+        Err(e) => Err(e),
+    }
+}
+
+/// The path of a part (RFC 3501, section 9: section-part).
+#[tactic(auto, unfolding(crate::specs::Sections::section_part))]
+pub fn section_part(alloc: Global, m: &[u8], p: usize) -> Result<(usize, Vec<u32>), Err>
+    requires { p ≤ length m.now }
+    ensures steps { GivesAt (λ x. x.items) m.now result (step sections.section_part (drop p m.now)) }
+    ensures ahead { Ahead m.now p result }
+{
+    let (mut q, first) = number(m, p)?;
+    let mut items = list_of_one(alloc, first)?;
+    'numbers: loop {
+        let (after, next) = next_number(m, q)?;
+        match next {
+            None => return Ok((q, items)),
+            Some(n) => {
+                items.push(n)?;
+                q = after;
+            }
+        }
+    }
+}
+
+#[tactic(auto, unfolding(crate::specs::Sections::part_text))]
+fn part_text(m: &[u8], p: usize) -> Result<(usize, MessageSection), Err>
+    requires { p ≤ length m.now }
+    ensures steps { ExactlyAt (λ x. x) m.now result (step sections.part_text (drop p m.now)) }
+    ensures ahead { Ahead m.now p result }
+{
+    let (p, _) = tag(b".", m, p)?;
+    section_text(m, p)
+}
+
+fn maybe_part_text(m: &[u8], p: usize) -> Result<(usize, Option<MessageSection>), Err>
+    requires { p ≤ length m.now }
+    ensures steps { ExactlyAt (λ x. x) m.now result (step (opt sections.part_text) (drop p m.now)) }
+    ensures ahead { Ahead m.now p result }
+{
+    match part_text(m, p) {
+        Ok((q, what)) => Ok((q, Some(what))),
+        Err(Err::Error) => Ok((p, None)),
+        Err(e) => Err(e),
+    }
+}
+
+#[tactic(auto, unfolding(crate::specs::Sections::part_path))]
+fn part_path(alloc: Global, m: &[u8], p: usize) -> Result<(usize, SectionPath), Err>
+    requires { p ≤ length m.now }
+    ensures steps { GivesAt (λ x. path_value x) m.now result (step sections.part_path (drop p m.now)) }
+    ensures ahead { Ahead m.now p result }
+{
+    let (p, numbers) = section_part(alloc, m, p)?;
+    let (p, what) = maybe_part_text(m, p)?;
+    Ok((p, SectionPath::Part(numbers, what)))
+}
+
+/// What of a message is meant, or of which part (RFC 3501, section 9: section-spec).
+#[tactic(auto, unfolding(crate::specs::Sections::section_spec))]
+pub fn section_spec(alloc: Global, m: &[u8], p: usize) -> Result<(usize, SectionPath), Err>
+    requires { p ≤ length m.now }
+    ensures steps { GivesAt (λ x. path_value x) m.now result (step sections.section_spec (drop p m.now)) }
+    ensures ahead { Ahead m.now p result }
+{
+    match section_msgtext(m, p) {
+        Ok((q, what)) => Ok((q, SectionPath::Full(what))),
+        Err(Err::Error) => part_path(alloc, m, p),
+        Err(e) => Err(e),
+    }
+}
+
+fn maybe_spec(alloc: Global, m: &[u8], p: usize) -> Result<(usize, Option<SectionPath>), Err>
+    requires { p ≤ length m.now }
+    ensures steps { GivesAt (λ x. option_map path_value x) m.now result (step (opt sections.section_spec) (drop p m.now)) }
+    ensures ahead { Ahead m.now p result }
+{
+    match section_spec(alloc, m, p) {
+        Ok((q, path)) => Ok((q, Some(path))),
+        Err(Err::Error) => Ok((p, None)),
+        Err(e) => Err(e),
+    }
+}
+
+/// A section in brackets, maybe an empty one (RFC 3501, section 9: section).
+#[tactic(auto, unfolding(crate::specs::Sections::section))]
+pub fn section(alloc: Global, m: &[u8], p: usize) -> Result<(usize, Option<SectionPath>), Err>
+    requires { p ≤ length m.now }
+    ensures steps { GivesAt (λ x. option_map path_value x) m.now result (step sections.section (drop p m.now)) }
+    ensures ahead { Ahead m.now p result }
+{
+    let (p, _) = tag(b"[", m, p)?;
+    let (p, path) = maybe_spec(alloc, m, p)?;
+    let (p, _) = tag(b"]", m, p)?;
+    Ok((p, path))
+}

@@ -1,0 +1,34 @@
+//! Laws of the rules of this crate, as contracts of functions that do nothing.
+
+ghost use Rattle.std.specs.Prelude.{ℕ};
+ghost use Rattle.imap_bytes.specs.Stable.{Stable};
+ghost use Rattle.imap_body.specs.Sections as sections;
+ghost use Rattle.imap_body.specs.Envelopes as envelopes;
+ghost use Rattle.imap_body.specs.Fields as fields;
+ghost use Rattle.imap_body.specs.Extensions as extensions;
+ghost use Rattle.imap_body.specs.Bodies as bodies;
+
+/// Each rule has one answer, and appended bytes change neither a value nor a denial, and make what is lacking as much smaller.
+#[tactic(auto, using(imap_bytes::proofs::Stability::is_stable))]
+pub fn stable()
+    ensures header_list { Stable sections.header_list }
+    ensures section_msgtext { Stable sections.section_msgtext }
+    ensures section_text { Stable sections.section_text }
+    ensures section_part { Stable sections.section_part }
+    ensures section_spec { Stable sections.section_spec }
+    ensures section { Stable sections.section }
+    ensures address { Stable envelopes.address }
+    ensures addresses { Stable envelopes.addresses }
+    ensures envelope { Stable envelopes.envelope }
+    ensures body_fld_param { Stable fields.body_fld_param }
+    ensures body_fld_enc { Stable fields.body_fld_enc }
+    ensures body_fields { Stable fields.body_fields }
+    ensures body_fld_dsp { Stable extensions.body_fld_dsp }
+    ensures body_fld_lang { Stable extensions.body_fld_lang }
+    ensures extension { (level : ℕ) → Stable (extensions.extension level) }
+    ensures body_extension { Stable extensions.body_extension }
+    ensures body_ext_1part { Stable extensions.body_ext_1part }
+    ensures body_ext_mpart { Stable extensions.body_ext_mpart }
+    ensures body { (level : ℕ) → Stable (bodies.body level) }
+    ensures body_structure { Stable bodies.body_structure }
+{}

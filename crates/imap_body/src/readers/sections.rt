@@ -1,0 +1,75 @@
+//! Sections.
+
+ghost use Rattle.std.specs.Option.{option_map};
+ghost use Rattle.imap_bytes.specs.Answer.{Answers, Exactly, Gives};
+ghost use Rattle.imap_bytes.specs.Step.{step};
+ghost use Rattle.imap_body.specs.Sections as sections;
+ghost use Rattle.imap_body.specs.SectionValues.{path_value};
+
+use crate::at;
+use crate::types::sections::{MessageSection, SectionPath};
+use imap_bytes::IResult;
+use imap_bytes::at::span::rest;
+use std::alloc::Global;
+
+/// The path of a part: numbers by dots (RFC 3501, section 9: section-part, zero allowed).
+///
+/// It takes memory for the path.
+#[tactic(auto, using(imap_bytes::proofs::Agreement::answered))]
+pub fn section_part(alloc: Global, i: &[u8]) -> IResult<&[u8], Vec<u32>>
+    ensures steps { Gives (λ x. x.items) result (step sections.section_part i.now) }
+    ensures answer { Answers sections.section_part (λ x. x.items) i.now result }
+{
+    let (q, path) = at::sections::section_part(alloc, i, 0)?;
+    Ok((rest(i, q), path))
+}
+
+/// `HEADER`, `HEADER.FIELDS` or `HEADER.FIELDS.NOT` with names of header fields, or `TEXT` (RFC 3501, section 9: section-msgtext).
+///
+/// It takes no memory: the names are read and dropped. Where the names are denied, `HEADER` alone is read.
+#[tactic(auto, using(imap_bytes::proofs::Agreement::exact_answered))]
+pub fn section_msgtext(i: &[u8]) -> IResult<&[u8], MessageSection>
+    ensures steps { Exactly (λ x. x) result (step sections.section_msgtext i.now) }
+    ensures answer { Answers sections.section_msgtext (λ x. x) i.now result }
+{
+    let (q, what) = at::sections::section_msgtext(i, 0)?;
+    Ok((rest(i, q), what))
+}
+
+/// A section in brackets, `None` where they are empty (RFC 3501, section 9: section).
+///
+/// It takes memory for the path of a part.
+#[tactic(auto, using(imap_bytes::proofs::Agreement::answered))]
+pub fn section(alloc: Global, i: &[u8]) -> IResult<&[u8], Option<SectionPath>>
+    ensures steps { Gives (λ x. option_map path_value x) result (step sections.section i.now) }
+    ensures answer { Answers sections.section (λ x. option_map path_value x) i.now result }
+{
+    let (q, path) = at::sections::section(alloc, i, 0)?;
+    Ok((rest(i, q), path))
+}
+
+impl MessageSection {
+    /// What `section_msgtext` reads, or `MIME` (RFC 3501, section 9: section-text). It takes no memory.
+    #[tactic(auto, using(imap_bytes::proofs::Agreement::exact_answered))]
+    pub fn parse(i: &[u8]) -> IResult<&[u8], MessageSection>
+        ensures steps { Exactly (λ x. x) result (step sections.section_text i.now) }
+        ensures answer { Answers sections.section_text (λ x. x) i.now result }
+    {
+        let (q, what) = at::sections::section_text(i, 0)?;
+        Ok((rest(i, q), what))
+    }
+}
+
+impl SectionPath {
+    /// What of a message is meant, or of which part (RFC 3501, section 9: section-spec).
+    ///
+    /// It takes memory for the path of a part.
+    #[tactic(auto, using(imap_bytes::proofs::Agreement::answered))]
+    pub fn parse(alloc: Global, i: &[u8]) -> IResult<&[u8], SectionPath>
+        ensures steps { Gives (λ x. path_value x) result (step sections.section_spec i.now) }
+        ensures answer { Answers sections.section_spec (λ x. path_value x) i.now result }
+    {
+        let (q, path) = at::sections::section_spec(alloc, i, 0)?;
+        Ok((rest(i, q), path))
+    }
+}

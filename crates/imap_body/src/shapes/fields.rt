@@ -1,0 +1,31 @@
+//! Parameters, encodings and fields of bodies.
+
+/// Parameters, if there are any: names and values (RFC 3501, section 9: body-fld-param).
+pub type BodyParams<S> = Option<Vec<(S, S)>>;
+
+/// How a body is encoded (RFC 3501, section 9: body-fld-enc).
+#[derive(Debug, Drop, PartialEq, Eq)]
+pub enum ContentEncoding<S> {
+    /// `7BIT`, or none was named.
+    SevenBit,
+    /// `8BIT`
+    EightBit,
+    /// `BINARY`
+    Binary,
+    /// `BASE64`
+    Base64,
+    /// `QUOTED-PRINTABLE`
+    QuotedPrintable,
+    /// Any other.
+    Other(S),
+}
+
+/// The fields of a single part (RFC 3501, section 9: body-fields).
+#[derive(Drop)]
+pub struct BodyFields<S> {
+    pub param: BodyParams<S>,
+    pub id: Option<S>,
+    pub description: Option<S>,
+    pub transfer_encoding: ContentEncoding<S>,
+    pub octets: u32,
+}

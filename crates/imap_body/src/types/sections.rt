@@ -1,0 +1,21 @@
+//! Sections of a body.
+
+/// What of a part is meant (RFC 3501, section 9: section-msgtext, section-text).
+#[derive(Clone, Copy, Debug, PartialEq, Eq)]
+pub enum MessageSection {
+    /// `HEADER`, and its `.FIELDS` and `.FIELDS.NOT`.
+    Header,
+    /// `MIME`
+    Mime,
+    /// `TEXT`
+    Text,
+}
+
+/// What of a message is meant (RFC 3501, section 9: section-spec).
+#[derive(Debug, Drop, PartialEq, Eq)]
+pub enum SectionPath {
+    /// The whole message.
+    Full(MessageSection),
+    /// The part at a path, and what of it.
+    Part(Vec<u32>, Option<MessageSection>),
+}
