@@ -1,0 +1,78 @@
+//! What an answer says, as text.
+
+use imap_bytes::texts::decode;
+use imap_proto::Response;
+use imap_proto::imap_core::IResult;
+use std::alloc::{AllocError, Global};
+use std::borrow::CowStr;
+use std::fmt::Debug;
+use std::process::Abort;
+
+/// Inputs, each with what a reader answers.
+pub type Rows = &'static [(&'static [u8], &'static str)];
+
+// The debug text of what was read, and the bytes behind it where there are any; or why nothing was read.
+fn told<T: Debug + Drop>(alloc: Global, answer: IResult<&[u8], T>) -> Result<String, AllocError> {
+    match answer {
+        Ok((rest, value)) => {
+            if rest.is_empty() {
+                return format!(in alloc; "{value:?}");
+            }
+            let rest = decode(alloc, rest)?;
+            format!(in alloc; "{value:?} then {rest:?}")
+        }
+        Err(error) => format!(in alloc; "{error:?}"),
+    }
+}
+
+/// Whether a reader's answer is told so.
+pub fn says<T: Debug + Drop>(alloc: Global, answer: IResult<&[u8], T>, want: &str) -> bool {
+    match told(alloc, answer) {
+        Ok(text) => text.as_str() == want,
+        Err(_) => false,
+    }
+}
+
+/// Whether the answer of a reader of byte strings is told so, the string as text.
+pub fn says_bytes(alloc: Global, answer: IResult<&[u8], &[u8]>, want: &str) -> bool {
+    match answer {
+        Ok((rest, bytes)) => match decode(alloc, bytes) {
+            Ok(text) => says(alloc, Ok((rest, text)), want),
+            Err(_) => false,
+        },
+        Err(error) => says(alloc, Err::<(&[u8], CowStr<'_>), _>(error), want),
+    }
+}
+
+/// Asserts that `Response::parse` answers each line of the tables as its row says.
+pub fn assert_lines(rt: &impl Abort, alloc: Global, tables: &[Rows]) {
+    for rows in tables {
+        for (line, want) in *rows {
+            assert!(rt; says(alloc, Response::parse(alloc, line), want), "{want}");
+        }
+    }
+}
+
+/// A text with its mark.
+#[derive(Debug, Drop)]
+pub enum Marked<'a> {
+    /// Lent by the message.
+    Borrowed(&'a str),
+    /// Of its own memory.
+    Owned(&'a str),
+}
+
+pub fn with_mark<'a>(text: &'a CowStr<'_>) -> Marked<'a> {
+    match text {
+        CowStr::Borrowed(text) => Marked::Borrowed(*text),
+        CowStr::Owned(text) => Marked::Owned(text.as_str()),
+    }
+}
+
+/// Whether the answer of a reader of texts is told so, with the text's mark.
+pub fn says_marked(alloc: Global, answer: IResult<&[u8], CowStr<'_>>, want: &str) -> bool {
+    match answer {
+        Ok((rest, text)) => says(alloc, Ok((rest, with_mark(&text))), want),
+        Err(error) => says(alloc, Err::<(&[u8], CowStr<'_>), _>(error), want),
+    }
+}

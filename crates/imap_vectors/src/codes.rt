@@ -1,0 +1,149 @@
+//! Response codes and capabilities.
+
+use crate::answers::{Rows, assert_lines};
+use std::test::*;
+
+const WITHOUT_DATA: Rows = &[
+    (
+        b"* OK [ALERT] \r\n",
+        r#"Data { status: Ok, outcome: Outcome { code: Some(Alert), information: Some("") } }"#,
+    ),
+    (
+        b"* OK [ALERT]\r\n",
+        "Data { status: Ok, outcome: Outcome { code: Some(Alert), information: None } }",
+    ),
+    (
+        b"* OK [ALERT]\xc3\xa9\r\n",
+        r#"Data { status: Ok, outcome: Outcome { code: Some(Alert), information: Some("") } }"#,
+    ),
+    (
+        b"* NO [Parse] x\r\n",
+        r#"Data { status: No, outcome: Outcome { code: Some(Parse), information: Some("x") } }"#,
+    ),
+    (
+        b"+ [READ-ONLY]\r\n",
+        "Continue(Outcome { code: Some(ReadOnly), information: None })",
+    ),
+    (
+        b"+ [READ-WRITE]\r\n",
+        "Continue(Outcome { code: Some(ReadWrite), information: None })",
+    ),
+    (
+        b"+ [TRYCREATE]\r\n",
+        "Continue(Outcome { code: Some(TryCreate), information: None })",
+    ),
+    (
+        b"+ [UIDNOTSTICKY]\r\n",
+        "Continue(Outcome { code: Some(UidNotSticky), information: None })",
+    ),
+    (
+        b"+ [METADATA TOOMANY]\r\n",
+        "Continue(Outcome { code: Some(MetadataTooMany), information: None })",
+    ),
+    (
+        b"+ [METADATA NOPRIVATE]\r\n",
+        "Continue(Outcome { code: Some(MetadataNoPrivate), information: None })",
+    ),
+];
+
+const WITH_NUMBERS: Rows = &[
+    (
+        b"* OK [UIDNEXT 4392] x\r\n",
+        r#"Data { status: Ok, outcome: Outcome { code: Some(UidNext(4392)), information: Some("x") } }"#,
+    ),
+    (
+        b"+ [UIDVALIDITY 3857529045]\r\n",
+        "Continue(Outcome { code: Some(UidValidity(3857529045)), information: None })",
+    ),
+    (
+        b"+ [UNSEEN 12]\r\n",
+        "Continue(Outcome { code: Some(Unseen(12)), information: None })",
+    ),
+    (
+        b"+ [HIGHESTMODSEQ 18446744073709551615]\r\n",
+        "Continue(Outcome { code: Some(HighestModSeq(18446744073709551615)), information: None })",
+    ),
+    (
+        b"+ [METADATA LONGENTRIES 4294967296]\r\n",
+        "Continue(Outcome { code: Some(MetadataLongEntries(4294967296)), information: None })",
+    ),
+    (
+        b"+ [METADATA MAXSIZE 1024]\r\n",
+        "Continue(Outcome { code: Some(MetadataMaxSize(1024)), information: None })",
+    ),
+];
+
+const WITH_LISTS: Rows = &[
+    (
+        b"+ [BADCHARSET]\r\n",
+        "Continue(Outcome { code: Some(BadCharset(None)), information: None })",
+    ),
+    (
+        b"+ [BADCHARSET (US-ASCII \"UTF-8\" )]\r\n",
+        r#"Continue(Outcome { code: Some(BadCharset(Some(["US-ASCII", "UTF-8"]))), information: None })"#,
+    ),
+    (
+        b"* OK [CAPABILITY IMAP4rev1 AUTH=PLAIN X] r\r\n",
+        r#"Data { status: Ok, outcome: Outcome { code: Some(Capabilities([Imap4rev1, Auth("PLAIN"), Atom("X")])), information: Some("r") } }"#,
+    ),
+    (
+        b"* OK [PERMANENTFLAGS (\\Seen \\*)] l\r\n",
+        r#"Data { status: Ok, outcome: Outcome { code: Some(PermanentFlags(["\\Seen", "\\*"])), information: Some("l") } }"#,
+    ),
+    (
+        b"* OK [APPENDUID 38505 4:2]\r\n",
+        "Data { status: Ok, outcome: Outcome { code: Some(AppendUid(38505, [UidRange(2..=4)])), information: None } }",
+    ),
+    (
+        b"* OK [COPYUID 9 1:2,5 7] d\r\n",
+        r#"Data { status: Ok, outcome: Outcome { code: Some(CopyUid(9, [UidRange(1..=2), Uid(5)], [Uid(7)])), information: Some("d") } }"#,
+    ),
+];
+
+// What is no code is text, in which a literal that was promised is still waited for.
+const TEXT_IN_BRACKETS: Rows = &[
+    (b"* OK [BADCHARSET ({5}\r\n", "Incomplete(Size(5))"),
+    (
+        b"* OK [BADCHARSET ({5}\r\nabcdex",
+        r#"Data { status: Ok, outcome: Outcome { code: None, information: Some("[BADCHARSET ({5}") } } then "abcdex""#,
+    ),
+    (
+        b"* OK [CAPABILITY X] r\r\n",
+        r#"Data { status: Ok, outcome: Outcome { code: None, information: Some("[CAPABILITY X] r") } }"#,
+    ),
+    (
+        b"* OK [MAILBOXID (F1)] x\r\n",
+        r#"Data { status: Ok, outcome: Outcome { code: None, information: Some("[MAILBOXID (F1)] x") } }"#,
+    ),
+];
+
+const CAPABILITIES: Rows = &[
+    (
+        b"* CAPABILITY IMAP4rev1 AUTH=PLAIN X\r\n",
+        r#"Capabilities([Imap4rev1, Auth("PLAIN"), Atom("X")])"#,
+    ),
+    (b"* CAPABILITY IMAP4rev2\r\n", "Error"),
+    (b"* CAPABILITY IMAP4rev12\r\n", "Error"),
+    (b"* ENABLED\r\n", "Capabilities([])"),
+    (
+        b"* ENABLED IMAP4rev1\r\n",
+        r#"Capabilities([Atom("IMAP4rev1")])"#,
+    ),
+    (
+        b"* ENABLED IMAP4rev1x\r\n",
+        r#"Capabilities([Atom("IMAP4rev1x")])"#,
+    ),
+];
+
+pub const LINES: &[Rows] = &[
+    WITHOUT_DATA,
+    WITH_NUMBERS,
+    WITH_LISTS,
+    TEXT_IN_BRACKETS,
+    CAPABILITIES,
+];
+
+#[test]
+fn lines_with_codes_and_capabilities(rt: HostRuntime) {
+    assert_lines(&rt, rt.alloc(), LINES);
+}

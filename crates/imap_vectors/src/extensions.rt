@@ -1,0 +1,96 @@
+//! Lines of extensions: VANISHED, QUOTA, QUOTAROOT, ID, ACL, LISTRIGHTS and MYRIGHTS.
+
+use crate::answers::{Rows, assert_lines};
+use std::test::*;
+
+const VANISHED: Rows = &[
+    (
+        b"* VANISHED 4:2\r\n",
+        "Vanished { earlier: false, uids: [4..=2] }",
+    ),
+    (
+        b"* VANISHED (EARLIER) 41,43:116\r\n",
+        "Vanished { earlier: true, uids: [41..=41, 43..=116] }",
+    ),
+    (b"* VANISHED", "Incomplete(Unknown)"),
+    (b"* VANISHED (EARLY) 1\r\n", "Error"),
+];
+
+const QUOTAS: Rows = &[
+    (
+        b"* QUOTA \"\" (\"STORAGE\" 1 2)\r\n",
+        r#"Quota(Quota { root_name: "", resources: [QuotaResource { name: Atom("STORAGE"), usage: 1, limit: 2 }] })"#,
+    ),
+    (
+        b"* QUOTA \"\" (STORAGE 1 2)\r\n",
+        r#"Quota(Quota { root_name: "", resources: [QuotaResource { name: Storage, usage: 1, limit: 2 }] })"#,
+    ),
+    (
+        b"* QUOTA a (message 3\t4)\r\n",
+        r#"Quota(Quota { root_name: "a", resources: [QuotaResource { name: Message, usage: 3, limit: 4 }] })"#,
+    ),
+    (
+        b"* QUOTA \"\" ()\r\n",
+        r#"Quota(Quota { root_name: "", resources: [] })"#,
+    ),
+    (b"* QUOTA \"\" (STORAGE2 1 2)\r\n", "Error"),
+    (
+        b"* QUOTA \"\" (STORAGE 18446744073709551616 2)\r\n",
+        "Error",
+    ),
+    (
+        b"* QUOTAROOT NIL\r\n",
+        r#"QuotaRoot(QuotaRoot { mailbox_name: "NIL", quota_root_names: [] })"#,
+    ),
+    (
+        b"* QUOTAROOT INBOX \"\" user\r\n",
+        r#"QuotaRoot(QuotaRoot { mailbox_name: "INBOX", quota_root_names: ["", "user"] })"#,
+    ),
+];
+
+const IDENTITIES: Rows = &[
+    (
+        b"* ID (\"a\" \"1\" \"b\" NIL \"a\" \"2\")\r\n",
+        r#"Id(Some({"a": "2"}))"#,
+    ),
+    (b"* ID (\"a\" NIL)\r\n", "Id(Some({}))"),
+    (b"* ID NIL\r\n", "Id(None)"),
+    (b"* I", "Incomplete(Unknown)"),
+    (b"* ID (\"a\" \"1\"", "Incomplete(Unknown)"),
+    (b"* ID ()\r\n", "Error"),
+];
+
+const RIGHTS: Rows = &[
+    (
+        b"* LISTRIGHTS INBOX smith la r swi\r\n",
+        r#"ListRights(ListRights { mailbox: "INBOX", identifier: "smith", required: [Lookup, Administer], optional: [Read, Seen, Write, Insert] })"#,
+    ),
+    (
+        b"* ACL INBOX Fred lrz\r\n",
+        r#"Acl(Acl { mailbox: "INBOX", acls: [AclEntry { identifier: "Fred", rights: [Lookup, Read, Custom('z')] }] })"#,
+    ),
+    (
+        b"* ACL INBOX\r\n",
+        r#"Acl(Acl { mailbox: "INBOX", acls: [] })"#,
+    ),
+    (
+        b"* MYRIGHTS INBOX rwz\r\n",
+        r#"MyRights(MyRights { mailbox: "INBOX", rights: [Read, Write, Custom('z')] })"#,
+    ),
+    (
+        b"* MYRIGHTS x lrswipkxteancd\r\n",
+        r#"MyRights(MyRights { mailbox: "x", rights: [Lookup, Read, Seen, Write, Insert, Post, CreateMailbox, DeleteMailbox, DeleteMessage, Expunge, Administer, Annotation, OldCreate, OldDelete] })"#,
+    ),
+    (b"* ACL", "Incomplete(Unknown)"),
+    (b"* MYRIGHTS", "Incomplete(Unknown)"),
+    (b"* MYRIGHTS x", "Incomplete(Unknown)"),
+    (b"* LISTRIGHTS x smith la r", "Incomplete(Unknown)"),
+    (b"* ACL\r\n", "Error"),
+];
+
+pub const LINES: &[Rows] = &[VANISHED, QUOTAS, IDENTITIES, RIGHTS];
+
+#[test]
+fn lines_of_extensions(rt: HostRuntime) {
+    assert_lines(&rt, rt.alloc(), LINES);
+}

@@ -1,0 +1,29 @@
+//! Lines and calls with the answers that they are known to have, as tests by topic.
+//!
+//! A table has an input and the text of its answer a row: the debug text of the value, and behind `then` the bytes that are left.
+#![tactic(auto)]
+
+#[cfg(test)]
+mod answers;
+#[cfg(test)]
+mod bytes;
+#[cfg(test)]
+mod codes;
+#[cfg(test)]
+mod commands;
+#[cfg(test)]
+mod copies;
+#[cfg(test)]
+mod extensions;
+#[cfg(test)]
+mod lists;
+#[cfg(test)]
+mod mailboxes;
+#[cfg(test)]
+mod readers;
+#[cfg(test)]
+mod sizes;
+#[cfg(test)]
+mod statuses;
+#[cfg(test)]
+mod texts;

@@ -1,0 +1,129 @@
+//! Lists and brackets over a reader that is passed, by its name and by a closure: each reader here has the clause that
+//! a caller gets from the clause of the reader that it passes.
+
+ghost use Rattle.imap_bytes.specs.Answer.{Exactly, Gives};
+ghost use Rattle.imap_bytes.specs.Step.{step};
+ghost use Rattle.imap_bytes.specs.Lists.{delimited, list_of, nonempty_list_of};
+ghost use Rattle.imap_bytes.specs.Numbers as rules;
+
+use crate::answers::{Rows, says};
+use imap_proto::imap_core::{
+    IResult, literal, number, opt_opt, paren_delimited, parenthesized_list,
+    parenthesized_nonempty_list,
+};
+use std::alloc::Global;
+use std::test::*;
+
+const WAITS: &str = "Incomplete(Unknown)";
+
+fn numbers(alloc: Global, i: &[u8]) -> IResult<&[u8], Vec<u32>>
+    ensures { Gives (λ x. x.items) result (step (list_of rules.number) i.now) }
+{
+    parenthesized_list(alloc, number, i)
+}
+
+fn numbers_by_closure(alloc: Global, i: &[u8]) -> IResult<&[u8], Vec<u32>>
+    ensures { Gives (λ x. x.items) result (step (list_of rules.number) i.now) }
+{
+    let item = |i|
+        ensures { Exactly (λ x. x) result (step rules.number i.entry.now) }
+    { number(i) };
+    parenthesized_list(alloc, item, i)
+}
+
+fn some_numbers(alloc: Global, i: &[u8]) -> IResult<&[u8], Vec<u32>>
+    ensures { Gives (λ x. x.items) result (step (nonempty_list_of rules.number) i.now) }
+{
+    parenthesized_nonempty_list(alloc, number, i)
+}
+
+fn literals(alloc: Global, i: &[u8]) -> IResult<&[u8], Vec<&[u8]>> {
+    parenthesized_list(alloc, literal, i)
+}
+
+fn delimited_number(i: &[u8]) -> IResult<&[u8], u32>
+    ensures { Exactly (λ x. x) result (step (delimited rules.number) i.now) }
+{
+    paren_delimited(number, i)
+}
+
+fn some_number(i: &[u8]) -> IResult<&[u8], Option<u32>> {
+    let (i, n) = number(i)?;
+    Ok((i, Some(n)))
+}
+
+const LISTS: Rows = &[
+    (b"()", "[]"),
+    (b"( )x", r#"[] then "x""#),
+    (b"(1 2 )x", r#"[1, 2] then "x""#),
+    (b"(1  2)", "Error"),
+    (b"(1,2)", "Error"),
+    (b"(1 \t)", "Error"),
+    (b"1 2)", "Error"),
+    (b"", WAITS),
+    (b"(1", WAITS),
+    (b"(1 ", WAITS),
+    (b"(1 2", WAITS),
+];
+
+const NONEMPTY_LISTS: Rows = &[
+    (b"(1 2)x", r#"[1, 2] then "x""#),
+    (b"(1 \t )", "[1]"),
+    (b"()", "Error"),
+    (b"( 1)", "Error"),
+    (b"(1  2)", "Error"),
+    (b"(", WAITS),
+    (b"(1 \t", WAITS),
+];
+
+#[test]
+fn lists(rt: HostRuntime) {
+    let alloc = rt.alloc();
+    for (input, want) in LISTS {
+        assert!(rt; says(alloc, numbers(alloc, input), want), "{want}");
+        assert!(rt;
+            says(alloc, numbers_by_closure(alloc, input), want),
+            "{want}"
+        );
+    }
+    for (input, want) in NONEMPTY_LISTS {
+        assert!(rt; says(alloc, some_numbers(alloc, input), want), "{want}");
+    }
+    assert!(rt; says(alloc, literals(alloc, b"({3}\r\nab"), "Incomplete(Size(1))"));
+    assert!(rt;
+        says(
+            alloc,
+            literals(alloc, b"({1}\r\n) {2}\r\n"),
+            "Incomplete(Size(2))"
+        )
+    );
+}
+
+const DELIMITED: Rows = &[
+    (b"(7)x", r#"7 then "x""#),
+    (b"(7", WAITS),
+    (b"(7 )", "Error"),
+    (b"()", "Error"),
+    (b"7)", "Error"),
+];
+
+const MAYBE_NUMBERS: Rows = &[
+    (b"x", r#"None then "x""#),
+    (b"7)", r#"Some(7) then ")""#),
+    (b"7", WAITS),
+];
+
+#[test]
+fn brackets_and_choices(rt: HostRuntime) {
+    let alloc = rt.alloc();
+    for (input, want) in DELIMITED {
+        assert!(rt; says(alloc, delimited_number(input), want), "{want}");
+        assert!(rt;
+            says(alloc, paren_delimited(|i| number(i), input), want),
+            "{want}"
+        );
+    }
+    for (input, want) in MAYBE_NUMBERS {
+        assert!(rt; says(alloc, opt_opt(some_number, input), want), "{want}");
+    }
+}

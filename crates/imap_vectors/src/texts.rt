@@ -1,0 +1,163 @@
+//! Texts that bytes are decoded to, each with its mark, and the texts of faults.
+
+use crate::answers::{Marked, Rows, says, says_marked, with_mark};
+use imap_proto::Response;
+use imap_proto::imap_core::{
+    Err, Needed, astring_utf8, nstring_utf8, quoted_utf8, string_utf8, text,
+};
+use imap_proto::rfc3501::MailboxDatum;
+use std::alloc::{AllocError, Global};
+use std::test::*;
+
+const TEXTS: Rows = &[
+    (b"ab\r\n", r#"Borrowed("ab") then "\r\n""#),
+    (b"\xff\xfex\r", r#"Owned("��x") then "\r""#),
+    (b"\xe2\x82x\r", r#"Owned("�x") then "\r""#),
+    (b"\n", r#"Borrowed("") then "\n""#),
+    (b"ab", "Incomplete(Unknown)"),
+];
+
+const STRINGS: Rows = &[
+    (b"{2}\r\n\xffax", r#"Owned("�a") then "x""#),
+    (b"{1}\r\n", "Incomplete(Size(1))"),
+];
+
+const QUOTED: Rows = &[
+    (b"\"a\\\"\xc3\xa9\"", r#"Borrowed("a\\\"é")"#),
+    (b"{1}\r\na", "Error"),
+];
+
+const ASTRINGS: Rows = &[
+    (b"a]\x80 ", r#"Owned("a]�") then " ""#),
+    (b"\"a b\"", r#"Borrowed("a b")"#),
+    (b"a", "Incomplete(Unknown)"),
+];
+
+#[test]
+fn decoded(rt: HostRuntime) {
+    for (input, want) in TEXTS {
+        assert!(rt;
+            says_marked(rt.alloc(), text(rt.alloc(), input), want),
+            "{want}"
+        );
+    }
+    for (input, want) in STRINGS {
+        assert!(rt;
+            says_marked(rt.alloc(), string_utf8(rt.alloc(), input), want),
+            "{want}"
+        );
+    }
+    for (input, want) in QUOTED {
+        assert!(rt;
+            says_marked(rt.alloc(), quoted_utf8(rt.alloc(), input), want),
+            "{want}"
+        );
+    }
+    for (input, want) in ASTRINGS {
+        assert!(rt;
+            says_marked(rt.alloc(), astring_utf8(rt.alloc(), input), want),
+            "{want}"
+        );
+    }
+}
+
+#[test]
+fn decoded_or_nil(rt: HostRuntime) {
+    assert!(rt;
+        says(
+            rt.alloc(),
+            nstring_utf8(rt.alloc(), b"nil "),
+            r#"None then " ""#
+        )
+    );
+    assert!(rt;
+        says(
+            rt.alloc(),
+            nstring_utf8(rt.alloc(), b"\"nil\""),
+            r#"Some("nil")"#
+        )
+    );
+    assert!(rt; says(rt.alloc(), nstring_utf8(rt.alloc(), b"a"), "Error"));
+}
+
+/// The texts of a response, each with its mark: the information of a status line, the pairs of an identity, or the
+/// mailbox and the entries of annotations.
+fn texts<'a>(alloc: Global, response: &'a Response<'_>) -> Result<Vec<Marked<'a>>, AllocError> {
+    let mut texts = Vec::new(alloc);
+    match response {
+        Response::Data { outcome, .. } => {
+            if let Some(text) = &outcome.information {
+                texts.push(with_mark(text))?;
+            }
+        }
+        Response::Id(Some(pairs)) => {
+            for (key, value) in pairs {
+                texts.push(with_mark(key))?;
+                texts.push(with_mark(value))?;
+            }
+        }
+        Response::MailboxData(MailboxDatum::MetadataSolicited { mailbox, .. }) => {
+            texts.push(with_mark(mailbox))?;
+        }
+        Response::MailboxData(MailboxDatum::MetadataUnsolicited { mailbox, values }) => {
+            texts.push(with_mark(mailbox))?;
+            for entry in values {
+                texts.push(with_mark(entry))?;
+            }
+        }
+        _ => {}
+    }
+    Ok(texts)
+}
+
+const MARKED_LINES: Rows = &[
+    (b"* OK hi\r\n", r#"[Borrowed("hi")]"#),
+    (b"* OK \xff\xfex\r\n", r#"[Owned("��x")]"#),
+    (b"* OK [ALERT] x\r\n", r#"[Borrowed("x")]"#),
+    (b"* OK [ALERT]\xff\r\n", r#"[Owned("")]"#),
+    (b"* OK [ALERT] \xe2\x82x\r\n", r#"[Owned("�x")]"#),
+    (
+        b"* ID (\"a\" \"1\")\r\n",
+        r#"[Borrowed("a"), Borrowed("1")]"#,
+    ),
+    (
+        b"* ID (\"\xff\" \"1\")\r\n",
+        r#"[Owned("�"), Borrowed("1")]"#,
+    ),
+    (
+        b"* ID (\"a\" {1}\r\n\xfe)\r\n",
+        r#"[Borrowed("a"), Owned("�")]"#,
+    ),
+    (
+        b"* METADATA \"\xff\" (/shared/comment {1}\r\n\xfe)\r\n",
+        r#"[Owned("�")]"#,
+    ),
+    (
+        b"* METADATA \"x\" \"/shared/comment \xff\" /private/comment\r\n",
+        r#"[Borrowed("x"), Owned("/shared/comment �"), Borrowed("/private/comment")]"#,
+    ),
+];
+
+#[test]
+fn lent_and_owned(rt: HostRuntime) -> Result<(), Fail> {
+    for (line, want) in MARKED_LINES {
+        let (rest, response) = Response::parse(rt.alloc(), line)?;
+        let texts = texts(rt.alloc(), &response)?;
+        assert!(rt; says(rt.alloc(), Ok((rest, texts)), want), "{want}");
+    }
+    Ok(())
+}
+
+#[test]
+fn texts_of_faults(rt: HostRuntime) -> Result<(), Fail> {
+    let rows = [
+        (Err::Incomplete(Needed::Unknown), "more bytes are needed"),
+        (Err::Incomplete(Needed::Size(3)), "more bytes are needed"),
+        (Err::Error, "denied"),
+        (Err::Failure, "out of memory"),
+    ];
+    for (fault, want) in rows {
+        assert_eq!(rt; format!(in rt.alloc(); "{fault}")?.as_str(), want);
+    }
+    Ok(())
+}
