@@ -10,8 +10,6 @@ pub mod numbers;
 pub mod sets;
 pub mod strings;
 pub mod tags;
-#[cfg(test)]
-mod tests;
 pub mod texts;
 
 pub use answer::{Err, IResult, Needed};

@@ -23,6 +23,3 @@ pub use errors::BuildError;
 pub use fetching::FetchCommand;
 pub use selecting::SelectCommand;
 pub use words::{AttrMacro, Attribute};
-
-#[cfg(test)]
-mod tests;

@@ -51,6 +51,3 @@ pub mod rfc5464 {
 pub mod builders {
     pub use imap_command as command;
 }
-
-#[cfg(test)]
-mod tests;
