@@ -1,3 +1,10 @@
 pub mod Capabilities
 pub mod UidSets
 pub mod Rights
+pub mod StatusTexts
+pub mod FlagTexts
+pub mod GmailTexts
+pub mod CapabilityTexts
+pub mod UidSetTexts
+pub mod MailboxTexts
+pub mod RightTexts

@@ -5,3 +5,10 @@ pub mod Gmail
 pub mod UidSets
 pub mod Mailboxes
 pub mod Rights
+pub mod StatusTexts
+pub mod FlagTexts
+pub mod GmailTexts
+pub mod CapabilityTexts
+pub mod UidSetTexts
+pub mod MailboxTexts
+pub mod RightTexts

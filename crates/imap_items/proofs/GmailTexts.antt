@@ -1,0 +1,64 @@
+-- Gmail's items read back.
+use Rattle.std.proofs.Common.{◌≡◌, ℕ, Bool, true, false, List, ◌∷◌, ◌++◌, cond, sym, ◌∙◌, ap, subst, refl, inl, inr, codes, map}
+use Rattle.std.proofs.lemmas.Bool.{both_ways}
+use Rattle.imap_bytes.specs.Meaning.{Denies, outside}
+use Rattle.imap_bytes.specs.Rule.{meaning, gives}
+use Rattle.imap_bytes.specs.Text.{Bytes, Text, as_text, lent_text}
+use Rattle.imap_bytes.specs.Strings.{quoted}
+use Rattle.imap_bytes.specs.Texts.{quoted_utf8}
+use Rattle.imap_bytes.specs.Pieces.{written, plain, quoted_text, list_text}
+use Rattle.imap_bytes.specs.ReadBack.{ReadsBack, Spells, Keeps, Any, EndsItem, as_is}
+use Rattle.imap_bytes.proofs.Reading.{raw_on, reads-follow, denials, denies-gives, ends_item-in, ◌▹ʳ◌}
+use Rattle.imap_bytes.proofs.ReadingTexts.{not_digit, takes-word, reads-number_64, reads-list_of}
+use Rattle.imap_bytes.proofs.ReadingQuoted.{reads-quoted_utf8}
+use Rattle.imap_bytes.proofs.Spelling.{◌▹ˢ◌, ◌orˢ◌, spells-gives, spells-wider, spells-where, spells-word, spells-list_of, spells-number_64, spells-quoted_utf8}
+use Rattle.imap_items.specs.Flags.{flag, backslashed_text, backslashed, keyword}
+use Rattle.imap_items.specs.FlagTexts.{is_flag}
+use Rattle.imap_items.specs.Gmail.{gmail_label, gmail_labels, gmail_label_list, gmail_msgid, gmail_thrid}
+use Rattle.imap_items.specs.GmailTexts.{canonical_label, canonical_label_list, canonical_msgid, canonical_thrid, spells_label, spells_label_list, spells_msgid, spells_thrid}
+use Rattle.imap_items.proofs.FlagTexts.{flag-is, flag_on, flags_yield, flag_spells}
+
+-- no flag begins with a quote
+no_flag : (t : Bytes) → Denies (meaning flag) (34 ∷ t)
+unfolding flag backslashed_text backslashed keyword
+no_flag t = search denials depth 20
+
+label_on : (m : Bytes) (v : Text) (rest : Bytes) → (meaning gmail_label).yields m v rest → (t : Bytes) → EndsItem t → (b : Bool) → is_flag v.bytes ≡ b
+    → (meaning gmail_label).yields (written (cond b (plain v) (quoted_text v)) ++ t) (lent_text v) t
+unfolding meaning gmail_label
+label_on m v rest y t g true is = inl (v.bytes, subst (λ l. (meaning flag).yields l v.bytes t) (sym (raw_on v.bytes t)) (flag_on v.bytes t is g), refl)
+label_on m v rest (inl y) t g false is = absurd (both_ways (is_flag v.bytes) is (subst (λ (u : Text). is_flag u.bytes ≡ true) y.2 (flag-is m y.0 rest y.1)))
+label_on m v rest (inr y) t g false is = inr (no_flag _, reads-quoted_utf8.again m v rest y.1 tt t tt)
+
+pub reads_label : ReadsBack gmail_label lent_text canonical_label EndsItem
+reads_label = record { again = λ m v rest y f t g. label_on m v rest y t g (is_flag v.bytes) refl }
+
+reads_label_list : ReadsBack gmail_label_list (map lent_text) canonical_label_list Any
+unfolding gmail_label_list gmail_labels gmail_label flag backslashed_text backslashed keyword quoted_utf8 quoted
+reads_label_list = takes-word "X-GM-LABELS " "X-GM-LABELS " refl ▹ʳ reads-list_of reads_label (λ t. refl) (λ t. refl) (λ t. search denials depth 20)
+
+label_spells : Spells gmail_label spells_label
+unfolding gmail_label
+label_spells = spells-gives as_text (spells-where flags_yield flag_spells (λ v c is h. inl (is, h))) orˢ spells-wider spells-quoted_utf8 (λ v c h. inr h)
+
+label_list_spells : Spells gmail_label_list spells_label_list
+unfolding gmail_label_list gmail_labels
+label_list_spells = spells-word "X-GM-LABELS " ▹ˢ spells-list_of label_spells
+
+pub keeps_label_list : Keeps gmail_label_list (map lent_text) canonical_label_list spells_label_list EndsItem
+keeps_label_list = record { spelled = label_list_spells; back = reads-follow reads_label_list (λ t g. tt) }
+
+
+pub keeps_msgid : Keeps gmail_msgid as_is canonical_msgid spells_msgid EndsItem
+unfolding gmail_msgid
+keeps_msgid = record {
+  spelled = spells-word "X-GM-MSGID " ▹ˢ spells-number_64;
+  back = takes-word "X-GM-MSGID " "X-GM-MSGID " refl ▹ʳ reads-follow reads-number_64 (ends_item-in not_digit refl refl refl);
+}
+
+pub keeps_thrid : Keeps gmail_thrid as_is canonical_thrid spells_thrid EndsItem
+unfolding gmail_thrid
+keeps_thrid = record {
+  spelled = spells-word "X-GM-THRID " ▹ˢ spells-number_64;
+  back = takes-word "X-GM-THRID " "X-GM-THRID " refl ▹ʳ reads-follow reads-number_64 (ends_item-in not_digit refl refl refl);
+}

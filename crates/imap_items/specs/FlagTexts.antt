@@ -1,0 +1,30 @@
+-- The text of flags: each stands as it is.
+use Rattle.std.specs.Prelude.{ℕ, Bool, false, List, [], ◌∷◌, ◌==◌, ◌&&◌, ◌||◌}
+use Rattle.std.specs.List.{list_all}
+use Rattle.std.specs.Str.{is_utf8}
+use Rattle.imap_bytes.specs.Classes.{is_atom_char, is_astring_char}
+use Rattle.imap_bytes.specs.Text.{Bytes, Text}
+use Rattle.imap_bytes.specs.Pieces.{Pieces, raw, plain, list_text}
+use Rattle.imap_bytes.specs.ReadBack.{Texts}
+use Rattle.imap_bytes.specs.Spelling.{this, spells_list}
+
+abbrev pub canonical_flag : Bytes → Pieces
+canonical_flag = raw
+
+abbrev pub spells_flag : Bytes → Texts
+spells_flag = this
+
+abbrev pub canonical_flag_list : List Text → Pieces
+canonical_flag_list = list_text plain
+
+abbrev pub spells_flag_list : List Text → Texts
+spells_flag_list = spells_list (λ t. spells_flag t.bytes)
+
+-- `\` and atom-chars, maybe none; or at least one astring-char
+abbrev pub is_flag_word : Bytes → Bool
+is_flag_word [] = false
+is_flag_word (b ∷ w) = ((92 == b) && list_all is_atom_char w) || list_all is_astring_char (b ∷ w)
+
+-- the whole text is a flag
+abbrev pub is_flag : Bytes → Bool
+is_flag b = is_utf8 b && is_flag_word b

@@ -1,0 +1,18 @@
+-- The text of a mailbox name.
+use Rattle.std.specs.Prelude.{◌≡◌, ◌⊎◌, IsTrue, codes}
+use Rattle.imap_bytes.specs.Meaning.{is_word}
+use Rattle.imap_bytes.specs.Tags.{same_letter}
+use Rattle.imap_bytes.specs.Text.{Text}
+use Rattle.imap_bytes.specs.Pieces.{Pieces, literal_text}
+use Rattle.imap_bytes.specs.ReadBack.{Texts}
+use Rattle.imap_bytes.specs.Spelling.{spells_astring_text}
+
+abbrev pub canonical_mailbox : Text → Pieces
+canonical_mailbox = literal_text
+
+-- INBOX in any case
+abbrev pub spells_inbox : Texts
+spells_inbox c = (t : Text) × IsTrue (is_word same_letter (codes "INBOX") t.bytes) × spells_astring_text t c
+
+abbrev pub spells_mailbox : Text → Texts
+spells_mailbox t c = spells_astring_text t c ⊎ ((t.bytes ≡ codes "INBOX") × spells_inbox c)

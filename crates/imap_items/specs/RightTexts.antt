@@ -1,0 +1,18 @@
+-- The text of rights: their letters.
+use Rattle.std.specs.Prelude.{List, map, encode_utf8_all}
+use Rattle.imap_bytes.specs.Text.{Bytes, as_text}
+use Rattle.imap_bytes.specs.Pieces.{Pieces, lit}
+use Rattle.imap_bytes.specs.ReadBack.{Texts}
+use Rattle.imap_bytes.specs.Spelling.{spells_astring_text}
+use Rattle.imap_items.specs.declared.types.rights.AclRight.{AclRight}
+use Rattle.imap_items.specs.Rights.{letter_of}
+
+-- the letters, in UTF-8
+abbrev pub letters_of : List AclRight → Bytes
+letters_of rights = encode_utf8_all (map letter_of rights)
+
+abbrev pub canonical_rights : List AclRight → Pieces
+canonical_rights rights = lit (letters_of rights)
+
+abbrev pub spells_rights : List AclRight → Texts
+spells_rights rights = spells_astring_text (as_text (letters_of rights))
