@@ -1,5 +1,6 @@
 pub mod Lists
 pub mod Trees
+pub mod Visits
 pub mod Naming
 pub mod Gathering
 pub mod Seeing

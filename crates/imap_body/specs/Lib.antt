@@ -4,6 +4,7 @@ pub mod FieldValues
 pub mod ExtensionValues
 pub mod BodyValues
 pub mod SectionValues
+pub mod Search
 pub mod Sections
 pub mod Envelopes
 pub mod Fields

@@ -1,8 +1,9 @@
 -- What spans name in a message.
 use Rattle.std.specs.Prelude.{ℕ, true, false, codes}
+use Rattle.std.specs.declared.borrow.CowStr.{CowStr}
 use Rattle.std.specs.declared.borrow.CowSlice.{CowSlice}
 use Rattle.std.specs.declared.borrow.CowSlice.TheVariants as slice
-use Rattle.imap_bytes.specs.Text.{Bytes, Text, decoded, as_text}
+use Rattle.imap_bytes.specs.Text.{Bytes, Text, text_of, decoded, as_text}
 use Rattle.imap_bytes.specs.declared.at.span.Span.{Span}
 use Rattle.imap_bytes.specs.Positions.{named_in}
 use Rattle.imap_body.specs.declared.spans.SpannedText.{SpannedText}
@@ -24,3 +25,13 @@ text_in m spanned.Multipart = as_text (codes "MULTIPART")
 abbrev pub bytes_of : {Z : Type 0} → CowSlice ℕ Z → Text
 bytes_of (slice.Borrowed s) = record { bytes = s.now; borrowed = true }
 bytes_of (slice.Owned v) = record { bytes = v.items; borrowed = false }
+
+-- the same text, owned
+abbrev pub owned : Text → Text
+owned t = record { bytes = t.bytes; borrowed = false }
+
+abbrev pub text_owned : {Z : Type 0} → CowStr Z → Text
+text_owned t = owned (text_of t)
+
+abbrev pub bytes_owned : {Z : Type 0} → CowSlice ℕ Z → Text
+bytes_owned t = owned (bytes_of t)

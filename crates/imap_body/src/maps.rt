@@ -2,6 +2,7 @@
 
 pub mod bodies;
 pub mod change;
+pub mod changes;
 pub mod envelopes;
 pub mod extensions;
 pub mod fields;
