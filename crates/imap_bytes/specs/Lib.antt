@@ -5,6 +5,7 @@ pub mod Exact
 pub mod Answer
 pub mod Stable
 pub mod Text
+pub mod Ascii
 pub mod Classes
 pub mod Tags
 pub mod Numbers

@@ -5,6 +5,7 @@ ghost use Rattle.imap_bytes.specs.Positions.{AnswersAt, ExactlyAt, Ahead, Inside
 ghost use Rattle.imap_bytes.specs.Step.{step, take_step};
 ghost use Rattle.imap_bytes.specs.Meaning.{begins, outside};
 ghost use Rattle.imap_bytes.specs.Rule.{run0, run1, opt};
+ghost use Rattle.imap_bytes.specs.Ascii.{quote, open_brace};
 ghost use Rattle.imap_bytes.specs.Classes as classes;
 ghost use Rattle.imap_bytes.specs.Strings as strings;
 
@@ -130,7 +131,7 @@ pub fn literal(m: &[u8], p: usize) -> Result<(usize, Span), Err>
 // Whether the next byte opens a quoted string.
 fn opens_quoted(m: &[u8], p: usize) -> bool
     requires { p ≤ length m.now }
-    ensures { result ≡ begins (λ b. b == 34) (drop p m.now) }
+    ensures { result ≡ begins (λ b. b == quote) (drop p m.now) }
 {
     let (_, i) = m.split_at(p);
     match i.first() {
@@ -197,7 +198,7 @@ pub fn nil(m: &[u8], p: usize) -> Result<(usize, Span), Err>
 // Whether the next byte opens a string.
 fn opens_string(m: &[u8], p: usize) -> bool
     requires { p ≤ length m.now }
-    ensures { result ≡ begins (λ b. (b == 34) || (b == 123)) (drop p m.now) }
+    ensures { result ≡ begins (λ b. (b == quote) || (b == open_brace)) (drop p m.now) }
 {
     let (_, i) = m.split_at(p);
     match i.first() {
