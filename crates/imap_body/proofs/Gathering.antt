@@ -1,6 +1,5 @@
 -- A loop that reads one more as often as there is one, and keeps what it read.
-use Rattle.std.proofs.Common.{◌≡◌, ℕ, ◌<◌, ◌≤◌, Bool, true, List, [], ◌∷◌, ◌++◌, length, map, take, drop, Option, Some, None, Ok, Err, refl, sym, ap, ◌∙◌, append_assoc}
-use Rattle.std.specs.Option.{option_map}
+use Rattle.std.proofs.Common.{◌≡◌, ℕ, ◌<◌, ◌≤◌, true, List, [], ◌∷◌, ◌++◌, map, take, drop, Some, None, Ok, Err, refl, sym, ap, ◌∙◌, append_assoc}
 use Rattle.std.proofs.lemmas.List.{append-nil, map-append}
 use Rattle.imap_bytes.specs.declared.answer.Err.{Err as Fault}
 use Rattle.imap_bytes.specs.declared.answer.Err.TheVariants.{Incomplete, Error, Failure}

@@ -2,7 +2,7 @@
 use Rattle.std.proofs.Common.{◌≡◌, ℕ, ◌≤◌, List, map, take, Option, Some, None, refl, sym, ap, ◌∙◌}
 use Rattle.std.specs.Option.{option_map}
 use Rattle.std.specs.Global.{Vec}
-use Rattle.imap_bytes.specs.Text.{Text, as_text, decoded}
+use Rattle.imap_bytes.specs.Text.{as_text, decoded}
 use Rattle.imap_bytes.specs.declared.at.span.Span.{Span}
 use Rattle.imap_bytes.specs.Positions.{maybe_in, Rests}
 use Rattle.imap_bytes.proofs.Positions.{some_rests}

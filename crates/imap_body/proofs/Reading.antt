@@ -1,5 +1,5 @@
 -- What a body says that was made of the parts that were read, and what it rests on.
-use Rattle.std.proofs.Common.{◌≡◌, ℕ, List, refl, sym, ap, ◌∙◌, map, take, Vec, Box, Global, Option, Ok}
+use Rattle.std.proofs.Common.{◌≡◌, ℕ, List, refl, sym, ◌∙◌, map, take, Vec, Box, Global, Ok}
 use Rattle.imap_bytes.specs.declared.at.span.Span.{Span}
 use Rattle.imap_bytes.specs.Positions.{Rests}
 use Rattle.imap_body.specs.declared.spans.SpannedText.{SpannedText}
@@ -14,9 +14,9 @@ use Rattle.imap_body.specs.declared.shapes.bodies.BodyStructure.{BodyStructure}
 use Rattle.imap_body.specs.declared.shapes.bodies.BodyStructure.TheVariants as body
 use Rattle.imap_body.specs.FieldValues.{fields_seen}
 use Rattle.imap_body.specs.ExtensionValues.{ext_1part_seen, ext_mpart_seen}
-use Rattle.imap_body.specs.BodyValues.{BodyValue, Basic, TextBody, Message, Multipart, bodies_of, common_seen, single_seen, body_step}
+use Rattle.imap_body.specs.BodyValues.{common_seen, single_seen}
 use Rattle.imap_body.specs.Spans.{text_in, bytes_in}
-use Rattle.imap_body.specs.Spanned.{envelope_in, fields_in, ext_1part_in, ext_mpart_in, maybe_extension_in, body_in}
+use Rattle.imap_body.specs.Spanned.{envelope_in, fields_in, ext_1part_in, ext_mpart_in, body_in}
 use Rattle.imap_body.proofs.Trees.{text_seen, basic_seen, message_seen, multipart_seen}
 use Rattle.imap_bytes.specs.Step.{step}
 use Rattle.imap_bytes.specs.Tags.{word}

@@ -1,5 +1,5 @@
 -- What an extension says, by its kinds, and what it rests on.
-use Rattle.std.proofs.Common.{◌≡◌, ℕ, List, sym, ap, ◌∙◌, map, take, Vec, Global, Option}
+use Rattle.std.proofs.Common.{◌≡◌, ℕ, sym, ap, ◌∙◌, map, take, Vec, Global, Option}
 use Rattle.std.specs.Option.{option_map}
 use Rattle.imap_bytes.specs.Text.{Text}
 use Rattle.imap_bytes.specs.Positions.{Rests}

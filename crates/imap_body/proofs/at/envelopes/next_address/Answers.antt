@@ -1,5 +1,5 @@
 use Rattle.imap_body.specs.Spanned.{address_in}
-use Rattle.imap_body.proofs.Naming.{nothing_rests, something_rests}
+use Rattle.imap_body.proofs.Naming.{something_rests}
 use Rattle.imap_body.proofs.at.envelopes.next_address.Goals as goal
 
 pub returns-in-Ok-clause-rests : goal.returns-in-Ok-clause-rests

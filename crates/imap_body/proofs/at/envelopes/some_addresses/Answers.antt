@@ -1,7 +1,5 @@
-use Rattle.std.proofs.Common.{refl, drop, arith, ◌<◌, ◌≤◌}
+use Rattle.std.proofs.Common.{refl, arith, ◌<◌}
 use Rattle.std.proofs.lemmas.Result.{err_from_is_err_and}
-use Rattle.imap_bytes.specs.Rule.{some1}
-use Rattle.imap_bytes.specs.Step.{step}
 use Rattle.imap_bytes.proofs.Agreement.{stops}
 use Rattle.imap_body.specs.Envelopes.{address, listed_address, some_addresses}
 use Rattle.imap_body.specs.Spanned.{address_in}

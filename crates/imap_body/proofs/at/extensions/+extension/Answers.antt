@@ -1,6 +1,5 @@
-use Rattle.std.proofs.Common.{refl, sym, subst, drop, arith, ◌<◌, ◌≤◌}
+use Rattle.std.proofs.Common.{refl, sym, subst, drop, arith, ◌<◌}
 use Rattle.std.proofs.lemmas.Result.{err_from_is_err_and}
-use Rattle.imap_bytes.specs.Step.{step}
 use Rattle.imap_bytes.specs.Positions.{GivesAt}
 use Rattle.imap_bytes.proofs.Positions.{rests_more}
 use Rattle.imap_body.specs.Envelopes.{spaced}

@@ -1,4 +1,4 @@
-use Rattle.std.proofs.Common.{refl, drop, arith, ◌<◌}
+use Rattle.std.proofs.Common.{refl, arith, ◌<◌}
 use Rattle.std.proofs.lemmas.Result.{err_from_is_err_and}
 use Rattle.imap_bytes.proofs.Agreement.{stops}
 use Rattle.imap_body.specs.Envelopes.{spaced}
