@@ -5,3 +5,4 @@ pub mod Quotas
 pub mod Ids
 pub mod Annotations
 pub mod Acls
+pub mod Takes
