@@ -1,0 +1,132 @@
+//! Parts of body structures made by hand, with all texts owned.
+
+use crate::answers::says;
+use imap_body::{
+    BodyContentCommon, BodyContentSinglePart, BodyExt1Part, BodyExtMPart, ContentDisposition,
+    ContentEncoding, ContentType,
+};
+use std::alloc::{AllocError, Global};
+use std::borrow::CowStr;
+use std::fmt::Debug;
+use std::test::*;
+
+const NOTHING: &[u8] = b"";
+
+// Whether there is a value, and it is told so.
+fn shows<T: Debug + Drop>(alloc: Global, value: Result<T, AllocError>, want: &str) -> bool {
+    match value {
+        Ok(value) => says(alloc, Ok((NOTHING, value)), want),
+        Err(_) => false,
+    }
+}
+
+const NAME: CowStr<'static> = CowStr::Borrowed("a");
+
+const DISPOSITION: ContentDisposition<'static> = ContentDisposition {
+    ty: CowStr::Borrowed("d"),
+    params: None,
+};
+
+const TYPE: ContentType<'static> = ContentType {
+    ty: CowStr::Borrowed("t"),
+    subtype: CowStr::Borrowed("s"),
+    params: None,
+};
+
+#[test]
+fn parts_of_bodies(rt: HostRuntime) {
+    let alloc = rt.alloc();
+    let encoding = ContentEncoding::Other(NAME);
+    assert!(rt; shows(alloc, encoding.into_owned(alloc), r#"Other("a")"#));
+    let want = r#"ContentDisposition { ty: "d", params: None }"#;
+    assert!(rt; shows(alloc, DISPOSITION.into_owned(alloc), want));
+    let want = r#"ContentType { ty: "t", subtype: "s", params: None }"#;
+    assert!(rt; shows(alloc, TYPE.into_owned(alloc), want));
+    let common = BodyContentCommon {
+        ty: TYPE,
+        disposition: Some(DISPOSITION),
+        language: None,
+        location: Some(NAME),
+    };
+    let want =
+        r#"BodyContentCommon { ty: ContentType { ty: "t", subtype: "s", params: None }, disposition: Some(ContentDisposition { ty: "d", params: None }), language: None, location: Some("a") }"#;
+    assert!(rt; shows(alloc, common.into_owned(alloc), want));
+    let other = BodyContentSinglePart {
+        id: Some(NAME),
+        md5: None,
+        description: Some(CowStr::Borrowed("e")),
+        transfer_encoding: ContentEncoding::Binary,
+        octets: 7,
+    };
+    let want =
+        r#"BodyContentSinglePart { id: Some("a"), md5: None, description: Some("e"), transfer_encoding: Binary, octets: 7 }"#;
+    assert!(rt; shows(alloc, other.into_owned(alloc), want));
+}
+
+// Whether extension data of a single part is told so, field by field.
+fn shows_single(alloc: Global, value: Result<BodyExt1Part<'_>, AllocError>, want: &str) -> bool {
+    match value {
+        Ok(value) => {
+            let BodyExt1Part {
+                md5,
+                disposition,
+                language,
+                location,
+                extension,
+            } = value;
+            shows(
+                alloc,
+                Ok((md5, disposition, language, location, extension)),
+                want,
+            )
+        }
+        Err(_) => false,
+    }
+}
+
+// Whether extension data of a multipart is told so, field by field.
+fn shows_multipart(alloc: Global, value: Result<BodyExtMPart<'_>, AllocError>, want: &str) -> bool {
+    match value {
+        Ok(value) => {
+            let BodyExtMPart {
+                param,
+                disposition,
+                language,
+                location,
+                extension,
+            } = value;
+            shows(
+                alloc,
+                Ok((param, disposition, language, location, extension)),
+                want,
+            )
+        }
+        Err(_) => false,
+    }
+}
+
+#[test]
+fn extension_data(rt: HostRuntime) -> Result<(), Fail> {
+    let alloc = rt.alloc();
+    let single = BodyExt1Part {
+        md5: Some(NAME),
+        disposition: Some(DISPOSITION),
+        language: Some(Vec::from_array(alloc, [CowStr::Borrowed("en")])?),
+        location: Some(CowStr::Borrowed("l")),
+        extension: None,
+    };
+    let want =
+        r#"(Some("a"), Some(ContentDisposition { ty: "d", params: None }), Some(["en"]), Some("l"), None)"#;
+    assert!(rt; shows_single(alloc, single.into_owned(alloc), want));
+    let multipart = BodyExtMPart {
+        param: Some(Vec::from_array(alloc, [(NAME, CowStr::Borrowed("b"))])?),
+        disposition: Some(DISPOSITION),
+        language: None,
+        location: Some(CowStr::Borrowed("l")),
+        extension: None,
+    };
+    let want =
+        r#"(Some([("a", "b")]), Some(ContentDisposition { ty: "d", params: None }), None, Some("l"), None)"#;
+    assert!(rt; shows_multipart(alloc, multipart.into_owned(alloc), want));
+    Ok(())
+}
