@@ -26,6 +26,8 @@ mod mailboxes;
 #[cfg(test)]
 mod owned;
 #[cfg(test)]
+mod parts;
+#[cfg(test)]
 mod readers;
 #[cfg(test)]
 mod sections;

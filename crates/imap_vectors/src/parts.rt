@@ -1,0 +1,106 @@
+//! Part search over trees that are read.
+
+use crate::answers::says;
+use imap_body::readers::body_structure;
+use imap_body::{BodyStructParser, BodyStructure};
+use imap_proto::imap_core::Err;
+use std::alloc::Global;
+use std::test::*;
+
+/// Which body is looked for.
+#[derive(Clone, Copy)]
+enum Sought {
+    Any,
+    Basic,
+    Text,
+    /// A single part of so many octets.
+    Octets(u32),
+}
+
+fn octets(body: &BodyStructure<'_>) -> Option<u32> {
+    match body {
+        BodyStructure::Basic { other, .. } => Some(other.octets),
+        BodyStructure::Text { other, .. } => Some(other.octets),
+        BodyStructure::Message { other, .. } => Some(other.octets),
+        BodyStructure::Multipart { .. } => None,
+    }
+}
+
+fn is_sought(body: &BodyStructure<'_>, sought: Sought) -> bool {
+    match (sought, body) {
+        (Sought::Any, _) => true,
+        (Sought::Basic, BodyStructure::Basic { .. }) => true,
+        (Sought::Text, BodyStructure::Text { .. }) => true,
+        (Sought::Octets(n), body) => octets(body) == Some(n),
+        _ => false,
+    }
+}
+
+fn searched<'a>(
+    alloc: Global,
+    root: &'a BodyStructure<'a>,
+    sought: Sought,
+) -> Result<Option<Vec<u32>>, Err> {
+    match BodyStructParser::new(alloc, root) {
+        Ok(parser) => Ok(parser.search(|body| is_sought(body, sought))?),
+        Err(_) => Err(Err::Failure),
+    }
+}
+
+/// Whether the search in the body read is told so. The search borrows the body for as long as the body's own texts, so it is leaked.
+fn finds(alloc: Global, i: &[u8], sought: Sought, want: &str) -> bool {
+    match body_structure(alloc, i) {
+        Ok((_, root)) => finds_in(alloc, root, sought, want),
+        Err(_) => false,
+    }
+}
+
+fn finds_in<'a>(alloc: Global, root: BodyStructure<'a>, sought: Sought, want: &str) -> bool {
+    match Box::new(alloc, root) {
+        Ok(root) => match searched(alloc, Box::leak(root), sought) {
+            Ok(path) => says(alloc, Ok((NOTHING, path)), want),
+            Err(_) => false,
+        },
+        Err(_) => false,
+    }
+}
+
+const NOTHING: &[u8] = b"";
+
+const LONE: &[u8] = b"(\"A\" \"B\" NIL NIL NIL NIL 1)";
+
+const THREE: &[u8] =
+    b"((\"A\" \"B\" NIL NIL NIL NIL 1)(\"A\" \"B\" NIL NIL NIL NIL 2)(\"A\" \"B\" NIL NIL NIL NIL 3) \"M\")";
+
+// Two parts inside the first of two.
+const NESTED: &[u8] =
+    b"(((\"A\" \"B\" NIL NIL NIL NIL 1)(\"A\" \"B\" NIL NIL NIL NIL 2) \"M\")(\"TEXT\" \"B\" NIL NIL NIL NIL 3 1) \"M\")";
+
+// Two parts inside the second of three.
+const BETWEEN: &[u8] =
+    b"((\"A\" \"B\" NIL NIL NIL NIL 1)((\"A\" \"B\" NIL NIL NIL NIL 2)(\"A\" \"B\" NIL NIL NIL NIL 3) \"M\")(\"A\" \"B\" NIL NIL NIL NIL 4) \"M\")";
+
+const MESSAGE: &[u8] =
+    b"(\"MESSAGE\" \"RFC822\" NIL NIL NIL NIL 9 (NIL NIL NIL NIL NIL NIL NIL NIL NIL NIL) (\"TEXT\" \"B\" NIL NIL NIL NIL 3 1) 4)";
+
+const SEARCHES: &[(&[u8], Sought, &str)] = &[
+    (LONE, Sought::Basic, "Some([])"),
+    (LONE, Sought::Text, "None"),
+    (THREE, Sought::Octets(3), "Some([3])"),
+    (THREE, Sought::Octets(4), "None"),
+    (NESTED, Sought::Basic, "Some([1, 1])"),
+    (NESTED, Sought::Octets(2), "Some([1, 2])"),
+    (NESTED, Sought::Text, "Some([2])"),
+    (NESTED, Sought::Any, "Some([])"),
+    (BETWEEN, Sought::Octets(2), "Some([2, 1])"),
+    (BETWEEN, Sought::Octets(4), "Some([3])"),
+    (MESSAGE, Sought::Text, "None"),
+    (MESSAGE, Sought::Octets(9), "Some([])"),
+];
+
+#[test]
+fn parts(rt: HostRuntime) {
+    for (input, sought, want) in SEARCHES {
+        assert!(rt; finds(rt.alloc(), input, *sought, want), "{want}");
+    }
+}
