@@ -9,7 +9,7 @@ use Rattle.imap_bytes.specs.Strings.{in_utf8}
 use Rattle.imap_data.specs.declared.types.status.Status.{Status}
 use Rattle.imap_data.specs.Status.{status}
 use Rattle.imap_data.specs.Capabilities.{capability_data, enabled_data}
-use Rattle.imap_data.specs.MailboxData.{mailbox_datum}
+use Rattle.imap_data.specs.MailboxData.{mailbox_datum, exists, recent}
 use Rattle.imap_data.specs.Metadata.{metadata_solicited, metadata_unsolicited}
 use Rattle.imap_data.specs.Vanished.{vanished}
 use Rattle.imap_data.specs.Quota.{quota, quota_root}
@@ -70,9 +70,26 @@ is_space b = b == 32
 unfoldable pub spaces : Rule Bytes
 spaces = run0 is_space
 
--- `* `, a datum, spaces
+-- a datum, spaces, the end of the line
+abbrev pub ended : Rule ResponseValue → Rule ResponseValue
+ended a = a ◃ spaces ⨾ crlf
+
+-- `* ` and a datum
 unfoldable pub data_line : Rule ResponseValue
-data_line = tag "* " ▹ datum ◃ spaces ⨾ crlf
+data_line = tag "* " ▹ ended datum
+
+-- the data that may start alike, in their order: with a number, with L, with M, with Q
+abbrev pub numbered : Rule ResponseValue
+numbered = gives MailboxData (exists or recent) or expunge
+
+abbrev pub list_datum : Rule ResponseValue
+list_datum = gives MailboxData mailbox_datum or gives ListRights list_rights
+
+abbrev pub annotation_datum : Rule ResponseValue
+annotation_datum = (gives MailboxData metadata_solicited or gives MailboxData metadata_unsolicited) or gives MyRights my_rights
+
+abbrev pub quota_datum : Rule ResponseValue
+quota_datum = gives Quota quota or gives QuotaRoot quota_root
 
 -- ---- tagged lines
 
