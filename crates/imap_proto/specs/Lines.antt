@@ -74,22 +74,48 @@ spaces = run0 is_space
 abbrev pub ended : Rule ResponseValue → Rule ResponseValue
 ended a = a ◃ spaces ⨾ crlf
 
+unfoldable pub ended_datum : Rule ResponseValue
+ended_datum = ended datum
+
 -- `* ` and a datum
 unfoldable pub data_line : Rule ResponseValue
-data_line = tag "* " ▹ ended datum
+data_line = tag "* " ▹ ended_datum
 
--- the data that may start alike, in their order: with a number, with L, with M, with Q
-abbrev pub numbered : Rule ResponseValue
-numbered = gives MailboxData (exists or recent) or expunge
+-- ---- the data that may start with one byte, in their order, each with the end of its line
 
-abbrev pub list_datum : Rule ResponseValue
-list_datum = gives MailboxData mailbox_datum or gives ListRights list_rights
+unfoldable pub status_line : Rule ResponseValue
+status_line = ended status_data
 
-abbrev pub annotation_datum : Rule ResponseValue
-annotation_datum = (gives MailboxData metadata_solicited or gives MailboxData metadata_unsolicited) or gives MyRights my_rights
+-- EXISTS, RECENT and EXPUNGE have their number in front
+unfoldable pub numbered_line : Rule ResponseValue
+numbered_line = ended (gives MailboxData (exists or recent) or expunge)
 
-abbrev pub quota_datum : Rule ResponseValue
-quota_datum = gives Quota quota or gives QuotaRoot quota_root
+unfoldable pub mailbox_line : Rule ResponseValue
+mailbox_line = ended (gives MailboxData mailbox_datum)
+
+unfoldable pub list_line : Rule ResponseValue
+list_line = ended (gives MailboxData mailbox_datum or gives ListRights list_rights)
+
+unfoldable pub capability_line : Rule ResponseValue
+capability_line = ended (gives Capabilities capability_data)
+
+unfoldable pub enabled_line : Rule ResponseValue
+enabled_line = ended (gives Capabilities enabled_data)
+
+unfoldable pub annotation_line : Rule ResponseValue
+annotation_line = ended ((gives MailboxData metadata_solicited or gives MailboxData metadata_unsolicited) or gives MyRights my_rights)
+
+unfoldable pub vanished_line : Rule ResponseValue
+vanished_line = ended vanished_data
+
+unfoldable pub quota_line : Rule ResponseValue
+quota_line = ended (gives Quota quota or gives QuotaRoot quota_root)
+
+unfoldable pub id_line : Rule ResponseValue
+id_line = ended (gives Id id)
+
+unfoldable pub acl_line : Rule ResponseValue
+acl_line = ended (gives Acl acl)
 
 -- ---- tagged lines
 

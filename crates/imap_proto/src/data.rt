@@ -3,15 +3,10 @@
 ghost use Rattle.std.specs.Prelude.{◌≡◌, ◌<◌, length, position, IfSome};
 ghost use Rattle.imap_bytes.specs.Answer.{Exactly, Gives};
 ghost use Rattle.imap_bytes.specs.Meaning.{outside};
-ghost use Rattle.imap_bytes.specs.Rule.{gives, ◌⨾◌};
+ghost use Rattle.imap_bytes.specs.Rule.{◌⨾◌};
 ghost use Rattle.imap_bytes.specs.Step.{step};
 ghost use Rattle.imap_bytes.specs.Tags.{crlf};
-ghost use Rattle.imap_data.specs.Capabilities as capabilities;
-ghost use Rattle.imap_data.specs.MailboxData as mailboxes;
-ghost use Rattle.imap_data.specs.Id as ids;
-ghost use Rattle.imap_data.specs.Acl as acls;
 ghost use Rattle.imap_proto.specs.Responses.{response_value};
-ghost use Rattle.imap_proto.specs.Responses as value;
 ghost use Rattle.imap_proto.specs.Lines as rule;
 
 use crate::outcomes::spaced_outcome;
@@ -68,9 +63,9 @@ macro_rules! line {
     };
 }
 
-#[tactic(auto, unfolding(crate::specs::Lines::status_data))]
+#[tactic(auto, unfolding(crate::specs::Lines::status_line, crate::specs::Lines::status_data))]
 fn status_line(alloc: Global, i: &[u8]) -> IResult<&[u8], Response<'_>>
-    ensures { Gives response_value result (step (rule.ended rule.status_data) i.now) }
+    ensures { Gives response_value result (step rule.status_line i.now) }
 {
     let (i, status) = status(i)?;
     line!(spaced_outcome(alloc, i), outcome => Response::Data { status, outcome });
@@ -78,13 +73,9 @@ fn status_line(alloc: Global, i: &[u8]) -> IResult<&[u8], Response<'_>>
 }
 
 // The number is read once, whichever word stands behind it.
-#[tactic(auto, unfolding(
-    crate::specs::Lines::expunge,
-    imap_data::specs::MailboxData::exists,
-    imap_data::specs::MailboxData::recent
-))]
+#[tactic(auto, unfolding(crate::specs::Lines::numbered_line, crate::specs::Lines::expunge, imap_data::specs::MailboxData::exists, imap_data::specs::MailboxData::recent))]
 fn numbered_line(i: &[u8]) -> IResult<&[u8], Response<'_>>
-    ensures { Exactly response_value result (step (rule.ended rule.numbered) i.now) }
+    ensures { Exactly response_value result (step rule.numbered_line i.now) }
 {
     let (i, n) = number(i)?;
     line!(word(b" EXISTS", i), _ => Response::MailboxData(MailboxDatum::Exists(n)));
@@ -93,37 +84,42 @@ fn numbered_line(i: &[u8]) -> IResult<&[u8], Response<'_>>
     Err(Err::Error)
 }
 
+#[tactic(auto, unfolding(crate::specs::Lines::mailbox_line))]
 fn mailbox_line(alloc: Global, i: &[u8]) -> IResult<&[u8], Response<'_>>
-    ensures { Gives response_value result (step (rule.ended (gives value.MailboxData mailboxes.mailbox_datum)) i.now) }
+    ensures { Gives response_value result (step rule.mailbox_line i.now) }
 {
     line!(mailbox_datum(alloc, i), found => Response::MailboxData(found));
     Err(Err::Error)
 }
 
+#[tactic(auto, unfolding(crate::specs::Lines::list_line))]
 fn list_line(alloc: Global, i: &[u8]) -> IResult<&[u8], Response<'_>>
-    ensures { Gives response_value result (step (rule.ended rule.list_datum) i.now) }
+    ensures { Gives response_value result (step rule.list_line i.now) }
 {
     line!(mailbox_datum(alloc, i), found => Response::MailboxData(found));
     line!(list_rights(alloc, i), found => Response::ListRights(found));
     Err(Err::Error)
 }
 
+#[tactic(auto, unfolding(crate::specs::Lines::capability_line))]
 fn capability_line(alloc: Global, i: &[u8]) -> IResult<&[u8], Response<'_>>
-    ensures { Gives response_value result (step (rule.ended (gives value.Capabilities capabilities.capability_data)) i.now) }
+    ensures { Gives response_value result (step rule.capability_line i.now) }
 {
     line!(capability_data(alloc, i), found => Response::Capabilities(found));
     Err(Err::Error)
 }
 
+#[tactic(auto, unfolding(crate::specs::Lines::enabled_line))]
 fn enabled_line(alloc: Global, i: &[u8]) -> IResult<&[u8], Response<'_>>
-    ensures { Gives response_value result (step (rule.ended (gives value.Capabilities capabilities.enabled_data)) i.now) }
+    ensures { Gives response_value result (step rule.enabled_line i.now) }
 {
     line!(enabled_data(alloc, i), found => Response::Capabilities(found));
     Err(Err::Error)
 }
 
+#[tactic(auto, unfolding(crate::specs::Lines::annotation_line))]
 fn annotation_line(alloc: Global, i: &[u8]) -> IResult<&[u8], Response<'_>>
-    ensures { Gives response_value result (step (rule.ended rule.annotation_datum) i.now) }
+    ensures { Gives response_value result (step rule.annotation_line i.now) }
 {
     line!(metadata_solicited(alloc, i), found => Response::MailboxData(found));
     line!(metadata_unsolicited(alloc, i), found => Response::MailboxData(found));
@@ -131,54 +127,43 @@ fn annotation_line(alloc: Global, i: &[u8]) -> IResult<&[u8], Response<'_>>
     Err(Err::Error)
 }
 
-#[tactic(auto, unfolding(crate::specs::Lines::vanished_data))]
+#[tactic(auto, unfolding(crate::specs::Lines::vanished_line, crate::specs::Lines::vanished_data))]
 fn vanished_line(alloc: Global, i: &[u8]) -> IResult<&[u8], Response<'_>>
-    ensures { Gives response_value result (step (rule.ended rule.vanished_data) i.now) }
+    ensures { Gives response_value result (step rule.vanished_line i.now) }
 {
     line!(vanished(alloc, i), (earlier, uids) => Response::Vanished { earlier, uids });
     Err(Err::Error)
 }
 
+#[tactic(auto, unfolding(crate::specs::Lines::quota_line))]
 fn quota_line(alloc: Global, i: &[u8]) -> IResult<&[u8], Response<'_>>
-    ensures { Gives response_value result (step (rule.ended rule.quota_datum) i.now) }
+    ensures { Gives response_value result (step rule.quota_line i.now) }
 {
     line!(quota(alloc, i), found => Response::Quota(found));
     line!(quota_root(alloc, i), found => Response::QuotaRoot(found));
     Err(Err::Error)
 }
 
+#[tactic(auto, unfolding(crate::specs::Lines::id_line))]
 fn id_line(alloc: Global, i: &[u8]) -> IResult<&[u8], Response<'_>>
-    ensures { Gives response_value result (step (rule.ended (gives value.Id ids.id)) i.now) }
+    ensures { Gives response_value result (step rule.id_line i.now) }
 {
     line!(id(alloc, i), found => Response::Id(found));
     Err(Err::Error)
 }
 
+#[tactic(auto, unfolding(crate::specs::Lines::acl_line))]
 fn acl_line(alloc: Global, i: &[u8]) -> IResult<&[u8], Response<'_>>
-    ensures { Gives response_value result (step (rule.ended (gives value.Acl acls.acl)) i.now) }
+    ensures { Gives response_value result (step rule.acl_line i.now) }
 {
     line!(acl(alloc, i), found => Response::Acl(found));
     Err(Err::Error)
 }
 
 /// A datum and the end of its line: of the alternatives those are tried, in order, that may start with the first byte.
-#[tactic(auto, using(
-    crate::proofs::FirstBytes::datum_none,
-    crate::proofs::FirstBytes::datum_of_status,
-    crate::proofs::FirstBytes::datum_of_number,
-    crate::proofs::FirstBytes::datum_of_mailbox,
-    crate::proofs::FirstBytes::datum_of_list,
-    crate::proofs::FirstBytes::datum_of_capability,
-    crate::proofs::FirstBytes::datum_of_enabled,
-    crate::proofs::FirstBytes::datum_of_annotation,
-    crate::proofs::FirstBytes::datum_of_vanished,
-    crate::proofs::FirstBytes::datum_of_quota,
-    crate::proofs::FirstBytes::datum_of_id,
-    crate::proofs::FirstBytes::datum_of_acl,
-    crate::proofs::FirstBytes::datum_other
-))]
+#[tactic(auto, using(crate::proofs::FirstBytes::datum_none, crate::proofs::FirstBytes::datum_of_status, crate::proofs::FirstBytes::datum_of_number, crate::proofs::FirstBytes::datum_of_mailbox, crate::proofs::FirstBytes::datum_of_list, crate::proofs::FirstBytes::datum_of_capability, crate::proofs::FirstBytes::datum_of_enabled, crate::proofs::FirstBytes::datum_of_annotation, crate::proofs::FirstBytes::datum_of_vanished, crate::proofs::FirstBytes::datum_of_quota, crate::proofs::FirstBytes::datum_of_id, crate::proofs::FirstBytes::datum_of_acl, crate::proofs::FirstBytes::datum_other))]
 pub(crate) fn datum_line(alloc: Global, i: &[u8]) -> IResult<&[u8], Response<'_>>
-    ensures { Gives response_value result (step (rule.ended rule.datum) i.now) }
+    ensures { Gives response_value result (step rule.ended_datum i.now) }
 {
     match i.first() {
         None => Err(Err::Incomplete(Needed::Unknown)),

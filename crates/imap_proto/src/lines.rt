@@ -97,12 +97,7 @@ fn tagged(alloc: Global, i: &[u8]) -> IResult<&[u8], Response<'_>>
 }
 
 /// A response: a continuation, a data line or a tagged line.
-#[tactic(auto, using(
-    crate::proofs::FirstBytes::response_none,
-    crate::proofs::FirstBytes::response_plus,
-    crate::proofs::FirstBytes::response_star,
-    crate::proofs::FirstBytes::response_other
-))]
+#[tactic(auto, using(crate::proofs::FirstBytes::response_none, crate::proofs::FirstBytes::response_plus, crate::proofs::FirstBytes::response_star, crate::proofs::FirstBytes::response_other))]
 pub(crate) fn response(alloc: Global, i: &[u8]) -> IResult<&[u8], Response<'_>>
     ensures { Gives response_value result (step rule.response i.now) }
 {
