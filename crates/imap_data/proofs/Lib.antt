@@ -5,3 +5,11 @@ pub mod Quotas
 pub mod Ids
 pub mod Annotations
 pub mod Acls
+pub mod CodeTexts
+pub mod NameTexts
+pub mod QuotaTexts
+pub mod VanishingTexts
+pub mod AnnotationTexts
+pub mod MailboxDataTexts
+pub mod AclTexts
+pub mod OptionalRights
