@@ -33,3 +33,4 @@ pub mod ReadingQuoted
 pub mod Spelling
 pub mod ReadingSets
 pub mod ReadingCounts
+pub mod Takes

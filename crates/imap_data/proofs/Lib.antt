@@ -13,3 +13,4 @@ pub mod AnnotationTexts
 pub mod MailboxDataTexts
 pub mod AclTexts
 pub mod OptionalRights
+pub mod Takes

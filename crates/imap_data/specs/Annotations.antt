@@ -1,4 +1,4 @@
--- Annotations of mailboxes (RFC 5464, section 4.4 and section 5: entry, entry-value, metadata-resp).
+-- Annotations of mailboxes (RFC 5464, section 5: entry, entry-value, metadata-resp).
 use Rattle.std.specs.Prelude.{ℕ, Bool, true, false, List, [], ◌∷◌, Option, None, Some, option_map, ◌==◌, ◌&&◌, ◌||◌, nat_lt, not, if◌then◌else◌, codes}
 use Rattle.std.specs.List.{list_all, take_while}
 use Rattle.imap_bytes.specs.Text.{Bytes, Text}

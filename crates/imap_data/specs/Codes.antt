@@ -1,4 +1,4 @@
--- Response codes (RFC 3501, section 9: resp-text-code; RFC 4551, section 4; RFC 4315, section 4; RFC 5464, section 5).
+-- Response codes (RFC 3501, RFC 4551 and RFC 5464: resp-text-code, in sections 9, 4 and 5; RFC 4315, section 4: resp-code-apnd, resp-code-copy).
 use Rattle.std.specs.Prelude.{ℕ, List, Option, option_map, map}
 use Rattle.imap_bytes.specs.Text.{Text, text_of, lent_text}
 use Rattle.imap_bytes.specs.Rule.{Rule, gives, opt, ◌⨾◌, ◌▹◌, ◌◃◌, ◌or◌}

@@ -1,4 +1,4 @@
--- Items of STATUS, and numbers that were found (RFC 3501, section 7.2.4, section 7.2.5 and section 9: status-att-list; RFC 4551, section 3.6; RFC 5256, section 4).
+-- Items of STATUS, and numbers that were found (RFC 3501, section 9: status-att-list, mailbox-data; RFC 4551, section 4: status-att-val; RFC 5256, section 5: sort-data).
 use Rattle.std.specs.Prelude.{ℕ, List}
 use Rattle.imap_bytes.specs.Rule.{Rule, gives, many, ◌▹◌, ◌◃◌, ◌or◌}
 use Rattle.imap_bytes.specs.Tags.{word, sp, maybe_space}

@@ -1,4 +1,4 @@
--- Data of a mailbox (RFC 3501, section 7.2 and section 9: mailbox-data; RFC 5256, section 4; X-GM-EXT-1).
+-- Data of a mailbox (RFC 3501, section 9: mailbox-data; RFC 5256, section 5: sort-data; X-GM-EXT-1).
 use Rattle.std.specs.Prelude.{List}
 use Rattle.imap_bytes.specs.Text.{Text}
 use Rattle.imap_bytes.specs.Rule.{Rule, gives, ◌⨾◌, ◌▹◌, ◌◃◌, ◌or◌}

@@ -46,6 +46,14 @@ mailbox_value (datum.GmailLabels labels) = GmailLabels (map text_of labels.items
 mailbox_value (datum.GmailMsgId n) = GmailMsgId n
 mailbox_value (datum.GmailThrId n) = GmailThrId n
 
+-- a number alone
+abbrev pub IsNumber : MailboxValue → Type 0
+IsNumber (Exists n) = Unit {0}
+IsNumber (Recent n) = Unit {0}
+IsNumber (GmailMsgId n) = Unit {0}
+IsNumber (GmailThrId n) = Unit {0}
+IsNumber other = ⊥
+
 -- ---- with all texts borrowed: two values are the same where these are one
 
 abbrev pub lent_mailbox : MailboxValue → MailboxValue

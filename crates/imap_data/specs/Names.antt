@@ -1,4 +1,4 @@
--- Attributes of mailbox names and the data of LIST (RFC 3501, section 7.2.2 and section 9: mailbox-list, mbx-list-flags; RFC 6154, section 2).
+-- Attributes of mailbox names and the data of LIST (RFC 3501, section 9: mailbox-list, mbx-list-flags; RFC 6154, section 6: use-attr).
 use Rattle.std.specs.Prelude.{List, Option, None, Some, option_map, map}
 use Rattle.imap_bytes.specs.Text.{Bytes, Text, as_text, text_of, lent_text}
 use Rattle.imap_bytes.specs.Rule.{Rule, gives, nothing, ◌⨾◌, ◌▹◌, ◌or◌}
@@ -7,6 +7,7 @@ use Rattle.imap_bytes.specs.Strings.{nil}
 use Rattle.imap_bytes.specs.Texts.{quoted_utf8}
 use Rattle.imap_bytes.specs.Lists.{list_of}
 use Rattle.imap_items.specs.Flags.{backslashed_text}
+use Rattle.imap_items.specs.Copies.{IsLent}
 use Rattle.imap_items.specs.Mailboxes.{mailbox}
 use Rattle.imap_data.specs.declared.types.names.NameAttribute.{NameAttribute}
 use Rattle.imap_data.specs.declared.types.names.NameAttribute.TheVariants as name
@@ -57,6 +58,11 @@ attribute_content a = lent_attribute (attribute_value a)
 abbrev pub list_content : MailboxListData → ListValue
 list_content l = lent_list (list_value l)
 
+-- it holds no owned text
+abbrev pub IsLentAttribute : NameAttributeValue → Type 0
+IsLentAttribute (Extension t) = IsLent t
+IsLentAttribute other = Unit {0}
+
 -- ---- rules
 
 -- an extension's text has its backslash
@@ -82,9 +88,12 @@ name_attribute =
 unfoldable pub name_attributes : Rule (List NameAttributeValue)
 name_attributes = list_of name_attribute
 
+abbrev pub some_delimiter : Rule (Option Text)
+some_delimiter = gives Some quoted_utf8
+
 -- the hierarchy delimiter: nil where the names have none
 unfoldable pub delimiter : Rule (Option Text)
-delimiter = gives Some quoted_utf8 or nil ▹ nothing None
+delimiter = some_delimiter or nil ▹ nothing None
 
 abbrev pub listed : List NameAttributeValue × (Option Text × Text) → ListValue
 listed v = record { name_attributes = v.0; delimiter = v.1.0; name = v.1.1 }

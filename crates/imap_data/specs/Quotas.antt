@@ -1,10 +1,11 @@
--- Quotas (RFC 2087, section 5.1: QUOTA, section 5.2: QUOTAROOT), with any blanks between the parts.
+-- Quotas (RFC 2087, section 6: quota_response, quota_list, quota_resource, quotaroot_response), with any blanks between the parts.
 use Rattle.std.specs.Prelude.{ℕ, List, map}
 use Rattle.imap_bytes.specs.Text.{Text, text_of, lent_text}
 use Rattle.imap_bytes.specs.Rule.{Rule, many, gives, list0, ◌⨾◌, ◌▹◌, ◌◃◌, ◌or◌}
 use Rattle.imap_bytes.specs.Tags.{tag, word, names, blanks1}
 use Rattle.imap_bytes.specs.Numbers.{number_64}
 use Rattle.imap_bytes.specs.Texts.{astring_utf8}
+use Rattle.imap_items.specs.Copies.{IsLent}
 use Rattle.imap_data.specs.declared.types.quotas.QuotaResourceName.{QuotaResourceName}
 use Rattle.imap_data.specs.declared.types.quotas.QuotaResourceName.TheVariants as name
 use Rattle.imap_data.specs.declared.types.quotas.QuotaResource.{QuotaResource}
@@ -72,6 +73,11 @@ quota_content x = lent_quota (quota_value x)
 
 abbrev pub quota_root_content : QuotaRoot → QuotaRootValue
 quota_root_content x = lent_quota_root (quota_root_value x)
+
+-- it holds no owned text
+abbrev pub IsLentName : QuotaResourceNameValue → Type 0
+IsLentName (Atom t) = IsLent t
+IsLentName other = Unit {0}
 
 -- ---- rules
 

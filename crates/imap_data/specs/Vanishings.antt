@@ -1,4 +1,4 @@
--- Messages that are gone (RFC 7162, section 3.2.10: VANISHED).
+-- Messages that are gone (RFC 7162, section 7: expunged-resp).
 use Rattle.std.specs.Prelude.{ℕ, Bool, true, false, List, map}
 use Rattle.std.specs.Global.{Vec}
 use Rattle.std.specs.declared.ops.RangeInclusive.{RangeInclusive}

@@ -1,5 +1,14 @@
 //! Readers of data, each of the rule of its name.
 
+/// Reads the word in any case, then what the reader reads behind it, and answers its value in the variant.
+macro_rules! worded {
+    ($i:ident: $word:expr, $reader:ident $(($alloc:ident))? => $variant:path) => {{
+        let (rest, _) = imap_bytes::tags::word($word, $i)?;
+        let (rest, found) = $reader($($alloc,)? rest)?;
+        Ok((rest, $variant(found)))
+    }};
+}
+
 pub mod acls;
 pub mod annotations;
 pub mod codes;

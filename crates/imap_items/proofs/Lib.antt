@@ -8,3 +8,4 @@ pub mod CapabilityTexts
 pub mod UidSetTexts
 pub mod MailboxTexts
 pub mod RightTexts
+pub mod Takes

@@ -21,9 +21,9 @@ capability_value (kind.Atom t) = Atom (text_of t)
 
 -- with its text borrowed: two values are the same where these are one
 abbrev pub lent_capability : CapabilityValue → CapabilityValue
-lent_capability Imap4rev1 = Imap4rev1
 lent_capability (Auth t) = Auth (lent_text t)
 lent_capability (Atom t) = Atom (lent_text t)
+lent_capability other = other
 
 -- what `==` and hashing tell of a capability
 abbrev pub capability_content : Capability → CapabilityValue

@@ -1,4 +1,4 @@
--- Flags (RFC 3501, section 9: flag, flag-perm, flag-list). A flag's text has its backslash.
+-- Flags (RFC 3501, section 9: flag, flag-extension, flag-keyword, flag-perm, flag-list). A flag's text has its backslash.
 use Rattle.std.specs.Prelude.{List, codes}
 use Rattle.imap_bytes.specs.Classes.{is_atom_char, is_astring_char}
 use Rattle.imap_bytes.specs.Text.{Bytes, Text, as_text}

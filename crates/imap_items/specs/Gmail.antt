@@ -8,8 +8,12 @@ use Rattle.imap_bytes.specs.Texts.{quoted_utf8}
 use Rattle.imap_bytes.specs.Lists.{list_of}
 use Rattle.imap_items.specs.Flags.{flag}
 
+abbrev pub flag_label : Rule Text
+flag_label = gives as_text flag
+
+-- a flag, or a quoted string
 unfoldable pub gmail_label : Rule Text
-gmail_label = gives as_text flag or quoted_utf8
+gmail_label = flag_label or quoted_utf8
 
 unfoldable pub gmail_labels : Rule (List Text)
 gmail_labels = list_of gmail_label

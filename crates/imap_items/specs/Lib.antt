@@ -12,3 +12,4 @@ pub mod CapabilityTexts
 pub mod UidSetTexts
 pub mod MailboxTexts
 pub mod RightTexts
+pub mod Copies

@@ -1,4 +1,4 @@
--- Mailbox names (RFC 3501, section 5.1 and section 9: mailbox).
+-- Mailbox names (RFC 3501, section 9: mailbox).
 use Rattle.std.specs.Prelude.{cond, codes}
 use Rattle.imap_bytes.specs.Meaning.{is_word}
 use Rattle.imap_bytes.specs.Text.{Text, as_text}

@@ -1,4 +1,4 @@
--- The status of a line (RFC 3501, section 7.1).
+-- The status of a line (RFC 3501, section 9: resp-cond-state, resp-cond-auth, resp-cond-bye).
 use Rattle.imap_bytes.specs.Rule.{Rule, ◌or◌}
 use Rattle.imap_bytes.specs.Tags.{names}
 use Rattle.imap_items.specs.declared.types.statuses.Status.{Status}

@@ -1,4 +1,4 @@
--- Sets of UIDs (RFC 4315, section 4: uid-set).
+-- Sets of UIDs (RFC 4315, section 4: uid-set, uid-range).
 use Rattle.std.specs.Prelude.{ℕ, min, max, ◌≤◌, Bool, true, false, List}
 use Rattle.std.specs.Range.{range_inclusive_start, range_inclusive_end, range_inclusive_exhausted}
 use Rattle.imap_bytes.specs.Rule.{Rule, gives, list1, ◌or◌}

@@ -1,14 +1,16 @@
-//! Copies of texts.
+//! Copies of texts. Each text of a copy is borrowed or owned as the one that it is a copy of.
 
-ghost use Rattle.std.specs.Prelude.{◌≡◌, map, IfOk};
+ghost use Rattle.std.specs.Prelude.{◌≡◌, map, IfOk, IsOk};
 ghost use Rattle.imap_bytes.specs.Text.{text_of};
+ghost use Rattle.imap_items.specs.Copies.{IsLent};
 
 use std::alloc::AllocError;
 use std::borrow::CowStr;
 
-/// The same text, borrowed or owned as it is. It takes memory for an owned one.
+/// The same text. It takes memory only where the text is owned; `Err` where there is none.
 pub fn copied_text<'a>(text: &CowStr<'a>) -> Result<CowStr<'a>, AllocError>
-    ensures { IfOk result (λ t. text_of t ≡ text_of text.now) }
+    ensures same { IfOk result (λ t. text_of t ≡ text_of text.now) }
+    ensures memory { IsLent (text_of text.now) → IsOk result }
 {
     match text {
         CowStr::Borrowed(text) => Ok(CowStr::Borrowed(*text)),
@@ -16,7 +18,7 @@ pub fn copied_text<'a>(text: &CowStr<'a>) -> Result<CowStr<'a>, AllocError>
     }
 }
 
-/// The same texts, each borrowed or owned as it is.
+/// The same texts. It takes memory for the list, and for owned texts; `Err` where there is none.
 pub fn copied_texts<'a>(texts: &Vec<CowStr<'a>>) -> Result<Vec<CowStr<'a>>, AllocError>
     ensures { IfOk result (λ v. map text_of v.items ≡ map text_of texts.now.items) }
 {

@@ -37,8 +37,10 @@ use std::hash::Hash;
 #[tactic(auto, using(imap_bytes::proofs::Stability::is_stable))]
 pub fn stable()
     ensures status { Stable statuses.status }
+    ensures backslashed_text { Stable flags.backslashed_text }
     ensures flag { Stable flags.flag }
     ensures flag_perm { Stable flags.flag_perm }
+    ensures flag_text { Stable flags.flag_text }
     ensures flag_list { Stable flags.flag_list }
     ensures capability { Stable capabilities.capability }
     ensures capability_data { Stable capabilities.capability_data }

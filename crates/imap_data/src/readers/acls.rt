@@ -81,7 +81,7 @@ fn optional_rights(alloc: Global, i: &[u8]) -> IResult<&[u8], Vec<AclRight>>
 }
 
 #[tactic(auto, unfolding(crate::specs::Acls::list_rights))]
-fn list_rights_data(alloc: Global, i: &[u8]) -> IResult<&[u8], ListRights<'_>>
+fn list_rights_parts(alloc: Global, i: &[u8]) -> IResult<&[u8], ListRights<'_>>
     ensures { Gives (λ x. list_rights_value x) result (step rules.list_rights i.now) }
 {
     let (i, _) = word(b"LISTRIGHTS", i)?;
@@ -111,11 +111,11 @@ pub fn list_rights(alloc: Global, i: &[u8]) -> IResult<&[u8], ListRights<'_>>
     ensures steps { Gives (λ x. list_rights_value x) result (step rules.list_rights i.now) }
     ensures answer { Answers rules.list_rights (λ x. list_rights_value x) i.now result }
 {
-    list_rights_data(alloc, i)
+    list_rights_parts(alloc, i)
 }
 
 #[tactic(auto, unfolding(crate::specs::Acls::my_rights))]
-fn my_rights_data(alloc: Global, i: &[u8]) -> IResult<&[u8], MyRights<'_>>
+fn my_rights_parts(alloc: Global, i: &[u8]) -> IResult<&[u8], MyRights<'_>>
     ensures { Gives (λ x. my_rights_value x) result (step rules.my_rights i.now) }
 {
     let (i, _) = word(b"MYRIGHTS", i)?;
@@ -134,5 +134,5 @@ pub fn my_rights(alloc: Global, i: &[u8]) -> IResult<&[u8], MyRights<'_>>
     ensures steps { Gives (λ x. my_rights_value x) result (step rules.my_rights i.now) }
     ensures answer { Answers rules.my_rights (λ x. my_rights_value x) i.now result }
 {
-    my_rights_data(alloc, i)
+    my_rights_parts(alloc, i)
 }

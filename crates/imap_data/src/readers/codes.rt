@@ -51,9 +51,7 @@ fn bad_charset(alloc: Global, i: &[u8]) -> IResult<&[u8], ResponseCode<'_>>
 fn permanent_flags(alloc: Global, i: &[u8]) -> IResult<&[u8], ResponseCode<'_>>
     ensures { Gives (λ x. code_value x) result (step codes.permanent_flags i.now) }
 {
-    let (i, _) = word(b"PERMANENTFLAGS ", i)?;
-    let (i, flags) = flag_list(alloc, i)?;
-    Ok((i, ResponseCode::PermanentFlags(flags)))
+    worded!(i: b"PERMANENTFLAGS ", flag_list(alloc) => ResponseCode::PermanentFlags)
 }
 
 #[tactic(auto, unfolding(crate::specs::Codes::capabilities))]
@@ -68,54 +66,42 @@ fn capabilities(alloc: Global, i: &[u8]) -> IResult<&[u8], ResponseCode<'_>>
 fn uid_validity(i: &[u8]) -> IResult<&[u8], ResponseCode<'_>>
     ensures { Exactly (λ x. code_value x) result (step codes.uid_validity i.now) }
 {
-    let (i, _) = word(b"UIDVALIDITY ", i)?;
-    let (i, n) = number(i)?;
-    Ok((i, ResponseCode::UidValidity(n)))
+    worded!(i: b"UIDVALIDITY ", number => ResponseCode::UidValidity)
 }
 
 #[tactic(auto, unfolding(crate::specs::Codes::uid_next))]
 fn uid_next(i: &[u8]) -> IResult<&[u8], ResponseCode<'_>>
     ensures { Exactly (λ x. code_value x) result (step codes.uid_next i.now) }
 {
-    let (i, _) = word(b"UIDNEXT ", i)?;
-    let (i, n) = number(i)?;
-    Ok((i, ResponseCode::UidNext(n)))
+    worded!(i: b"UIDNEXT ", number => ResponseCode::UidNext)
 }
 
 #[tactic(auto, unfolding(crate::specs::Codes::unseen))]
 fn unseen(i: &[u8]) -> IResult<&[u8], ResponseCode<'_>>
     ensures { Exactly (λ x. code_value x) result (step codes.unseen i.now) }
 {
-    let (i, _) = word(b"UNSEEN ", i)?;
-    let (i, n) = number(i)?;
-    Ok((i, ResponseCode::Unseen(n)))
+    worded!(i: b"UNSEEN ", number => ResponseCode::Unseen)
 }
 
 #[tactic(auto, unfolding(crate::specs::Codes::highest_mod_seq))]
 fn highest_mod_seq(i: &[u8]) -> IResult<&[u8], ResponseCode<'_>>
     ensures { Exactly (λ x. code_value x) result (step codes.highest_mod_seq i.now) }
 {
-    let (i, _) = word(b"HIGHESTMODSEQ ", i)?;
-    let (i, n) = number_64(i)?;
-    Ok((i, ResponseCode::HighestModSeq(n)))
+    worded!(i: b"HIGHESTMODSEQ ", number_64 => ResponseCode::HighestModSeq)
 }
 
 #[tactic(auto, unfolding(crate::specs::Codes::long_entries))]
 fn long_entries(i: &[u8]) -> IResult<&[u8], ResponseCode<'_>>
     ensures { Exactly (λ x. code_value x) result (step codes.long_entries i.now) }
 {
-    let (i, _) = word(b"METADATA LONGENTRIES ", i)?;
-    let (i, n) = number_64(i)?;
-    Ok((i, ResponseCode::MetadataLongEntries(n)))
+    worded!(i: b"METADATA LONGENTRIES ", number_64 => ResponseCode::MetadataLongEntries)
 }
 
 #[tactic(auto, unfolding(crate::specs::Codes::max_size))]
 fn max_size(i: &[u8]) -> IResult<&[u8], ResponseCode<'_>>
     ensures { Exactly (λ x. code_value x) result (step codes.max_size i.now) }
 {
-    let (i, _) = word(b"METADATA MAXSIZE ", i)?;
-    let (i, n) = number_64(i)?;
-    Ok((i, ResponseCode::MetadataMaxSize(n)))
+    worded!(i: b"METADATA MAXSIZE ", number_64 => ResponseCode::MetadataMaxSize)
 }
 
 #[tactic(auto, unfolding(crate::specs::Codes::too_many))]

@@ -7,7 +7,7 @@ ghost use Rattle.imap_data.specs.Counts as counts;
 
 use crate::types::counts::StatusAttribute;
 use imap_bytes::lists::repeated;
-use imap_bytes::tags::{maybe_space, tag, word};
+use imap_bytes::tags::{maybe_space, tag};
 use imap_bytes::{IResult, first, number, number_64, parenthesized_list};
 use std::alloc::Global;
 
@@ -15,54 +15,42 @@ use std::alloc::Global;
 fn highest_mod_seq(i: &[u8]) -> IResult<&[u8], StatusAttribute>
     ensures { Exactly (λ x. x) result (step counts.highest_mod_seq i.now) }
 {
-    let (rest, _) = word(b"HIGHESTMODSEQ ", i)?;
-    let (rest, sequence) = number_64(rest)?;
-    Ok((rest, StatusAttribute::HighestModSeq(sequence)))
+    worded!(i: b"HIGHESTMODSEQ ", number_64 => StatusAttribute::HighestModSeq)
 }
 
 #[tactic(auto, unfolding(crate::specs::Counts::messages))]
 fn messages(i: &[u8]) -> IResult<&[u8], StatusAttribute>
     ensures { Exactly (λ x. x) result (step counts.messages i.now) }
 {
-    let (rest, _) = word(b"MESSAGES ", i)?;
-    let (rest, count) = number(rest)?;
-    Ok((rest, StatusAttribute::Messages(count)))
+    worded!(i: b"MESSAGES ", number => StatusAttribute::Messages)
 }
 
 #[tactic(auto, unfolding(crate::specs::Counts::recent))]
 fn recent(i: &[u8]) -> IResult<&[u8], StatusAttribute>
     ensures { Exactly (λ x. x) result (step counts.recent i.now) }
 {
-    let (rest, _) = word(b"RECENT ", i)?;
-    let (rest, count) = number(rest)?;
-    Ok((rest, StatusAttribute::Recent(count)))
+    worded!(i: b"RECENT ", number => StatusAttribute::Recent)
 }
 
 #[tactic(auto, unfolding(crate::specs::Counts::uid_next))]
 fn uid_next(i: &[u8]) -> IResult<&[u8], StatusAttribute>
     ensures { Exactly (λ x. x) result (step counts.uid_next i.now) }
 {
-    let (rest, _) = word(b"UIDNEXT ", i)?;
-    let (rest, uid) = number(rest)?;
-    Ok((rest, StatusAttribute::UidNext(uid)))
+    worded!(i: b"UIDNEXT ", number => StatusAttribute::UidNext)
 }
 
 #[tactic(auto, unfolding(crate::specs::Counts::uid_validity))]
 fn uid_validity(i: &[u8]) -> IResult<&[u8], StatusAttribute>
     ensures { Exactly (λ x. x) result (step counts.uid_validity i.now) }
 {
-    let (rest, _) = word(b"UIDVALIDITY ", i)?;
-    let (rest, validity) = number(rest)?;
-    Ok((rest, StatusAttribute::UidValidity(validity)))
+    worded!(i: b"UIDVALIDITY ", number => StatusAttribute::UidValidity)
 }
 
 #[tactic(auto, unfolding(crate::specs::Counts::unseen))]
 fn unseen(i: &[u8]) -> IResult<&[u8], StatusAttribute>
     ensures { Exactly (λ x. x) result (step counts.unseen i.now) }
 {
-    let (rest, _) = word(b"UNSEEN ", i)?;
-    let (rest, count) = number(rest)?;
-    Ok((rest, StatusAttribute::Unseen(count)))
+    worded!(i: b"UNSEEN ", number => StatusAttribute::Unseen)
 }
 
 /// An item of STATUS: its word in any case, and a number (RFC 3501, section 9: status-att-list; RFC 4551, section 3.6). No memory.

@@ -19,9 +19,7 @@ use std::alloc::Global;
 fn flags(alloc: Global, i: &[u8]) -> IResult<&[u8], MailboxDatum<'_>>
     ensures { Gives (λ x. mailbox_value x) result (step rules.flags i.now) }
 {
-    let (rest, _) = word(b"FLAGS ", i)?;
-    let (rest, flags) = flag_list(alloc, rest)?;
-    Ok((rest, MailboxDatum::Flags(flags)))
+    worded!(i: b"FLAGS ", flag_list(alloc) => MailboxDatum::Flags)
 }
 
 #[tactic(auto, unfolding(crate::specs::MailboxData::exists))]
@@ -37,18 +35,14 @@ fn exists(i: &[u8]) -> IResult<&[u8], MailboxDatum<'_>>
 fn list(alloc: Global, i: &[u8]) -> IResult<&[u8], MailboxDatum<'_>>
     ensures { Gives (λ x. mailbox_value x) result (step rules.list i.now) }
 {
-    let (rest, _) = word(b"LIST ", i)?;
-    let (rest, listed) = list_data(alloc, rest)?;
-    Ok((rest, MailboxDatum::List(listed)))
+    worded!(i: b"LIST ", list_data(alloc) => MailboxDatum::List)
 }
 
 #[tactic(auto, unfolding(crate::specs::MailboxData::lsub))]
 fn lsub(alloc: Global, i: &[u8]) -> IResult<&[u8], MailboxDatum<'_>>
     ensures { Gives (λ x. mailbox_value x) result (step rules.lsub i.now) }
 {
-    let (rest, _) = word(b"LSUB ", i)?;
-    let (rest, listed) = list_data(alloc, rest)?;
-    Ok((rest, MailboxDatum::List(listed)))
+    worded!(i: b"LSUB ", list_data(alloc) => MailboxDatum::List)
 }
 
 #[tactic(auto, unfolding(crate::specs::MailboxData::status))]
@@ -75,9 +69,7 @@ fn recent(i: &[u8]) -> IResult<&[u8], MailboxDatum<'_>>
 fn search(alloc: Global, i: &[u8]) -> IResult<&[u8], MailboxDatum<'_>>
     ensures { Gives (λ x. mailbox_value x) result (step rules.search i.now) }
 {
-    let (rest, _) = word(b"SEARCH", i)?;
-    let (rest, numbers) = found_numbers(alloc, rest)?;
-    Ok((rest, MailboxDatum::Search(numbers)))
+    worded!(i: b"SEARCH", found_numbers(alloc) => MailboxDatum::Search)
 }
 
 #[tactic(auto, unfolding(crate::specs::MailboxData::labels))]
@@ -108,9 +100,7 @@ fn thrid(i: &[u8]) -> IResult<&[u8], MailboxDatum<'_>>
 fn sort(alloc: Global, i: &[u8]) -> IResult<&[u8], MailboxDatum<'_>>
     ensures { Gives (λ x. mailbox_value x) result (step rules.sort i.now) }
 {
-    let (rest, _) = word(b"SORT", i)?;
-    let (rest, numbers) = found_numbers(alloc, rest)?;
-    Ok((rest, MailboxDatum::Sort(numbers)))
+    worded!(i: b"SORT", found_numbers(alloc) => MailboxDatum::Sort)
 }
 
 #[tactic(auto, unfolding(crate::specs::MailboxData::mailbox_datum))]

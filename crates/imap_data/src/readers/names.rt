@@ -10,7 +10,7 @@ ghost use Rattle.imap_data.specs.Names.{attribute_value, list_value};
 
 use crate::types::names::{MailboxListData, NameAttribute};
 use imap_bytes::tags::tag;
-use imap_bytes::{Err, IResult, named, nil, parenthesized_list, quoted_utf8};
+use imap_bytes::{IResult, first, named, nil, parenthesized_list, quoted_utf8};
 use imap_items::readers::flags::backslashed_text;
 use imap_items::readers::mailboxes::mailbox;
 use std::alloc::Global;
@@ -42,16 +42,19 @@ fn name_attributes(alloc: Global, i: &[u8]) -> IResult<&[u8], Vec<NameAttribute<
     parenthesized_list(alloc, name_attribute, i)
 }
 
+fn some_delimiter(alloc: Global, i: &[u8]) -> IResult<&[u8], Option<CowStr<'_>>>
+    ensures { Gives (λ x. option_map text_of x) result (step names.some_delimiter i.now) }
+{
+    let (rest, text) = quoted_utf8(alloc, i)?;
+    Ok((rest, Some(text)))
+}
+
 // The hierarchy delimiter, `None` for NIL.
 #[tactic(auto, unfolding(crate::specs::Names::delimiter))]
 fn delimiter(alloc: Global, i: &[u8]) -> IResult<&[u8], Option<CowStr<'_>>>
     ensures { Gives (λ x. option_map text_of x) result (step names.delimiter i.now) }
 {
-    match quoted_utf8(alloc, i) {
-        Ok((rest, text)) => return Ok((rest, Some(text))),
-        Err(Err::Error) => {}
-        Err(e) => return Err(e),
-    }
+    first!(some_delimiter(alloc, i));
     let (rest, _) = nil(i)?;
     Ok((rest, None))
 }

@@ -6,7 +6,7 @@ ghost use Rattle.imap_data.specs.Vanishings as vanishings;
 ghost use Rattle.imap_data.specs.Vanishings.{vanished_value};
 
 use imap_bytes::tags::{blanks1, word};
-use imap_bytes::{Err, IResult, sequence_set};
+use imap_bytes::{Err, IResult, first, sequence_set};
 use std::alloc::Global;
 use std::ops::RangeInclusive;
 
@@ -22,10 +22,8 @@ fn earlier_word(i: &[u8]) -> IResult<&[u8], bool>
 fn earlier(i: &[u8]) -> IResult<&[u8], bool>
     ensures { Exactly (λ x. x) result (step vanishings.earlier i.now) }
 {
-    match earlier_word(i) {
-        Err(Err::Error) => Ok((i, false)),
-        other => other,
-    }
+    first!(earlier_word(i));
+    Ok((i, false))
 }
 
 #[tactic(auto, unfolding(crate::specs::Vanishings::vanished))]

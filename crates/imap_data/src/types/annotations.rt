@@ -10,7 +10,9 @@ use std::alloc::AllocError;
 /// An annotation: its entry and its value, if it has one (RFC 5464, section 5).
 #[derive(Debug, Drop, PartialEq, Eq)]
 pub struct Metadata {
+    /// The entry's name, as it stands.
     pub entry: String,
+    /// Its value, raw: backslashes of a quoted string stay. `None` is `NIL`: there is no such entry.
     pub value: Option<String>,
 }
 

@@ -1,7 +1,7 @@
 //! Data of a mailbox.
 
-ghost use Rattle.std.specs.Prelude.{◌≡◌, IfOk};
-ghost use Rattle.imap_data.specs.MailboxValues.{mailbox_value};
+ghost use Rattle.std.specs.Prelude.{◌≡◌, IfOk, IsOk};
+ghost use Rattle.imap_data.specs.MailboxValues.{mailbox_value, IsNumber};
 
 use super::annotations::{Metadata, copied_annotations};
 use super::counts::StatusAttribute;
@@ -13,38 +13,44 @@ use std::borrow::CowStr;
 /// Data of a mailbox (RFC 3501, section 7.2; RFC 5256, section 4; RFC 5464, section 4.4; Gmail's items).
 #[derive(Debug, Drop, PartialEq, Eq)]
 pub enum MailboxDatum<'a> {
-    /// `EXISTS`
+    /// `EXISTS`: how many messages there are.
     Exists(u32),
-    /// `FLAGS`
+    /// `FLAGS`: the flags that are defined, each with its backslash if it has one.
     Flags(Vec<CowStr<'a>>),
-    /// `LIST` and `LSUB`
+    /// `LIST` and `LSUB`, which are not told apart.
     List(MailboxListData<'a>),
-    /// `SEARCH`
+    /// `SEARCH`: the numbers of the messages that were found, in the order of the line.
     Search(Vec<u32>),
-    /// `SORT`
+    /// `SORT`: the numbers of the messages, in the order that was asked for.
     Sort(Vec<u32>),
     /// `STATUS`
     Status {
+        /// The mailbox's name, raw, as in `MailboxListData`.
         mailbox: CowStr<'a>,
+        /// The items, in the order of the line.
         status: Vec<StatusAttribute>,
     },
-    /// `RECENT`
+    /// `RECENT`: how many messages are recent.
     Recent(u32),
     /// `METADATA` with values
     MetadataSolicited {
+        /// The raw content of the quoted string that names the mailbox; empty for the server.
         mailbox: CowStr<'a>,
+        /// The annotations, at least one.
         values: Vec<Metadata>,
     },
     /// `METADATA` without values
     MetadataUnsolicited {
+        /// The raw content of the quoted string that names the mailbox; empty for the server.
         mailbox: CowStr<'a>,
+        /// The names of the entries that changed.
         values: Vec<CowStr<'a>>,
     },
-    /// `X-GM-LABELS`
+    /// `X-GM-LABELS`: the labels, raw: backslashes of a quoted string stay.
     GmailLabels(Vec<CowStr<'a>>),
-    /// `X-GM-MSGID`
+    /// `X-GM-MSGID`: the number of the message.
     GmailMsgId(u64),
-    /// `X-GM-THRID`
+    /// `X-GM-THRID`: the number of the thread.
     GmailThrId(u64),
 }
 
@@ -63,7 +69,8 @@ fn copied_items(items: &Vec<StatusAttribute>) -> Result<Vec<StatusAttribute>, Al
 impl<'a> MailboxDatum<'a> {
     /// A copy. It takes memory for lists and for owned texts; `Err` where there is none.
     pub fn clone(&self) -> Result<Self, AllocError>
-        ensures { IfOk result (λ c. mailbox_value c ≡ mailbox_value self.now) }
+        ensures same { IfOk result (λ c. mailbox_value c ≡ mailbox_value self.now) }
+        ensures memory { IsNumber (mailbox_value self.now) → IsOk result }
     {
         Ok(match self {
             MailboxDatum::Exists(count) => MailboxDatum::Exists(*count),

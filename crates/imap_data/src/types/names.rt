@@ -1,9 +1,9 @@
 //! Attributes of mailbox names, and the data of LIST.
 
-ghost use Rattle.std.specs.Prelude.{◌≡◌, IfOk, map};
+ghost use Rattle.std.specs.Prelude.{◌≡◌, IfOk, IsOk, map};
 ghost use Rattle.std.specs.Option.{option_map};
 ghost use Rattle.imap_bytes.specs.Text.{text_of};
-ghost use Rattle.imap_data.specs.Names.{attribute_value, list_value};
+ghost use Rattle.imap_data.specs.Names.{attribute_value, list_value, IsLentAttribute};
 
 use imap_items::copies::copied_text;
 use std::alloc::AllocError;
@@ -34,22 +34,26 @@ pub enum NameAttribute<'a> {
     Sent,
     /// `\Trash`
     Trash,
-    /// Any other, its backslash included.
+    /// Any other, its backslash included, as it stands.
     Extension(CowStr<'a>),
 }
 
 /// What LIST and LSUB say of a mailbox (RFC 3501, section 7.2.2).
 #[derive(Debug, Drop, PartialEq, Eq)]
 pub struct MailboxListData<'a> {
+    /// The attributes of its name, in the order of the line.
     pub name_attributes: Vec<NameAttribute<'a>>,
+    /// The hierarchy delimiter: raw content of a quoted string, whose backslashes stay, so that a backslash is told as two. `None` is `NIL`: the names are flat.
     pub delimiter: Option<CowStr<'a>>,
+    /// The name, raw: backslashes of a quoted string stay, and modified UTF-7 (section 5.1.3) isn't decoded. INBOX in any case is `INBOX`.
     pub name: CowStr<'a>,
 }
 
 impl<'a> NameAttribute<'a> {
     /// A copy. It takes memory only for an owned text; `Err` where there is none.
     pub fn clone(&self) -> Result<Self, AllocError>
-        ensures { IfOk result (λ c. attribute_value c ≡ attribute_value self.now) }
+        ensures same { IfOk result (λ c. attribute_value c ≡ attribute_value self.now) }
+        ensures memory { IsLentAttribute (attribute_value self.now) → IsOk result }
     {
         Ok(match self {
             NameAttribute::NoInferiors => NameAttribute::NoInferiors,

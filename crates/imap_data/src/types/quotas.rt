@@ -1,7 +1,7 @@
 //! Quotas.
 
-ghost use Rattle.std.specs.Prelude.{◌≡◌, map, IfOk};
-ghost use Rattle.imap_data.specs.Quotas.{quota_resource_name_value, quota_resource_value, quota_value, quota_root_value};
+ghost use Rattle.std.specs.Prelude.{◌≡◌, map, IfOk, IsOk};
+ghost use Rattle.imap_data.specs.Quotas.{quota_resource_name_value, quota_resource_value, quota_value, quota_root_value, IsLentName};
 
 use imap_items::copies::{copied_text, copied_texts};
 use std::alloc::AllocError;
@@ -14,13 +14,14 @@ pub enum QuotaResourceName<'a> {
     Storage,
     /// `MESSAGE`: how many messages there are.
     Message,
-    /// Any other.
+    /// Any other, raw.
     Atom(CowStr<'a>),
 }
 
 /// A resource of a quota (RFC 2087, section 5.1).
 #[derive(Debug, Drop, PartialEq, Eq, Hash)]
 pub struct QuotaResource<'a> {
+    /// What it is called.
     pub name: QuotaResourceName<'a>,
     /// How much of it is used.
     pub usage: u64,
@@ -31,21 +32,26 @@ pub struct QuotaResource<'a> {
 /// The resources of a quota root (RFC 2087, section 5.1).
 #[derive(Debug, Drop, PartialEq, Eq, Hash)]
 pub struct Quota<'a> {
+    /// The quota root's name, raw: backslashes of a quoted string stay.
     pub root_name: CowStr<'a>,
+    /// Its resources, maybe none.
     pub resources: Vec<QuotaResource<'a>>,
 }
 
 /// The quota roots of a mailbox (RFC 2087, section 5.2).
 #[derive(Debug, Drop, PartialEq, Eq, Hash)]
 pub struct QuotaRoot<'a> {
+    /// The mailbox's name, raw: backslashes of a quoted string stay, modified UTF-7 isn't decoded, and INBOX stays as it is written.
     pub mailbox_name: CowStr<'a>,
+    /// The names of its quota roots, maybe none, raw.
     pub quota_root_names: Vec<CowStr<'a>>,
 }
 
 impl<'a> QuotaResourceName<'a> {
-    /// The same name. It takes memory for an owned text.
+    /// The same name. It takes memory only for an owned text; `Err` where there is none.
     pub fn clone(&self) -> Result<Self, AllocError>
-        ensures { IfOk result (λ copy. quota_resource_name_value copy ≡ quota_resource_name_value self.now) }
+        ensures same { IfOk result (λ copy. quota_resource_name_value copy ≡ quota_resource_name_value self.now) }
+        ensures memory { IsLentName (quota_resource_name_value self.now) → IsOk result }
     {
         Ok(match self {
             QuotaResourceName::Storage => QuotaResourceName::Storage,
@@ -56,9 +62,10 @@ impl<'a> QuotaResourceName<'a> {
 }
 
 impl<'a> QuotaResource<'a> {
-    /// The same resource. It takes memory for an owned text.
+    /// The same resource. It takes memory only for an owned text; `Err` where there is none.
     pub fn clone(&self) -> Result<Self, AllocError>
-        ensures { IfOk result (λ copy. quota_resource_value copy ≡ quota_resource_value self.now) }
+        ensures same { IfOk result (λ copy. quota_resource_value copy ≡ quota_resource_value self.now) }
+        ensures memory { IsLentName (quota_resource_name_value self.now.name) → IsOk result }
     {
         Ok(QuotaResource {
             name: self.name.clone()?,

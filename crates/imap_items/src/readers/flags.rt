@@ -1,8 +1,9 @@
 //! Flags.
 
-ghost use Rattle.std.specs.Prelude.{map};
+ghost use Rattle.std.specs.Prelude.{codes, map};
 ghost use Rattle.imap_bytes.specs.Answer.{Answers, Exactly, Gives};
 ghost use Rattle.imap_bytes.specs.Step.{step};
+ghost use Rattle.imap_bytes.specs.Tags.{exactly_names};
 ghost use Rattle.imap_bytes.specs.Text.{text_of};
 ghost use Rattle.imap_items.specs.Flags as flags;
 
@@ -55,10 +56,15 @@ pub fn flag(i: &[u8]) -> IResult<&[u8], &str>
     ensures steps { Exactly (λ x. x.now) result (step flags.flag i.now) }
     ensures answer { Answers flags.flag (λ x. x.now) i.now result }
 {
-    match backslashed_text(i) {
-        Err(Err::Error) => keyword(i),
-        other => other,
-    }
+    first!(backslashed_text(i));
+    keyword(i)
+}
+
+fn star(i: &[u8]) -> IResult<&[u8], &str>
+    ensures { Exactly (λ x. x.now) result (step (exactly_names "\\*" (codes "\\*")) i.now) }
+{
+    let (rest, _) = tag(b"\\*", i)?;
+    Ok((rest, "\\*"))
 }
 
 /// `\*`, or a flag (RFC 3501, section 9: flag-perm). No memory.
@@ -67,11 +73,7 @@ pub fn flag_perm(i: &[u8]) -> IResult<&[u8], &str>
     ensures steps { Exactly (λ x. x.now) result (step flags.flag_perm i.now) }
     ensures answer { Answers flags.flag_perm (λ x. x.now) i.now result }
 {
-    match tag(b"\\*", i) {
-        Ok((rest, _)) => return Ok((rest, "\\*")),
-        Err(Err::Error) => {}
-        Err(e) => return Err(e),
-    }
+    first!(star(i));
     flag(i)
 }
 

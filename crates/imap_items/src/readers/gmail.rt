@@ -8,20 +8,23 @@ ghost use Rattle.imap_items.specs.Gmail as rules;
 
 use super::flags::flag;
 use imap_bytes::tags::word;
-use imap_bytes::{Err, IResult, number_64, parenthesized_list, quoted_utf8};
+use imap_bytes::{IResult, first, number_64, parenthesized_list, quoted_utf8};
 use std::alloc::Global;
 use std::borrow::CowStr;
+
+fn flag_label(i: &[u8]) -> IResult<&[u8], CowStr<'_>>
+    ensures { Exactly (λ x. text_of x) result (step rules.flag_label i.now) }
+{
+    let (rest, text) = flag(i)?;
+    Ok((rest, CowStr::Borrowed(text)))
+}
 
 // A label: a flag, or a quoted string.
 #[tactic(auto, unfolding(crate::specs::Gmail::gmail_label))]
 fn gmail_label(alloc: Global, i: &[u8]) -> IResult<&[u8], CowStr<'_>>
     ensures { Gives (λ x. text_of x) result (step rules.gmail_label i.now) }
 {
-    match flag(i) {
-        Ok((rest, text)) => return Ok((rest, CowStr::Borrowed(text))),
-        Err(Err::Error) => {}
-        Err(e) => return Err(e),
-    }
+    first!(flag_label(i));
     quoted_utf8(alloc, i)
 }
 

@@ -4,7 +4,8 @@ ghost use Rattle.std.specs.Prelude.{◌≡◌, map, IfOk};
 ghost use Rattle.std.specs.List.{All};
 ghost use Rattle.imap_bytes.specs.Answer.{Answers, Exactly, Gives};
 ghost use Rattle.imap_bytes.specs.Step.{step};
-ghost use Rattle.imap_bytes.specs.Sets.{ends};
+ghost use Rattle.imap_bytes.specs.Rule.{gives};
+ghost use Rattle.imap_bytes.specs.Sets.{sequence_range as sequence_range_rule, ends};
 ghost use Rattle.imap_items.specs.UidSets as sets;
 ghost use Rattle.imap_items.specs.UidSets.{member_value, range_of, IsOrdered};
 
@@ -12,7 +13,7 @@ use crate::types::uid_sets::UidSetMember;
 use imap_bytes::lists::{Separator, separated};
 use imap_bytes::numbers::number;
 use imap_bytes::sets::sequence_range;
-use imap_bytes::{Err, IResult};
+use imap_bytes::{Err, IResult, first};
 use std::alloc::Global;
 use std::ops::RangeInclusive;
 
@@ -23,16 +24,19 @@ fn in_order(range: RangeInclusive<u32>) -> UidSetMember
     UidSetMember::UidRange(first.min(last)..=first.max(last))
 }
 
+fn range_member(i: &[u8]) -> IResult<&[u8], UidSetMember>
+    ensures { Exactly (λ x. member_value x) result (step (gives range_of sequence_range_rule) i.now) }
+{
+    let (rest, range) = sequence_range(i)?;
+    Ok((rest, in_order(range)))
+}
+
 /// A range of UIDs with its ends put in order, or one UID (RFC 4315, section 4: uid-range, uniqueid). No memory.
 #[tactic(auto, unfolding(crate::specs::UidSets::uid_set_member))]
 pub(crate) fn uid_set_member(i: &[u8]) -> IResult<&[u8], UidSetMember>
     ensures { Exactly (λ x. member_value x) result (step sets.uid_set_member i.now) }
 {
-    match sequence_range(i) {
-        Ok((rest, range)) => return Ok((rest, in_order(range))),
-        Err(Err::Error) => {}
-        Err(e) => return Err(e),
-    }
+    first!(range_member(i));
     let (rest, uid) = number(i)?;
     Ok((rest, UidSetMember::Uid(uid)))
 }

@@ -7,8 +7,8 @@ use std::borrow::CowStr;
 pub enum Capability<'a> {
     /// `IMAP4rev1`
     Imap4rev1,
-    /// What stands behind `AUTH=`.
+    /// The mechanism that stands behind `AUTH=`.
     Auth(CowStr<'a>),
-    /// Any other.
+    /// Any other, as it stands.
     Atom(CowStr<'a>),
 }

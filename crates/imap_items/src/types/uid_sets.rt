@@ -5,10 +5,10 @@ ghost use Rattle.imap_items.specs.declared.types.uid_sets.UidSetMember.TheVarian
 
 use std::ops::RangeInclusive;
 
-/// A member of a set of UIDs (RFC 4315, section 4: uid-set). Its clone takes no memory.
+/// A member of a set of UIDs (RFC 4315, section 3). Its clone takes no memory.
 #[derive(Clone, Debug, Drop, PartialEq, Eq)]
 pub enum UidSetMember {
-    /// Two UIDs and all between them.
+    /// Two UIDs and all between them. Of a reader the first is at most the last, in whichever order they were written.
     UidRange(RangeInclusive<u32>),
     /// One UID.
     Uid(u32),

@@ -1,14 +1,13 @@
 use Rattle.std.proofs.Common.{rules, refl}
-use Rattle.imap_bytes.specs.Strings.{astring, string, quoted, quoted_content, literal, literal_header}
 use Rattle.imap_bytes.proofs.Under.{kept_shortens, kept_at}
 use Rattle.imap_bytes.proofs.Callers.{nonempty_listed}
+use Rattle.imap_data.proofs.Takes.{annotation_takes}
 use Rattle.imap_data.specs.MailboxValues.{metadata_value}
-use Rattle.imap_data.specs.Annotations.{entry, entry_utf8, annotation, annotations}
+use Rattle.imap_data.specs.Annotations.{annotation, annotations}
 use Rattle.imap_data.proofs.readers.annotations.annotations.Goals as goal
 
 pub parenthesized_nonempty_list-requires : goal.parenthesized_nonempty_list-requires
-unfolding annotation entry_utf8 entry astring string quoted quoted_content literal literal_header
-parenthesized_nonempty_list-requires c = λ k. ((refl, tt), (search rules, kept_shortens metadata_value annotation (λ n r h. kept_at metadata_value annotation r h.shows h.says.met) refl))
+parenthesized_nonempty_list-requires c = λ k. ((refl, tt), (search rules, kept_shortens metadata_value annotation (λ n r h. kept_at metadata_value annotation r h.shows h.says.met) annotation_takes))
 
 pub returns : goal.returns
 unfolding annotations

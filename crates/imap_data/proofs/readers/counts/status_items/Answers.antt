@@ -1,13 +1,13 @@
 use Rattle.std.proofs.Common.{rules, refl}
 use Rattle.imap_bytes.proofs.Under.{kept_shortens, exactly_at}
 use Rattle.imap_bytes.proofs.Callers.{listed}
-use Rattle.imap_data.specs.Counts.{highest_mod_seq, messages, recent, uid_next, uid_validity, unseen, status_item, status_items}
+use Rattle.imap_data.proofs.Takes.{status_item_takes}
+use Rattle.imap_data.specs.Counts.{status_item, status_items}
 use Rattle.imap_bytes.proofs.Plain.{plain}
 use Rattle.imap_data.proofs.readers.counts.status_items.Goals as goal
 
 pub parenthesized_list-requires : goal.parenthesized_list-requires
-unfolding status_item highest_mod_seq messages recent uid_next uid_validity unseen
-parenthesized_list-requires c = λ k. ((refl, tt), (search rules, kept_shortens (λ x. x) status_item (λ n r h. exactly_at (λ x. x) status_item r h.shows h.says.met) refl))
+parenthesized_list-requires c = λ k. ((refl, tt), (search rules, kept_shortens (λ x. x) status_item (λ n r h. exactly_at (λ x. x) status_item r h.shows h.says.met) status_item_takes))
 
 pub returns : goal.returns
 unfolding status_items

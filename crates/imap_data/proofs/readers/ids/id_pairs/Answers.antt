@@ -1,16 +1,14 @@
 use Rattle.std.proofs.Common.{rules, refl}
 use Rattle.imap_bytes.specs.declared.lists.Separator.TheVariants.{Blanks}
-use Rattle.imap_bytes.specs.Strings.{string, quoted, literal, literal_header}
-use Rattle.imap_bytes.specs.Texts.{string_utf8}
 use Rattle.imap_bytes.proofs.Under.{kept_shortens, kept_at}
 use Rattle.imap_bytes.proofs.Callers.{separated_read}
+use Rattle.imap_data.proofs.Takes.{id_pair_takes}
 use Rattle.imap_data.specs.Ids.{id_pair, id_pairs}
 use Rattle.imap_data.specs.Ids.{pair_value}
 use Rattle.imap_data.proofs.readers.ids.id_pairs.Goals as goal
 
 pub separated-requires : goal.separated-requires
-unfolding id_pair string_utf8 string quoted literal literal_header
-separated-requires c = λ k. ((refl, tt), (search rules, kept_shortens pair_value id_pair (λ n r h. kept_at pair_value id_pair r h.shows h.says.met) refl))
+separated-requires c = λ k. ((refl, tt), (search rules, kept_shortens pair_value id_pair (λ n r h. kept_at pair_value id_pair r h.shows h.says.met) id_pair_takes))
 
 pub returns : goal.returns
 unfolding id_pairs

@@ -3,12 +3,12 @@ use Rattle.imap_bytes.specs.Text.{text_of}
 use Rattle.imap_bytes.proofs.Agreement.{answered}
 use Rattle.imap_bytes.proofs.Under.{kept_shortens, exactly_at}
 use Rattle.imap_bytes.proofs.Callers.{listed}
-use Rattle.imap_items.specs.Flags.{backslashed, backslashed_text, keyword, flag, flag_perm, flag_text, flag_list}
+use Rattle.imap_items.proofs.Takes.{flag_text_takes}
+use Rattle.imap_items.specs.Flags.{flag_text, flag_list}
 use Rattle.imap_items.proofs.readers.flags.flag_list.Goals as goal
 
 pub parenthesized_list-requires : goal.parenthesized_list-requires
-unfolding flag_text flag_perm flag keyword backslashed_text backslashed
-parenthesized_list-requires c = λ k. ((refl, tt), (search rules, kept_shortens text_of flag_text (λ n r h. exactly_at text_of flag_text r h.shows h.says.met.0) refl))
+parenthesized_list-requires c = λ k. ((refl, tt), (search rules, kept_shortens text_of flag_text (λ n r h. exactly_at text_of flag_text r h.shows h.says.met.0) flag_text_takes))
 
 pub returns-clause-steps : goal.returns-clause-steps
 unfolding flag_list

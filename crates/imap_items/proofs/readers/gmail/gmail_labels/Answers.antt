@@ -1,16 +1,13 @@
 use Rattle.std.proofs.Common.{rules, refl}
 use Rattle.imap_bytes.specs.Text.{text_of}
-use Rattle.imap_bytes.specs.Strings.{quoted}
-use Rattle.imap_bytes.specs.Texts.{quoted_utf8}
 use Rattle.imap_bytes.proofs.Under.{kept_shortens, kept_at}
 use Rattle.imap_bytes.proofs.Callers.{listed}
-use Rattle.imap_items.specs.Flags.{flag, keyword, backslashed, backslashed_text}
+use Rattle.imap_items.proofs.Takes.{gmail_label_takes}
 use Rattle.imap_items.specs.Gmail.{gmail_label, gmail_labels}
 use Rattle.imap_items.proofs.readers.gmail.gmail_labels.Goals as goal
 
 pub parenthesized_list-requires : goal.parenthesized_list-requires
-unfolding gmail_label flag keyword backslashed_text backslashed quoted_utf8 quoted
-parenthesized_list-requires c = λ k. ((refl, tt), (search rules, kept_shortens text_of gmail_label (λ n r h. kept_at text_of gmail_label r h.shows h.says.met) refl))
+parenthesized_list-requires c = λ k. ((refl, tt), (search rules, kept_shortens text_of gmail_label (λ n r h. kept_at text_of gmail_label r h.shows h.says.met) gmail_label_takes))
 
 pub returns : goal.returns
 unfolding gmail_labels

@@ -1,17 +1,15 @@
 use Rattle.std.proofs.Common.{rules, refl}
 use Rattle.imap_bytes.specs.declared.lists.Separator.TheVariants.{Comma}
-use Rattle.imap_bytes.specs.Numbers.{number, digits}
-use Rattle.imap_bytes.specs.Sets.{sequence_range}
 use Rattle.imap_bytes.proofs.Agreement.{answered}
 use Rattle.imap_bytes.proofs.Under.{kept_shortens, exactly_at}
 use Rattle.imap_bytes.proofs.Callers.{separated_read}
+use Rattle.imap_items.proofs.Takes.{uid_set_member_takes}
 use Rattle.imap_items.specs.UidSets.{member_value, uid_set, uid_set_member}
 use Rattle.imap_items.proofs.UidSets.{ordered_members}
 use Rattle.imap_items.proofs.readers.uid_sets.uid_set.Goals as goal
 
 pub separated-requires : goal.separated-requires
-unfolding uid_set_member sequence_range number digits
-separated-requires c = λ k. ((refl, tt), (search rules, kept_shortens member_value uid_set_member (λ n r h. exactly_at member_value uid_set_member r h.shows h.says.met) refl))
+separated-requires c = λ k. ((refl, tt), (search rules, kept_shortens member_value uid_set_member (λ n r h. exactly_at member_value uid_set_member r h.shows h.says.met) uid_set_member_takes))
 
 pub returns-clause-steps : goal.returns-clause-steps
 unfolding uid_set

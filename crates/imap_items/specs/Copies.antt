@@ -1,0 +1,7 @@
+-- Which copies of texts take no memory.
+use Rattle.std.specs.Prelude.{◌≡◌, true}
+use Rattle.imap_bytes.specs.Text.{Text}
+
+-- it lies in the input
+abbrev pub IsLent : Text → Type 0
+IsLent t = t.borrowed ≡ true
