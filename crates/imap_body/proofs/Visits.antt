@@ -24,7 +24,6 @@ module _ {X : Type 0} (answers : X → Bool → Type 0) (path : X → List ℕ) 
   -- the part at hand is the first of those that are left
   here : drop i xs ≡ x ∷ drop (i + 1) xs
   here = drop-cons xs i x inside ∙ ap (λ y. y ∷ drop (suc i) xs) (sym is) ∙ next
-
     where
       next : x ∷ drop (suc i) xs ≡ x ∷ drop (i + 1) xs
       next = let e : suc i ≡ i + 1 = omega arith in ap (λ k. x ∷ drop k xs) e
@@ -53,7 +52,6 @@ too_many_multipart b common v last is = rw (is, multipart_seen text_of bytes_of 
 -- the next body of those that are left
 pub opened : (xs : List Body) (k : ℕ) (x : Body) → k < length xs → x ≡ get_or xs k x → bodies_of (map (body_seen text_of bytes_of) (drop k xs)) ≡ one_body (body_seen text_of bytes_of x) (bodies_of (map (body_seen text_of bytes_of) (drop (k + 1) xs)))
 opened xs k x less is = ap (λ l. bodies_of (map seen l)) (drop-cons xs k x less ∙ ap (λ y. y ∷ drop (suc k) xs) (sym is) ∙ next)
-
   where
     next : x ∷ drop (suc k) xs ≡ x ∷ drop (k + 1) xs
     next = let e : suc k ≡ k + 1 = omega arith in ap (λ n. x ∷ drop n xs) e

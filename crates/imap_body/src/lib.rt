@@ -20,6 +20,3 @@ pub use types::extensions::{BodyExt1Part, BodyExtMPart, BodyExtension, ContentDi
 pub use types::fields::{BodyFields, BodyParams, ContentEncoding};
 pub use types::limits::{MAX_BODY_DEPTH, MAX_EXTENSION_DEPTH};
 pub use types::sections::{MessageSection, SectionPath};
-
-#[cfg(test)]
-mod tests;

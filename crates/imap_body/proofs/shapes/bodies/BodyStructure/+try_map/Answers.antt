@@ -25,17 +25,17 @@ pub returns-in_ok-mapped_extension-in-Basic : goal.returns-in_ok-mapped_extensio
 returns-in_ok-mapped_extension-in-Basic g t c =
     let old = body_seen (g.C.Change.before c.args.c.now) (g.D.Change.before c.args.d.now) in
     basic_seen g.C.Change.after g.D.Change.after _ _ _
-        ∙ (λ i. Basic (c.in_ok-try_map-in-Basic.ensures i) (c.in_ok-try_map-in-Basic-2.ensures i) (c.in_ok-mapped_extension-in-Basic.ensures i))
-        ∙ sym (basic_seen (g.C.Change.before c.args.c.now) (g.D.Change.before c.args.d.now) c.in-Basic.common c.in-Basic.other c.in-Basic.extension)
-        ∙ sym (ap old c.in-Basic.is)
+    ∙ (λ i. Basic (c.in_ok-try_map-in-Basic.ensures i) (c.in_ok-try_map-in-Basic-2.ensures i) (c.in_ok-mapped_extension-in-Basic.ensures i))
+    ∙ sym (basic_seen (g.C.Change.before c.args.c.now) (g.D.Change.before c.args.d.now) c.in-Basic.common c.in-Basic.other c.in-Basic.extension)
+    ∙ sym (ap old c.in-Basic.is)
 
 pub returns-in_ok-mapped_extension-in-Text : goal.returns-in_ok-mapped_extension-in-Text
 returns-in_ok-mapped_extension-in-Text g t c =
     let old = body_seen (g.C.Change.before c.args.c.now) (g.D.Change.before c.args.d.now) in
     text_seen g.C.Change.after g.D.Change.after _ _ _ _
-        ∙ (λ i. TextBody (c.in_ok-try_map-in-Text.ensures i) (c.in_ok-try_map-in-Text-2.ensures i) c.in-Text.lines (c.in_ok-mapped_extension-in-Text.ensures i))
-        ∙ sym (text_seen (g.C.Change.before c.args.c.now) (g.D.Change.before c.args.d.now) c.in-Text.common c.in-Text.other c.in-Text.lines c.in-Text.extension)
-        ∙ sym (ap old c.in-Text.is)
+    ∙ (λ i. TextBody (c.in_ok-try_map-in-Text.ensures i) (c.in_ok-try_map-in-Text-2.ensures i) c.in-Text.lines (c.in_ok-mapped_extension-in-Text.ensures i))
+    ∙ sym (text_seen (g.C.Change.before c.args.c.now) (g.D.Change.before c.args.d.now) c.in-Text.common c.in-Text.other c.in-Text.lines c.in-Text.extension)
+    ∙ sym (ap old c.in-Text.is)
 
 pub returns-in_ok-mapped_extension-in-Message : goal.returns-in_ok-mapped_extension-in-Message
 returns-in_ok-mapped_extension-in-Message g t c =
@@ -45,9 +45,9 @@ returns-in_ok-mapped_extension-in-Message g t c =
     let inner : new c.in_ok-inner-in-Message.inner ≡ old c.in-Message.body.value = c.in_ok-inner-in-Message.ensures ∙ ap old c.deref.ensures in
     let same : new c.in_ok-new-in-Message.field-0.value ≡ old c.in-Message.body.value = ap new boxed ∙ inner in
     message_seen g.C.Change.after g.D.Change.after _ _ _ _ _ _
-        ∙ (λ i. Message (c.in_ok-try_map-in-Message.ensures i) (c.in_ok-try_map-in-Message-2.ensures i) (c.in_ok-try_map-in-Message-3.ensures i) (same i) c.in-Message.lines (c.in_ok-mapped_extension-in-Message.ensures i))
-        ∙ sym (message_seen (g.C.Change.before c.args.c.now) (g.D.Change.before c.args.d.now) c.in-Message.common c.in-Message.other c.in-Message.envelope c.in-Message.body c.in-Message.lines c.in-Message.extension)
-        ∙ sym (ap old c.in-Message.is)
+    ∙ (λ i. Message (c.in_ok-try_map-in-Message.ensures i) (c.in_ok-try_map-in-Message-2.ensures i) (c.in_ok-try_map-in-Message-3.ensures i) (same i) c.in-Message.lines (c.in_ok-mapped_extension-in-Message.ensures i))
+    ∙ sym (message_seen (g.C.Change.before c.args.c.now) (g.D.Change.before c.args.d.now) c.in-Message.common c.in-Message.other c.in-Message.envelope c.in-Message.body c.in-Message.lines c.in-Message.extension)
+    ∙ sym (ap old c.in-Message.is)
 
 pub returns-in_ok-mapped_extension-in-Multipart : goal.returns-in_ok-mapped_extension-in-Multipart
 returns-in_ok-mapped_extension-in-Multipart g t c =
@@ -55,6 +55,6 @@ returns-in_ok-mapped_extension-in-Multipart g t c =
     let new = body_seen g.C.Change.after g.D.Change.after in
     let all = mapped_whole new old c.loop-body.mapped.items c.deref-body-items.result.now c.loop-body.body-index c.loop-body-test.false c.loop-body.invariant ∙ ap (map old) c.deref-body-items.ensures.value in
     multipart_seen g.C.Change.after g.D.Change.after _ _ _
-        ∙ (λ i. Multipart (c.in_ok-try_map-in-Multipart-2.ensures i) (bodies_of (all i)) (c.in_ok-mapped_extension-in-Multipart.ensures i))
-        ∙ sym (multipart_seen (g.C.Change.before c.args.c.now) (g.D.Change.before c.args.d.now) c.in-Multipart.common c.in-Multipart.bodies c.in-Multipart.extension)
-        ∙ sym (ap old c.in-Multipart.is)
+    ∙ (λ i. Multipart (c.in_ok-try_map-in-Multipart-2.ensures i) (bodies_of (all i)) (c.in_ok-mapped_extension-in-Multipart.ensures i))
+    ∙ sym (multipart_seen (g.C.Change.before c.args.c.now) (g.D.Change.before c.args.d.now) c.in-Multipart.common c.in-Multipart.bodies c.in-Multipart.extension)
+    ∙ sym (ap old c.in-Multipart.is)
