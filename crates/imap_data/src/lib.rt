@@ -5,6 +5,7 @@ pub mod laws;
 pub mod readers;
 mod types;
 
+pub use imap_items::at;
 pub use imap_items::{AclRight, Capability, Status, UidSetMember};
 pub use types::acls::{Acl, AclEntry, ListRights, MyRights};
 pub use types::annotations::Metadata;

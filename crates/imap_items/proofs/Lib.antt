@@ -9,3 +9,4 @@ pub mod UidSetTexts
 pub mod MailboxTexts
 pub mod RightTexts
 pub mod Takes
+pub mod Spanned
