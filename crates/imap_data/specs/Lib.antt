@@ -11,6 +11,7 @@ pub mod Acls
 pub mod CodeTexts
 pub mod NameTexts
 pub mod QuotaTexts
+pub mod IdTexts
 pub mod VanishingTexts
 pub mod AnnotationTexts
 pub mod MailboxDataTexts
