@@ -60,7 +60,7 @@ reads_metadata =
     (reads-word _ _ MetadataNoPrivate (codes "METADATA NOPRIVATE") refl refl refl)))
 
 pub reads_code : ReadsBack any_code lent_code canonical_code Bracket
-unfolding basic_code bad_charset capabilities capability_data permanent_flags uid_validity uid_next unseen uid_code highest_mod_seq append_uid copy_uid metadata_code long_entries max_size too_many no_private
+unfolding any_code basic_code bad_charset capabilities capability_data permanent_flags uid_validity uid_next unseen uid_code highest_mod_seq append_uid copy_uid metadata_code long_entries max_size too_many no_private
 reads_code = first reads_basic (search apart_forms depth 30) (first reads_uid (search apart_forms depth 30) reads_metadata)
 
 pub reads_response_code : ReadsBack response_code lent_code canonical_response_code Any
@@ -105,7 +105,7 @@ metadata_spells =
     orˢ spells-names MetadataNoPrivate (spells-word "METADATA NOPRIVATE")
 
 pub response_code_spells : Spells response_code spells_response_code
-unfolding response_code
+unfolding response_code any_code
 response_code_spells = spells-tag "[" ▹ˢ (basic_spells orˢ uid_spells orˢ metadata_spells) ◃ˢ spells-tag "]"
 
 pub keeps_response_code : Keeps response_code lent_code canonical_response_code spells_response_code EndsItem

@@ -14,4 +14,5 @@ pub mod AnnotationTexts
 pub mod MailboxDataTexts
 pub mod AclTexts
 pub mod OptionalRights
+pub mod FirstBytes
 pub mod Takes
