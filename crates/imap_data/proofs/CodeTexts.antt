@@ -1,20 +1,16 @@
 -- Response codes read back.
-use Rattle.std.proofs.Common.{◌≡◌, [], ◌∷◌, None, Some, refl, sym, ap, subst, codes, map, List}
+use Rattle.std.proofs.Common.{None, Some, refl, codes, map}
 use Rattle.std.specs.Option.{option_map}
-use Rattle.imap_bytes.specs.Meaning.{Denies, outside}
-use Rattle.imap_bytes.specs.Rule.{meaning, opt}
+use Rattle.imap_bytes.specs.Rule.{opt}
 use Rattle.imap_bytes.specs.Text.{Bytes, lent_text}
-use Rattle.imap_bytes.specs.Classes.{is_atom_char}
-use Rattle.imap_bytes.specs.Tags.{sp}
-use Rattle.imap_bytes.specs.Pieces.{words, space, number_text}
 use Rattle.imap_bytes.specs.ReadBack.{ReadsBack, Spells, Keeps, Any, EndsItem}
 use Rattle.imap_bytes.proofs.Reading.{first, reads-word, reads-gives, reads-opt, reads-follow, reads-seq, reads-before, apart_forms, denies-after, denies-tag, Begins, begun, ◌▹ʳ◌}
-use Rattle.imap_bytes.proofs.ReadingTexts.{not_digit, takes-text, takes-word, reads-number, reads-number_64, reads-astring_utf8, reads-nonempty_list_of}
+use Rattle.imap_bytes.proofs.ReadingTexts.{takes-text, takes-word, reads-number, reads-number_64, reads-astring_utf8, reads-nonempty_list_of}
 use Rattle.imap_bytes.proofs.Spelling.{◌⨾ˢ◌, ◌▹ˢ◌, ◌◃ˢ◌, ◌orˢ◌, spells-gives, spells-names, spells-nothing, spells-word, spells-tag, spells-number, spells-number_64, spells-nonempty_list_of, spells-astring_utf8}
 use Rattle.imap_items.specs.Capabilities.{capability_data}
 use Rattle.imap_items.proofs.FlagTexts.{reads_flag_list, flag_list_spells}
 use Rattle.imap_items.proofs.CapabilityTexts.{reads_offered, keeps_capability_data}
-use Rattle.imap_items.proofs.UidSetTexts.{SetEnds, reads_uid_set, uid_set_spells}
+use Rattle.imap_items.proofs.UidSetTexts.{reads_uid_set, uid_set_spells}
 use Rattle.imap_data.specs.Codes.{lent_code, charsets, bad_charset, append_uid_of, copy_uid_of, append_uid, copy_uid, capabilities, permanent_flags, uid_validity, uid_next, unseen, highest_mod_seq, long_entries, max_size, too_many, no_private, basic_code, uid_code, metadata_code, any_code, response_code, Alert, Parse, ReadOnly, ReadWrite, TryCreate, UidNotSticky, MetadataTooMany, MetadataNoPrivate, BadCharset, Capabilities, PermanentFlags, UidNext, UidValidity, Unseen, HighestModSeq, MetadataLongEntries, MetadataMaxSize}
 use Rattle.imap_data.specs.CodeTexts.{canonical_charsets, canonical_code, canonical_response_code, spells_charsets, spells_code, spells_response_code}
 

@@ -1,12 +1,12 @@
 -- A mailbox's data read back.
-use Rattle.std.proofs.Common.{◌≡◌, ℕ, [], ◌∷◌, ◌++◌, List, Bool, true, refl, sym, ap, subst, inl, inr, codes, map}
+use Rattle.std.proofs.Common.{◌≡◌, ℕ, ◌∷◌, ◌++◌, true, refl, sym, subst, inl, inr, codes}
 use Rattle.imap_bytes.specs.Classes.{is_digit}
 use Rattle.imap_bytes.specs.Meaning.{Denies}
-use Rattle.imap_bytes.specs.Rule.{Rule, meaning, gives, many, opt, ◌▹◌, ◌◃◌, ◌or◌}
-use Rattle.imap_bytes.specs.Text.{Bytes, lent_text}
+use Rattle.imap_bytes.specs.Rule.{Rule, meaning, gives, ◌▹◌, ◌or◌}
+use Rattle.imap_bytes.specs.Text.{Bytes}
 use Rattle.imap_bytes.specs.Tags.{word, sp, same_letter}
 use Rattle.imap_bytes.specs.Numbers.{digits, number}
-use Rattle.imap_bytes.specs.Pieces.{written, space, number_text, ◌then◌}
+use Rattle.imap_bytes.specs.Pieces.{written}
 use Rattle.imap_bytes.specs.ReadBack.{ReadsBack, Takes, Spells, Keeps, Apart, Any, Starts, Closes, EndsItem, ends_item, as_is}
 use Rattle.imap_bytes.specs.Pieces.{Pieces, Fits, list_text}
 use Rattle.imap_bytes.proofs.Reading.{first, first_instead, reads-gives, reads-follow, reads-as, reads-before_absent, apart-alt, apart_forms, denials, denies-gives, denies-after, denies-tag, gives-has, gives-on, after-has, after-on, tag-on, closes-in, ◌⨾ʳ◌, ◌▹ʳ◌}
@@ -23,7 +23,7 @@ use Rattle.imap_data.specs.Counts.{highest_mod_seq, messages, recent as recent_i
 use Rattle.imap_data.specs.Names.{ListValue, lent_list, list_data}
 use Rattle.imap_data.specs.NameTexts.{canonical_list}
 use Rattle.imap_data.proofs.NameTexts.{reads_list_data, list_data_spells}
-use Rattle.imap_data.specs.MailboxValues.{MailboxValue, Exists, Flags, Listed, Search, Sort, Status, Recent, GmailLabels, GmailMsgId, GmailThrId, lent_mailbox}
+use Rattle.imap_data.specs.MailboxValues.{MailboxValue, Exists, Flags, Listed, Search, Sort, Recent, GmailLabels, GmailMsgId, GmailThrId, lent_mailbox}
 use Rattle.imap_data.specs.MailboxData.{flags, exists, list, lsub, status_of, status, recent, search as search_rule, labels, msgid, thrid, sort, mailbox_datum}
 use Rattle.imap_data.specs.MailboxDataTexts.{canonical_item, canonical_numbers, canonical_datum, spells_item, spells_numbers, spells_datum}
 

@@ -1,5 +1,5 @@
 -- LIST data reads back.
-use Rattle.std.proofs.Common.{◌≡◌, true, [], ◌∷◌, ◌++◌, None, Some, sym, ◌∙◌, ap, subst, refl, codes, map, inl, inr}
+use Rattle.std.proofs.Common.{◌≡◌, true, ◌∷◌, ◌++◌, None, Some, sym, ◌∙◌, ap, subst, refl, codes}
 use Rattle.std.specs.Option.{option_map}
 use Rattle.std.specs.Str.{is_utf8}
 use Rattle.imap_bytes.specs.Classes.{is_atom_char}

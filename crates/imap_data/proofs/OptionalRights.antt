@@ -1,22 +1,22 @@
 -- Optional rights, which are joined, and LISTRIGHTS read back.
-use Rattle.std.proofs.Common.{◌≡◌, ℕ, ◌<◌, ◌^◌, Bool, true, List, [], ◌∷◌, ◌++◌, length, refl, sym, ap, subst, ◌∙◌, inl, inr, map, append-nil, encode_utf8_all, chars}
+use Rattle.std.proofs.Common.{◌≡◌, ℕ, ◌<◌, ◌^◌, true, List, [], ◌∷◌, ◌++◌, length, refl, sym, ap, subst, ◌∙◌, inl, inr, map, append-nil, encode_utf8_all, chars}
 use Rattle.std.proofs.lemmas.List.Elements.{All-head, All-tail, All-nil}
 use Rattle.std.proofs.lemmas.Str.{scalars-chars, chars-encodes}
-use Rattle.std.specs.List.{All, flat_map}
+use Rattle.std.specs.List.{All}
 use Rattle.std.specs.Str.{all_scalars}
 use mathlib.Core.List.{map-append}
 use Rattle.imap_bytes.specs.Classes.{is_blank}
-use Rattle.imap_bytes.specs.Meaning.{Denies, outside}
-use Rattle.imap_bytes.specs.Rule.{meaning, gives, nothing, list0, list1, ◌⨾◌, ◌▹◌}
-use Rattle.imap_bytes.specs.Text.{Bytes, Text, as_text}
+use Rattle.imap_bytes.specs.Meaning.{outside}
+use Rattle.imap_bytes.specs.Rule.{meaning, gives, nothing, ◌▹◌}
+use Rattle.imap_bytes.specs.Text.{Bytes, as_text}
 use Rattle.imap_bytes.specs.Tags.{blanks0, blanks1}
 use Rattle.imap_bytes.specs.Strings.{astring}
 use Rattle.imap_bytes.specs.Texts.{astring_utf8}
-use Rattle.imap_bytes.specs.Pieces.{written, Fits, space, literal_of}
-use Rattle.imap_bytes.specs.ReadBack.{ReadsBack, Spells, Keeps, Any, Starts, Closes, as_is}
+use Rattle.imap_bytes.specs.Pieces.{written, Fits, literal_of}
+use Rattle.imap_bytes.specs.ReadBack.{ReadsBack, Spells, Keeps, Closes, as_is}
 use Rattle.imap_bytes.proofs.LossyTwice.{all-append}
 use Rattle.imap_bytes.proofs.Yields.{Yields, given_yields, either_yields, right_yields, list_yields}
-use Rattle.imap_bytes.proofs.Reading.{reads-gives, reads-seq, reads-after, reads-follow, reads-as, denies-gives, denies-run1, denies-after, closes-in, gives-on, after-on, ◌▹ʳ◌}
+use Rattle.imap_bytes.proofs.Reading.{reads-gives, reads-seq, reads-after, denies-gives, denies-after, closes-in, gives-on, after-on, ◌▹ʳ◌}
 use Rattle.imap_bytes.proofs.ReadingTexts.{takes-word, takes-blanks, astring_on, decoded_utf8, reads-astring_utf8, utf8_yields}
 use Rattle.imap_bytes.proofs.ReadingCounts.{closes_blanks}
 use Rattle.imap_bytes.proofs.Spelling.{◌⨾ˢ◌, ◌▹ˢ◌, spells-gives, spells-wider, spells-word, spells-blanks0, spells-blanks1, spells-list0, spells-astring_utf8}

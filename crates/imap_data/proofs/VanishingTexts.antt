@@ -1,20 +1,19 @@
 -- VANISHED reads back.
-use Rattle.std.proofs.Common.{◌≡◌, ℕ, ◌<◌, ◌^◌, Bool, true, false, List, [], ◌∷◌, ◌++◌, refl, codes, inl, inr, arith}
+use Rattle.std.proofs.Common.{Bool, true, false, [], ◌∷◌, ◌++◌, refl, codes, inl, inr, arith}
 use Rattle.std.proofs.lemmas.Bool.{false≢true}
 use Rattle.imap_bytes.specs.Classes.{is_digit, is_blank}
 use Rattle.imap_bytes.specs.Meaning.{Denies, outside}
-use Rattle.imap_bytes.specs.Rule.{meaning, gives, nothing, ◌▹◌}
+use Rattle.imap_bytes.specs.Rule.{meaning, nothing}
 use Rattle.imap_bytes.specs.Text.{Bytes}
 use Rattle.imap_bytes.specs.Tags.{word, names, blanks1, same_letter}
-use Rattle.imap_bytes.specs.Sets.{sequence_set, sequence_item}
-use Rattle.imap_bytes.specs.Pieces.{written, space, ranges_text}
+use Rattle.imap_bytes.specs.Pieces.{written, ranges_text}
 use Rattle.imap_bytes.specs.ReadBack.{Texts, ReadsBack, Spells, Keeps, Starts, Closes, as_is}
 use Rattle.imap_bytes.specs.Spelling.{in_any_case, ◌and◌, some_blanks}
 use Rattle.imap_bytes.proofs.Yields.{right_yields}
-use Rattle.imap_bytes.proofs.Reading.{reads-seq_where, reads-after_where, reads-follow, after-on, tag-on, denies-tag, closes-in, starts, ◌▹ʳ◌}
+use Rattle.imap_bytes.proofs.Reading.{reads-seq_where, reads-after_where, reads-follow, after-on, tag-on, closes-in, starts, ◌▹ʳ◌}
 use Rattle.imap_bytes.proofs.ReadingTexts.{takes-word, takes-blanks}
 use Rattle.imap_bytes.proofs.ReadingSets.{in_set, reads-sequence_set}
-use Rattle.imap_bytes.proofs.ReadingCounts.{StartsWithDigit, sets_yield, digit_no_blank, word_no_number}
+use Rattle.imap_bytes.proofs.ReadingCounts.{sets_yield, digit_no_blank, word_no_number}
 use Rattle.imap_bytes.proofs.Spelling.{◌⨾ˢ◌, ◌▹ˢ◌, ◌orˢ◌, spells-names, spells-wider, spells-nothing, spells-word, spells-blanks1, spells-sequence_set}
 use Rattle.imap_data.specs.Vanishings.{earlier_word, earlier, vanished}
 use Rattle.imap_data.specs.VanishingTexts.{canonical_earlier, canonical_vanished, spells_earlier, spells_vanished}

@@ -1,7 +1,6 @@
 -- The text of annotations of mailboxes.
-use Rattle.std.specs.Prelude.{◌≡◌, List, Option, None, Some}
-use Rattle.std.specs.Str.Lossy.{utf8_lossy}
-use Rattle.imap_bytes.specs.Text.{Bytes, Text, as_text}
+use Rattle.std.specs.Prelude.{List}
+use Rattle.imap_bytes.specs.Text.{Text, as_text}
 use Rattle.imap_bytes.specs.Pieces.{Pieces, ◌then◌, words, space, lit, nstring_text, literal_text, quoted_text, separated, list_text}
 use Rattle.imap_bytes.specs.ReadBack.{Texts}
 use Rattle.imap_bytes.specs.Spelling.{exactly, in_any_case, ◌and◌, nil_or, with_between, spells_string_text, spells_astring_text, spells_quoted_text, spells_some_list}

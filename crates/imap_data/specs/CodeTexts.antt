@@ -1,5 +1,5 @@
 -- The text of a response code.
-use Rattle.std.specs.Prelude.{List, [], ℕ, Option, None, Some}
+use Rattle.std.specs.Prelude.{List, [], Option, None, Some}
 use Rattle.imap_bytes.specs.Text.{Text}
 use Rattle.imap_bytes.specs.Pieces.{Pieces, ◌then◌, words, space, number_text, literal_text, list_text}
 use Rattle.imap_bytes.specs.ReadBack.{Texts}

@@ -1,5 +1,5 @@
 -- The text of LIST data.
-use Rattle.std.specs.Prelude.{List, Option, None, Some}
+use Rattle.std.specs.Prelude.{Option, None, Some}
 use Rattle.imap_bytes.specs.Text.{Text}
 use Rattle.imap_bytes.specs.Pieces.{Pieces, ◌then◌, words, space, plain, quoted_text, list_text}
 use Rattle.imap_bytes.specs.ReadBack.{Texts}

@@ -1,6 +1,4 @@
 -- The text of quotas.
-use Rattle.std.specs.Prelude.{List}
-use Rattle.imap_bytes.specs.Text.{Text}
 use Rattle.imap_bytes.specs.Pieces.{Pieces, ◌then◌, words, space, number_text, literal_text, each, list_text}
 use Rattle.imap_bytes.specs.ReadBack.{Texts}
 use Rattle.imap_bytes.specs.Spelling.{exactly, in_any_case, ◌and◌, some_blanks, each_of, with_between, spells_number, spells_astring_text}
