@@ -6,6 +6,8 @@
 #[cfg(test)]
 mod answers;
 #[cfg(test)]
+mod bodies;
+#[cfg(test)]
 mod bytes;
 #[cfg(test)]
 mod codes;
@@ -14,6 +16,8 @@ mod commands;
 #[cfg(test)]
 mod copies;
 #[cfg(test)]
+mod envelopes;
+#[cfg(test)]
 mod extensions;
 #[cfg(test)]
 mod lists;
@@ -21,6 +25,8 @@ mod lists;
 mod mailboxes;
 #[cfg(test)]
 mod readers;
+#[cfg(test)]
+mod sections;
 #[cfg(test)]
 mod sizes;
 #[cfg(test)]

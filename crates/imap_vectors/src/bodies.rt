@@ -1,0 +1,258 @@
+//! Body structures, their fields and extension data, as they are read and with all texts owned.
+
+use crate::answers::{Rows, says};
+use imap_body::readers::{body_extension, body_fields, body_structure};
+use imap_body::{BodyExtension, BodyFields, BodyParams, BodyStructure, ContentEncoding};
+use imap_proto::imap_core::{Err, IResult};
+use std::alloc::{AllocError, Global};
+use std::borrow::CowStr;
+use std::test::*;
+
+/// The fields of a body, in order.
+type Told<'a> = (
+    BodyParams<'a>,
+    Option<CowStr<'a>>,
+    Option<CowStr<'a>>,
+    ContentEncoding<'a>,
+    u32,
+);
+
+fn in_order(fields: BodyFields<'_>) -> Told<'_> {
+    (
+        fields.param,
+        fields.id,
+        fields.description,
+        fields.transfer_encoding,
+        fields.octets,
+    )
+}
+
+fn fields(alloc: Global, i: &[u8]) -> IResult<&[u8], Told<'_>> {
+    let (i, value) = body_fields(alloc, i)?;
+    Ok((i, in_order(value)))
+}
+
+fn owned_fields(alloc: Global, i: &[u8]) -> IResult<&[u8], Told<'static>> {
+    let (i, value) = body_fields(alloc, i)?;
+    Ok((i, in_order(value.into_owned(alloc)?)))
+}
+
+fn owned_extension(alloc: Global, i: &[u8]) -> IResult<&[u8], BodyExtension<'static>> {
+    let (i, value) = body_extension(alloc, i)?;
+    Ok((i, value.into_owned(alloc)?))
+}
+
+fn owned_body(alloc: Global, i: &[u8]) -> IResult<&[u8], BodyStructure<'static>> {
+    let (i, value) = body_structure(alloc, i)?;
+    Ok((i, value.into_owned(alloc)?))
+}
+
+const FIELDS: Rows = &[
+    (
+        b"NIL NIL NIL {4}\r\n7BIT 5)",
+        r#"(None, None, None, Other("7BIT"), 5) then ")""#,
+    ),
+    (
+        b"(\"a\" \"b\" \"c\" {1}\r\n\xff) \"i\" \"d\" NIL 0 ",
+        r#"(Some([("a", "b"), ("c", "�")]), Some("i"), Some("d"), SevenBit, 0) then " ""#,
+    ),
+    (
+        b"NIL NIL NIL \"7bit\" 1)",
+        r#"(None, None, None, SevenBit, 1) then ")""#,
+    ),
+    (
+        b"NIL NIL NIL \"8BIT\" 2)",
+        r#"(None, None, None, EightBit, 2) then ")""#,
+    ),
+    (
+        b"NIL NIL NIL \"BINARY\" 3)",
+        r#"(None, None, None, Binary, 3) then ")""#,
+    ),
+    (
+        b"NIL NIL NIL \"base64\" 4)",
+        r#"(None, None, None, Base64, 4) then ")""#,
+    ),
+    (
+        b"NIL NIL NIL \"Quoted-Printable\" 4294967295)",
+        r#"(None, None, None, QuotedPrintable, 4294967295) then ")""#,
+    ),
+    (
+        b"NIL NIL NIL \"7BITS\" 6)",
+        r#"(None, None, None, Other("7BITS"), 6) then ")""#,
+    ),
+    (b"NIL NIL NIL \"7BIT\" 4294967296)", "Error"),
+    (b"() NIL NIL \"7BIT\" 1)", "Error"),
+    (b"(\"a\") NIL NIL \"7BIT\" 1)", "Error"),
+    (b"NIL NIL \"7BIT\" 1)", "Error"),
+    (b"NIL NIL NIL \"7BIT\" 1", "Incomplete(Unknown)"),
+    (b"NIL NIL NIL {4}\r\n7", "Incomplete(Size(3))"),
+];
+
+const EXTENSIONS: Rows = &[
+    (b"7)", r#"Num(7) then ")""#),
+    (b"\"a\"", r#"Str(Some("a"))"#),
+    (b"nil)", r#"Str(None) then ")""#),
+    (
+        b"(1 {1}\r\n\xff (NIL) 2 \t)x",
+        r#"List([Num(1), Str(Some("�")), List([Str(None)]), Num(2)]) then "x""#,
+    ),
+    (b"()", "Error"),
+    (b"(1  2)", "Error"),
+    (b"4294967296)", "Error"),
+    (b"(1", "Incomplete(Unknown)"),
+];
+
+const SINGLE_PARTS: Rows = &[
+    (
+        b"(\"A\" \"B\" NIL NIL NIL NIL 1)",
+        r#"Basic { common: BodyContentCommon { ty: ContentType { ty: "A", subtype: "B", params: None }, disposition: None, language: None, location: None }, other: BodyContentSinglePart { id: None, md5: None, description: None, transfer_encoding: SevenBit, octets: 1 }, extension: None }"#,
+    ),
+    (
+        b"(\"text\" \"plain\" NIL NIL NIL \"7bit\" 5)",
+        r#"Basic { common: BodyContentCommon { ty: ContentType { ty: "text", subtype: "plain", params: None }, disposition: None, language: None, location: None }, other: BodyContentSinglePart { id: None, md5: None, description: None, transfer_encoding: SevenBit, octets: 5 }, extension: None }"#,
+    ),
+    (
+        b"(\"text\" \"plain\" NIL NIL NIL \"7bit\" 5 1 (\"inline\" NIL))",
+        r#"Text { common: BodyContentCommon { ty: ContentType { ty: "TEXT", subtype: "plain", params: None }, disposition: Some(ContentDisposition { ty: "inline", params: None }), language: None, location: None }, other: BodyContentSinglePart { id: None, md5: None, description: None, transfer_encoding: SevenBit, octets: 5 }, lines: 1, extension: None }"#,
+    ),
+    (
+        b"({4}\r\nTEXT \"PLAIN\" NIL NIL NIL {4}\r\n7BIT 5)x",
+        r#"Basic { common: BodyContentCommon { ty: ContentType { ty: "TEXT", subtype: "PLAIN", params: None }, disposition: None, language: None, location: None }, other: BodyContentSinglePart { id: None, md5: None, description: None, transfer_encoding: Other("7BIT"), octets: 5 }, extension: None } then "x""#,
+    ),
+    (
+        b"(\"A\" \"B\" (\"p\" \"q\") \"i\" \"d\" \"8BIT\" 1 \"m\" (\"attachment\" (\"f\" \"g\")) (\"en\" \"de\") \"l\" (1 (NIL)))",
+        r#"Basic { common: BodyContentCommon { ty: ContentType { ty: "A", subtype: "B", params: Some([("p", "q")]) }, disposition: Some(ContentDisposition { ty: "attachment", params: Some([("f", "g")]) }), language: Some(["en", "de"]), location: Some("l") }, other: BodyContentSinglePart { id: Some("i"), md5: Some("m"), description: Some("d"), transfer_encoding: EightBit, octets: 1 }, extension: Some(List([Num(1), List([Str(None)])])) }"#,
+    ),
+    (
+        b"(\"TEXT\" \"x\" NIL NIL NIL \"BINARY\" 5 7 NIL NIL \"en\" NIL \"e\")",
+        r#"Text { common: BodyContentCommon { ty: ContentType { ty: "TEXT", subtype: "x", params: None }, disposition: None, language: Some(["en"]), location: None }, other: BodyContentSinglePart { id: None, md5: None, description: None, transfer_encoding: Binary, octets: 5 }, lines: 7, extension: Some(Str(Some("e"))) }"#,
+    ),
+    (b"()", "Error"),
+    (b"\"A\"", "Error"),
+    (b"(\"A\" \"B\" NIL NIL NIL NIL x)", "Error"),
+    (b"(\"A\" \"B\" NIL NIL NIL NIL 1 )", "Error"),
+    (b"(", "Incomplete(Unknown)"),
+    (b"(\"A\" \"B\" NIL NIL NIL NIL 1", "Incomplete(Unknown)"),
+    (b"(\"A\" \"B\" NIL {2}\r\n", "Incomplete(Size(2))"),
+];
+
+const MESSAGES_AND_MULTIPARTS: Rows = &[
+    (
+        b"(\"Message\" \"rfc822\" NIL NIL NIL \"7BIT\" 9 (\"d\" NIL NIL NIL NIL NIL NIL NIL NIL NIL) (\"A\" \"B\" NIL NIL NIL NIL 1) 2 \"m\" NIL NIL NIL 3)",
+        r#"Message { common: BodyContentCommon { ty: ContentType { ty: "MESSAGE", subtype: "RFC822", params: None }, disposition: None, language: None, location: None }, other: BodyContentSinglePart { id: None, md5: Some("m"), description: None, transfer_encoding: SevenBit, octets: 9 }, envelope: Envelope { date: Some([100]), subject: None, from: None, sender: None, reply_to: None, to: None, cc: None, bcc: None, in_reply_to: None, message_id: None }, body: Basic { common: BodyContentCommon { ty: ContentType { ty: "A", subtype: "B", params: None }, disposition: None, language: None, location: None }, other: BodyContentSinglePart { id: None, md5: None, description: None, transfer_encoding: SevenBit, octets: 1 }, extension: None }, lines: 2, extension: Some(Num(3)) }"#,
+    ),
+    (
+        b"((\"TEXT\" \"PLAIN\" NIL NIL NIL \"7BIT\" 5 1)(\"IMAGE\" \"PNG\" NIL NIL NIL \"BASE64\" 9) \"MIXED\")",
+        r#"Multipart { common: BodyContentCommon { ty: ContentType { ty: "MULTIPART", subtype: "MIXED", params: None }, disposition: None, language: None, location: None }, bodies: [Text { common: BodyContentCommon { ty: ContentType { ty: "TEXT", subtype: "PLAIN", params: None }, disposition: None, language: None, location: None }, other: BodyContentSinglePart { id: None, md5: None, description: None, transfer_encoding: SevenBit, octets: 5 }, lines: 1, extension: None }, Basic { common: BodyContentCommon { ty: ContentType { ty: "IMAGE", subtype: "PNG", params: None }, disposition: None, language: None, location: None }, other: BodyContentSinglePart { id: None, md5: None, description: None, transfer_encoding: Base64, octets: 9 }, extension: None }], extension: None }"#,
+    ),
+    (
+        b"((\"A\" \"B\" NIL NIL NIL NIL 1) \"M\" (\"b\" \"c\") (\"d\" NIL) (\"en\") \"l\" (1))x",
+        r#"Multipart { common: BodyContentCommon { ty: ContentType { ty: "MULTIPART", subtype: "M", params: Some([("b", "c")]) }, disposition: Some(ContentDisposition { ty: "d", params: None }), language: Some(["en"]), location: Some("l") }, bodies: [Basic { common: BodyContentCommon { ty: ContentType { ty: "A", subtype: "B", params: None }, disposition: None, language: None, location: None }, other: BodyContentSinglePart { id: None, md5: None, description: None, transfer_encoding: SevenBit, octets: 1 }, extension: None }], extension: Some(List([Num(1)])) } then "x""#,
+    ),
+    (b"((\"A\" \"B\" NIL NIL NIL NIL 1))", "Error"),
+    (
+        b"((\"A\" \"B\" NIL NIL NIL NIL 1) (\"A\" \"B\" NIL NIL NIL NIL 1) \"M\")",
+        "Error",
+    ),
+    (
+        b"((\"A\" \"B\" NIL NIL NIL NIL 1) \"M\"",
+        "Incomplete(Unknown)",
+    ),
+];
+
+#[test]
+fn fields_and_extensions(rt: HostRuntime) {
+    let alloc = rt.alloc();
+    for (input, want) in FIELDS {
+        assert!(rt; says(alloc, fields(alloc, input), want), "{want}");
+        assert!(rt; says(alloc, owned_fields(alloc, input), want), "{want}");
+    }
+    for (input, want) in EXTENSIONS {
+        assert!(rt; says(alloc, body_extension(alloc, input), want), "{want}");
+        assert!(rt; says(alloc, owned_extension(alloc, input), want), "{want}");
+    }
+}
+
+#[test]
+fn bodies(rt: HostRuntime) {
+    let alloc = rt.alloc();
+    for rows in [SINGLE_PARTS, MESSAGES_AND_MULTIPARTS] {
+        for (input, want) in rows {
+            assert!(rt; says(alloc, body_structure(alloc, input), want), "{want}");
+            assert!(rt; says(alloc, owned_body(alloc, input), want), "{want}");
+        }
+    }
+}
+
+/// What stands before, in and behind what is nested.
+struct Nest {
+    before: &'static [u8],
+    inside: &'static [u8],
+    behind: &'static [u8],
+}
+
+// So many levels, the inside being the last.
+fn nested(
+    alloc: Global,
+    start: &[u8],
+    nest: &Nest,
+    levels: u32,
+    end: &[u8],
+) -> Result<Vec<u8>, AllocError> {
+    let mut line = Vec::from_slice(alloc, start)?;
+    for _ in 1..levels {
+        line.extend_from_slice(nest.before)?;
+    }
+    line.extend_from_slice(nest.inside)?;
+    for _ in 1..levels {
+        line.extend_from_slice(nest.behind)?;
+    }
+    line.extend_from_slice(end)?;
+    Ok(line)
+}
+
+const MULTIPARTS: Nest = Nest {
+    before: b"(",
+    inside: b"(\"A\" \"B\" NIL NIL NIL \"7BIT\" 1)",
+    behind: b" \"M\")",
+};
+
+const MESSAGES: Nest = Nest {
+    before: b"(\"MESSAGE\" \"RFC822\" NIL NIL NIL NIL 1 (NIL NIL NIL NIL NIL NIL NIL NIL NIL NIL) ",
+    inside: b"(\"A\" \"B\" NIL NIL NIL \"7BIT\" 1)",
+    behind: b" 1)",
+};
+
+const LISTS: Nest = Nest {
+    before: b"(",
+    inside: b"(1)",
+    behind: b")",
+};
+
+const BEFORE_LISTS: &[u8] = b"(\"A\" \"B\" NIL NIL NIL \"7BIT\" 1 NIL NIL NIL NIL ";
+
+// What came of it, the value left out.
+fn outcome<T: Drop>(answer: IResult<&[u8], T>) -> &'static str {
+    match answer {
+        Ok((rest, _)) if rest.is_empty() => "whole",
+        Ok(_) => "in part",
+        Err(Err::Error) => "denied",
+        Err(_) => "neither",
+    }
+}
+
+#[test]
+fn nesting(rt: HostRuntime) -> Result<(), Fail> {
+    let alloc = rt.alloc();
+    for (levels, want) in [(99, "whole"), (100, "whole"), (101, "denied")] {
+        for nest in [&MULTIPARTS, &MESSAGES] {
+            let line = nested(alloc, b"", nest, levels, b"")?;
+            assert!(rt; outcome(body_structure(alloc, &line)) == want, "{levels}");
+        }
+        let line = nested(alloc, b"", &LISTS, levels, b"")?;
+        assert!(rt; outcome(body_extension(alloc, &line)) == want, "{levels}");
+        let line = nested(alloc, BEFORE_LISTS, &LISTS, levels, b")")?;
+        assert!(rt; outcome(body_structure(alloc, &line)) == want, "{levels}");
+    }
+    Ok(())
+}

@@ -1,0 +1,74 @@
+//! Sections of bodies: which part of a message is meant.
+
+use crate::answers::{Rows, says};
+use imap_body::{MessageSection, SectionPath, section, section_msgtext, section_part};
+use std::test::*;
+
+const WAITS: &str = "Incomplete(Unknown)";
+
+const SECTIONS: Rows = &[
+    (b"[1.2.MIME]x", r#"Some(Part([1, 2], Some(Mime))) then "x""#),
+    (b"[]", "None"),
+    (b"[TEXT.MIME]", "Error"),
+    (b"[text]", "Some(Full(Text))"),
+    (b"[HEADER.FIELDS.NOT (\"a\" b)]", "Some(Full(Header))"),
+    (b"[3]", "Some(Part([3], None))"),
+    (b"[MIME]", "Error"),
+    (b"[1.]", "Error"),
+    (b"[4294967296]", "Error"),
+    (b"[", WAITS),
+    (b"[1.2", WAITS),
+    (b"[1.HEADER.FIELDS (a {3}\r\nab", "Incomplete(Size(1))"),
+];
+
+const PARTS: Rows = &[
+    (b"1.2.TEXT", r#"[1, 2] then ".TEXT""#),
+    (b"007.0]", r#"[7, 0] then "]""#),
+    (b"1.2", WAITS),
+    (b"1.", WAITS),
+    (b".1]", "Error"),
+];
+
+const TEXTS: Rows = &[
+    (b"HEADER.FIELDS (DATE FROM)x", r#"Header then "x""#),
+    (b"HEADER.FIELDSX", r#"Header then ".FIELDSX""#),
+    (b"HEADER.FIELDS ()x", r#"Header then "x""#),
+    (b"Header.Fields.Not ({1}\r\n\xff)x", r#"Header then "x""#),
+    (b"HEADER]", r#"Header then "]""#),
+    (b"TEXT", "Text"),
+    (b"HEADER", WAITS),
+    (b"HEADER.FIELDS (DATE", WAITS),
+];
+
+const TEXTS_OF_PARTS: Rows = &[(b"mime]", r#"Mime then "]""#), (b"MIM", WAITS), (b"x", "Error")];
+
+const PATHS: Rows = &[
+    (b"1.2.MIME]", r#"Part([1, 2], Some(Mime)) then "]""#),
+    (b"4.HEADER]", r#"Part([4], Some(Header)) then "]""#),
+    (b"1.x", r#"Part([1], None) then ".x""#),
+    (b"TEXT]", r#"Full(Text) then "]""#),
+    (b"MIME]", "Error"),
+    (b"]", "Error"),
+];
+
+#[test]
+fn sections(rt: HostRuntime) {
+    let alloc = rt.alloc();
+    for (input, want) in SECTIONS {
+        assert!(rt; says(alloc, section(alloc, input), want), "{want}");
+    }
+    for (input, want) in PARTS {
+        assert!(rt; says(alloc, section_part(alloc, input), want), "{want}");
+    }
+    for (input, want) in TEXTS {
+        assert!(rt; says(alloc, section_msgtext(input), want), "{want}");
+        assert!(rt; says(alloc, MessageSection::parse(input), want), "{want}");
+    }
+    for (input, want) in TEXTS_OF_PARTS {
+        assert!(rt; says(alloc, MessageSection::parse(input), want), "{want}");
+    }
+    for (input, want) in PATHS {
+        assert!(rt; says(alloc, SectionPath::parse(alloc, input), want), "{want}");
+    }
+    assert!(rt; says(alloc, section_msgtext(b"MIME]"), "Error"));
+}
