@@ -519,8 +519,8 @@ module _ {A : Type 0} {a b r : Rule A} {l : A → A} {c : A → Pieces} {F : Byt
         elim y [
           | inl ya ↦ inl (h.again m v rest ya f t g)
           | inr yb ↦ elim yb.1 [
-              | inl here ↦ inl (k m v rest here f t g)
-              | inr later ↦ inr (apart.denied m v rest yb.0 later.1 f t g, inr (apart'.denied m v rest later.0 later.1 f t g, others.again m v rest later.1 f t g))
-            ]
+            | inl here ↦ inl (k m v rest here f t g)
+            | inr later ↦ inr (apart.denied m v rest yb.0 later.1 f t g, inr (apart'.denied m v rest later.0 later.1 f t g, others.again m v rest later.1 f t g))
+          ]
         ];
   }

@@ -62,7 +62,7 @@ module _ {V : Type 0} {c : V → Pieces} {F : Bytes → Type 0} where
         let read = subst (λ x. (meaning number).yields m x y.1.1.0) y.1.2 y.1.1.1 in
         let one = number_first n (numbers_yield.each m n y.1.1.0 read) in
         subst (λ w. Denies (meaning a) (written (c w) ++ t)) y.2
-            (subst (λ q. Denies (meaning a) (written q ++ t)) (sym (same n)) (subst (λ ds. Denies (meaning a) ((ds ++ written (words text)) ++ t)) (sym one.2) (h one.0 _ one.3)));
+        (subst (λ q. Denies (meaning a) (written q ++ t)) (sym (same n)) (subst (λ ds. Denies (meaning a) ((ds ++ written (words text)) ++ t)) (sym one.2) (h one.0 _ one.3)));
   }
 
   -- the same number before another word
@@ -76,8 +76,8 @@ module _ {V : Type 0} {c : V → Pieces} {F : Bytes → Type 0} where
         let path : written (number_text n then words text) ++ t ≡ decimal n ++ (written (words text) ++ t) = append_assoc (decimal n) (written (words text)) t in
         let again = number_on (2 ^ 32) n (omega arith) (number_bound m n y.1.1.0 read) (written (words text) ++ t) (ends t) in
         subst (λ w. Denies (meaning (gives e (number ◃ word j))) (written (c w) ++ t)) y.2
-            (subst (λ q. Denies (meaning (gives e (number ◃ word j))) (written q ++ t)) (sym (same n))
-            (inr (n, written (words text) ++ t, subst (λ m. (meaning number).yields m n (written (words text) ++ t)) (sym path) again, other t)));
+        (subst (λ q. Denies (meaning (gives e (number ◃ word j))) (written q ++ t)) (sym (same n))
+        (inr (n, written (words text) ++ t, subst (λ m. (meaning number).yields m n (written (words text) ++ t)) (sym path) again, other t)));
   }
 
 -- ---- numbers behind blanks, and each behind a space

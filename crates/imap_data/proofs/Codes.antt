@@ -122,5 +122,9 @@ code_ordered (code.AppendUid n uids) h = all_ordered uids.items h
 code_ordered (code.CopyUid n from to) h = (all_ordered from.items h.0, all_ordered to.items h.1)
 code_ordered other h = tt
 
+any_ordered : Yields HasOrderedValues any_code
+unfolding any_code
+any_ordered = either_yields basic_ordered (either_yields uid_ordered metadata_ordered)
+
 pub ordered_code : (c : ResponseCode) (m rest : List ℕ) → step any_code m ≡ Ok (rest, code_value c) → HasOrderedUids c
-ordered_code c m rest is = code_ordered c ((either_yields basic_ordered (either_yields uid_ordered metadata_ordered)).each m (code_value c) rest (reads any_code m rest (code_value c) is))
+ordered_code c m rest is = code_ordered c (any_ordered.each m (code_value c) rest (reads any_code m rest (code_value c) is))

@@ -5,4 +5,14 @@ pub mod Quotas
 pub mod Ids
 pub mod Annotations
 pub mod Acls
+pub mod CodeTexts
+pub mod NameTexts
+pub mod QuotaTexts
+pub mod IdTexts
+pub mod VanishingTexts
+pub mod AnnotationTexts
+pub mod MailboxDataTexts
+pub mod AclTexts
+pub mod OptionalRights
+pub mod FirstBytes
 pub mod Takes

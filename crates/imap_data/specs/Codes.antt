@@ -144,8 +144,28 @@ uid_code = highest_mod_seq or append_uid or copy_uid or names "UIDNOTSTICKY" Uid
 unfoldable pub metadata_code : Rule CodeValue
 metadata_code = long_entries or max_size or too_many or no_private
 
-abbrev pub any_code : Rule CodeValue
+unfoldable pub any_code : Rule CodeValue
 any_code = basic_code or uid_code or metadata_code
+
+-- of any code those that start alike
+
+unfoldable pub code_of_a : Rule CodeValue
+code_of_a = names "ALERT" Alert or append_uid
+
+unfoldable pub code_of_c : Rule CodeValue
+code_of_c = capabilities or copy_uid
+
+unfoldable pub code_of_p : Rule CodeValue
+code_of_p = names "PARSE" Parse or permanent_flags
+
+unfoldable pub code_of_u : Rule CodeValue
+code_of_u = (uid_validity or uid_next or unseen) or names "UIDNOTSTICKY" UidNotSticky
+
+unfoldable pub code_of_r : Rule CodeValue
+code_of_r = names "READ-ONLY" ReadOnly or names "READ-WRITE" ReadWrite
+
+unfoldable pub code_of_t : Rule CodeValue
+code_of_t = names "TRYCREATE" TryCreate
 
 unfoldable pub response_code : Rule CodeValue
 response_code = tag "[" ▹ any_code ◃ tag "]"

@@ -50,3 +50,17 @@ sort = gives Sort (word "SORT" ▹ found_numbers)
 
 unfoldable pub mailbox_datum : Rule MailboxValue
 mailbox_datum = flags or exists or list or lsub or status or recent or search or labels or msgid or thrid or sort
+
+-- of these data those that start alike
+
+unfoldable pub datum_of_number : Rule MailboxValue
+datum_of_number = exists or recent
+
+unfoldable pub datum_of_l : Rule MailboxValue
+datum_of_l = list or lsub
+
+unfoldable pub datum_of_s : Rule MailboxValue
+datum_of_s = status or search or sort
+
+unfoldable pub datum_of_x : Rule MailboxValue
+datum_of_x = labels or msgid or thrid

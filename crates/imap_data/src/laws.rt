@@ -29,6 +29,27 @@ ghost use Rattle.imap_items.specs.Rights.{right_content};
 ghost use Rattle.imap_data.specs.Acls as acls;
 ghost use Rattle.imap_data.specs.Acls.{acl_entry_content, acl_content, list_rights_content, my_rights_content};
 ghost use Rattle.imap_data.specs.Annotations as metadata;
+ghost use Rattle.std.specs.Prelude.{map, option_map};
+ghost use Rattle.imap_bytes.specs.Text.{lent_text};
+ghost use Rattle.imap_bytes.specs.ReadBack.{Keeps, Closes, EndsItem, as_is};
+ghost use Rattle.imap_items.specs.Capabilities.{lent_capability};
+ghost use Rattle.imap_items.specs.StatusTexts.{canonical_status, spells_status};
+ghost use Rattle.imap_items.specs.FlagTexts.{canonical_flag, spells_flag, canonical_flag_list, spells_flag_list};
+ghost use Rattle.imap_items.specs.GmailTexts.{canonical_label_list, spells_label_list, canonical_msgid, spells_msgid, canonical_thrid, spells_thrid};
+ghost use Rattle.imap_items.specs.CapabilityTexts.{canonical_capabilities, spells_capability_data, spells_enabled_data};
+ghost use Rattle.imap_items.specs.UidSetTexts.{canonical_uid_set, spells_uid_set};
+ghost use Rattle.imap_items.specs.MailboxTexts.{canonical_mailbox, spells_mailbox};
+ghost use Rattle.imap_data.specs.Codes.{lent_code};
+ghost use Rattle.imap_data.specs.MailboxValues.{lent_mailbox};
+ghost use Rattle.imap_data.specs.Quotas.{lent_quota, lent_quota_root};
+ghost use Rattle.imap_data.specs.Ids.{lent_id};
+ghost use Rattle.imap_data.specs.Acls.{lent_acl, lent_list_rights, lent_my_rights};
+ghost use Rattle.imap_data.specs.CodeTexts.{canonical_response_code, spells_response_code};
+ghost use Rattle.imap_data.specs.MailboxDataTexts.{canonical_datum, spells_datum};
+ghost use Rattle.imap_data.specs.QuotaTexts.{canonical_quota, spells_quota, canonical_quota_root, spells_quota_root};
+ghost use Rattle.imap_data.specs.IdTexts.{canonical_id, spells_id};
+ghost use Rattle.imap_data.specs.VanishingTexts.{canonical_vanished, spells_vanished};
+ghost use Rattle.imap_data.specs.AclTexts.{canonical_acl, spells_acl, canonical_list_rights, spells_list_rights, canonical_my_rights, spells_my_rights};
 
 use crate::types::acls::{Acl, AclEntry, ListRights, MyRights};
 use crate::types::annotations::Metadata;
@@ -110,4 +131,32 @@ pub fn hashing()
     ensures quota { HashesAlike ⟦<Quota<'static> as Hash>⟧.hash_input quota_content }
     ensures quota_root { HashesAlike ⟦<QuotaRoot<'static> as Hash>⟧.hash_input quota_root_content }
     ensures acl_right { HashesAlike ⟦<AclRight as Hash>⟧.hash_input right_content }
+{}
+
+/// What each rule takes spells the value that it yields. And a value that it yields on some bytes, it yields again on the value's canonical text, with all texts borrowed,
+/// and leaves exactly what follows: any bytes that begin with `)` or CR, and for statuses, response codes, flags and Gmail's items also with a space. A text too long for its length to be told as a literal is excepted.
+#[tactic(auto, using(imap_items::proofs::StatusTexts::keeps_status, imap_items::proofs::FlagTexts::keeps_flag, imap_items::proofs::FlagTexts::keeps_flag_perm, imap_items::proofs::FlagTexts::keeps_flag_list, imap_items::proofs::GmailTexts::keeps_label_list, imap_items::proofs::GmailTexts::keeps_msgid, imap_items::proofs::GmailTexts::keeps_thrid, imap_items::proofs::CapabilityTexts::keeps_capability_data, imap_items::proofs::CapabilityTexts::keeps_enabled_data, imap_items::proofs::UidSetTexts::keeps_uid_set, imap_items::proofs::MailboxTexts::keeps_mailbox, crate::proofs::CodeTexts::keeps_response_code, crate::proofs::MailboxDataTexts::keeps_mailbox_datum, crate::proofs::QuotaTexts::keeps_quota, crate::proofs::QuotaTexts::keeps_quota_root, crate::proofs::IdTexts::keeps_id, crate::proofs::VanishingTexts::keeps_vanished, crate::proofs::AnnotationTexts::keeps_solicited, crate::proofs::AnnotationTexts::keeps_unsolicited, crate::proofs::AclTexts::keeps_acl, crate::proofs::OptionalRights::keeps_list_rights, crate::proofs::AclTexts::keeps_my_rights))]
+pub fn read_back()
+    ensures status { Keeps statuses.status as_is canonical_status spells_status EndsItem }
+    ensures flag { Keeps flags.flag as_is canonical_flag spells_flag EndsItem }
+    ensures flag_perm { Keeps flags.flag_perm as_is canonical_flag spells_flag EndsItem }
+    ensures flag_list { Keeps flags.flag_list (map lent_text) canonical_flag_list spells_flag_list EndsItem }
+    ensures gmail_label_list { Keeps gmail.gmail_label_list (map lent_text) canonical_label_list spells_label_list EndsItem }
+    ensures gmail_msgid { Keeps gmail.gmail_msgid as_is canonical_msgid spells_msgid EndsItem }
+    ensures gmail_thrid { Keeps gmail.gmail_thrid as_is canonical_thrid spells_thrid EndsItem }
+    ensures capability_data { Keeps capabilities.capability_data (map lent_capability) canonical_capabilities spells_capability_data Closes }
+    ensures enabled_data { Keeps capabilities.enabled_data (map lent_capability) canonical_capabilities spells_enabled_data Closes }
+    ensures uid_set { Keeps uid_sets.uid_set as_is canonical_uid_set spells_uid_set Closes }
+    ensures mailbox { Keeps mailboxes.mailbox lent_text canonical_mailbox spells_mailbox Closes }
+    ensures response_code { Keeps codes.response_code lent_code canonical_response_code spells_response_code EndsItem }
+    ensures mailbox_datum { Keeps mailbox_data.mailbox_datum lent_mailbox canonical_datum spells_datum Closes }
+    ensures quota { Keeps quotas.quota lent_quota canonical_quota spells_quota Closes }
+    ensures quota_root { Keeps quotas.quota_root lent_quota_root canonical_quota_root spells_quota_root Closes }
+    ensures id { Keeps ids.id (option_map lent_id) canonical_id spells_id Closes }
+    ensures vanished { Keeps vanishings.vanished as_is canonical_vanished spells_vanished Closes }
+    ensures metadata_solicited { Keeps metadata.metadata_solicited lent_mailbox canonical_datum spells_datum Closes }
+    ensures metadata_unsolicited { Keeps metadata.metadata_unsolicited lent_mailbox canonical_datum spells_datum Closes }
+    ensures acl { Keeps acls.acl lent_acl canonical_acl spells_acl Closes }
+    ensures list_rights { Keeps acls.list_rights lent_list_rights canonical_list_rights spells_list_rights Closes }
+    ensures my_rights { Keeps acls.my_rights lent_my_rights canonical_my_rights spells_my_rights Closes }
 {}

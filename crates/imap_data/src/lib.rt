@@ -5,7 +5,7 @@ pub mod laws;
 pub mod readers;
 mod types;
 
-pub use imap_items::{AclRight, Capability, Status, UidSetMember};
+pub use imap_items::{AclRight, Capability, Status, UidSetMember, at};
 pub use types::acls::{Acl, AclEntry, ListRights, MyRights};
 pub use types::annotations::Metadata;
 pub use types::codes::ResponseCode;

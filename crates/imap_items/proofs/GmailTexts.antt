@@ -48,7 +48,6 @@ label_list_spells = spells-word "X-GM-LABELS " ▹ˢ spells-list_of label_spells
 pub keeps_label_list : Keeps gmail_label_list (map lent_text) canonical_label_list spells_label_list EndsItem
 keeps_label_list = record { spelled = label_list_spells; back = reads-follow reads_label_list (λ t g. tt) }
 
-
 pub keeps_msgid : Keeps gmail_msgid as_is canonical_msgid spells_msgid EndsItem
 unfolding gmail_msgid
 keeps_msgid = record {

@@ -8,4 +8,6 @@ pub mod CapabilityTexts
 pub mod UidSetTexts
 pub mod MailboxTexts
 pub mod RightTexts
+pub mod FirstBytes
 pub mod Takes
+pub mod Spanned

@@ -53,7 +53,7 @@ unfolding meaning
 uid_apart = record {
   denied = λ m v rest d y f t g.
       subst (λ w. Denies (meaning (gives range_of sequence_range)) (written (canonical_member w) ++ t)) y.2
-          (denies-gives range_of sequence_range _ (subst (λ l. Denies (meaning sequence_range) l) (sym (raw_on (decimal y.0) t)) (no_range y.0 (number_bound m y.0 rest y.1) t g)));
+      (denies-gives range_of sequence_range _ (subst (λ l. Denies (meaning sequence_range) l) (sym (raw_on (decimal y.0) t)) (no_range y.0 (number_bound m y.0 rest y.1) t g)));
 }
 
 pub reads_member : ReadsBack uid_set_member as_is canonical_member RangeEnds

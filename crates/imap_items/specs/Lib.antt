@@ -13,3 +13,4 @@ pub mod UidSetTexts
 pub mod MailboxTexts
 pub mod RightTexts
 pub mod Copies
+pub mod Spanned

@@ -6,3 +6,17 @@ use Rattle.imap_items.specs.declared.types.statuses.Status.TheVariants.{Ok, No, 
 
 unfoldable pub status : Rule Status
 status = names "OK" Ok or names "NO" No or names "BAD" Bad or names "PREAUTH" PreAuth or names "BYE" Bye
+
+-- of these words those that start alike
+
+unfoldable pub ok_word : Rule Status
+ok_word = names "OK" Ok
+
+unfoldable pub no_word : Rule Status
+no_word = names "NO" No
+
+unfoldable pub bad_or_bye : Rule Status
+bad_or_bye = names "BAD" Bad or names "BYE" Bye
+
+unfoldable pub preauth_word : Rule Status
+preauth_word = names "PREAUTH" PreAuth

@@ -82,23 +82,7 @@ pub fn conversions()
 
 /// What each rule takes spells the value that it yields. And a value that it yields on some bytes, it yields again on the value's canonical text, with all texts borrowed,
 /// and leaves exactly what follows: any bytes that begin with `)` or CR, and for statuses, flags and Gmail's items also with a space. A text too long for its length to be told as a literal is excepted.
-#[tactic(
-    auto,
-    using(
-        crate::proofs::StatusTexts::keeps_status,
-        crate::proofs::FlagTexts::keeps_flag,
-        crate::proofs::FlagTexts::keeps_flag_perm,
-        crate::proofs::FlagTexts::keeps_flag_list,
-        crate::proofs::GmailTexts::keeps_label_list,
-        crate::proofs::GmailTexts::keeps_msgid,
-        crate::proofs::GmailTexts::keeps_thrid,
-        crate::proofs::CapabilityTexts::keeps_capability_data,
-        crate::proofs::CapabilityTexts::keeps_enabled_data,
-        crate::proofs::UidSetTexts::keeps_uid_set,
-        crate::proofs::MailboxTexts::keeps_mailbox,
-        crate::proofs::RightTexts::keeps_rights
-    )
-)]
+#[tactic(auto, using(crate::proofs::StatusTexts::keeps_status, crate::proofs::FlagTexts::keeps_flag, crate::proofs::FlagTexts::keeps_flag_perm, crate::proofs::FlagTexts::keeps_flag_list, crate::proofs::GmailTexts::keeps_label_list, crate::proofs::GmailTexts::keeps_msgid, crate::proofs::GmailTexts::keeps_thrid, crate::proofs::CapabilityTexts::keeps_capability_data, crate::proofs::CapabilityTexts::keeps_enabled_data, crate::proofs::UidSetTexts::keeps_uid_set, crate::proofs::MailboxTexts::keeps_mailbox, crate::proofs::RightTexts::keeps_rights))]
 pub fn read_back()
     ensures status { Keeps statuses.status as_is canonical_status spells_status EndsItem }
     ensures flag { Keeps flags.flag as_is canonical_flag spells_flag EndsItem }

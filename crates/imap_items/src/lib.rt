@@ -1,6 +1,7 @@
 //! What several kinds of line share: statuses, capabilities, flags, Gmail's items, UID sets, mailbox names, rights, and copies of texts.
 #![tactic(auto)]
 
+pub mod at;
 pub mod copies;
 pub mod laws;
 pub mod readers;

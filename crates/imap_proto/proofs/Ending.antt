@@ -11,7 +11,7 @@ use Rattle.imap_bytes.proofs.Agreement.{agrees, shrinks}
 use Rattle.imap_items.specs.Statuses.{status}
 use Rattle.imap_proto.specs.Responses.{ResponseValue, EndsLine}
 use Rattle.imap_proto.specs.Outcomes.{outcome, spaced_outcome}
-use Rattle.imap_proto.specs.Lines.{continuation, datum, spaces, data_line, request_tag, tagged, response}
+use Rattle.imap_proto.specs.Lines.{continuation, datum, spaces, ended_datum, data_line, request_tag, tagged, response}
 
 is_crlf : (v : List ℕ) → is_word ◌==◌ (13 ∷ 10 ∷ []) v ≡ true → v ≡ 13 ∷ 10 ∷ []
 is_crlf [] h = absurd (false≢true h)
@@ -52,7 +52,7 @@ unfolding continuation meaning
 continuation_ends m v rest h = right_ends (tag "+") (maybe_space ▹ outcome ◃ crlf) (right_ends maybe_space (outcome ◃ crlf) (left_ends outcome crlf crlf_ends)) m h.0 rest h.1
 
 data_ends : (m : List ℕ) (v : ResponseValue) (rest : List ℕ) → (meaning data_line).yields m v rest → EndsLine m rest
-unfolding data_line
+unfolding data_line ended_datum
 data_ends = right_ends (tag "* ") (datum ◃ spaces ⨾ crlf) (left_ends datum (spaces ⨾ crlf) (seq_ends spaces crlf crlf_ends))
 
 tagged_ends : (m : List ℕ) (v : ResponseValue) (rest : List ℕ) → (meaning tagged).yields m v rest → EndsLine m rest

@@ -9,7 +9,7 @@ use Rattle.imap_bytes.specs.Strings.{in_utf8}
 use Rattle.imap_items.specs.declared.types.statuses.Status.{Status}
 use Rattle.imap_items.specs.Statuses.{status}
 use Rattle.imap_items.specs.Capabilities.{capability_data, enabled_data}
-use Rattle.imap_data.specs.MailboxData.{mailbox_datum}
+use Rattle.imap_data.specs.MailboxData.{mailbox_datum, exists, recent}
 use Rattle.imap_data.specs.Annotations.{metadata_solicited, metadata_unsolicited}
 use Rattle.imap_data.specs.Vanishings.{vanished}
 use Rattle.imap_data.specs.Quotas.{quota, quota_root}
@@ -70,9 +70,52 @@ is_space b = b == 32
 unfoldable pub spaces : Rule Bytes
 spaces = run0 is_space
 
--- `* `, a datum, spaces
+-- a datum, spaces, the end of the line
+abbrev pub ended : Rule ResponseValue → Rule ResponseValue
+ended a = a ◃ spaces ⨾ crlf
+
+unfoldable pub ended_datum : Rule ResponseValue
+ended_datum = ended datum
+
+-- `* ` and a datum
 unfoldable pub data_line : Rule ResponseValue
-data_line = tag "* " ▹ datum ◃ spaces ⨾ crlf
+data_line = tag "* " ▹ ended_datum
+
+-- ---- the data that may start with one byte, in their order, each with the end of its line
+
+unfoldable pub status_line : Rule ResponseValue
+status_line = ended status_data
+
+-- EXISTS, RECENT and EXPUNGE have their number in front
+unfoldable pub numbered_line : Rule ResponseValue
+numbered_line = ended (gives MailboxData (exists or recent) or expunge)
+
+unfoldable pub mailbox_line : Rule ResponseValue
+mailbox_line = ended (gives MailboxData mailbox_datum)
+
+unfoldable pub list_line : Rule ResponseValue
+list_line = ended (gives MailboxData mailbox_datum or gives ListRights list_rights)
+
+unfoldable pub capability_line : Rule ResponseValue
+capability_line = ended (gives Capabilities capability_data)
+
+unfoldable pub enabled_line : Rule ResponseValue
+enabled_line = ended (gives Capabilities enabled_data)
+
+unfoldable pub annotation_line : Rule ResponseValue
+annotation_line = ended ((gives MailboxData metadata_solicited or gives MailboxData metadata_unsolicited) or gives MyRights my_rights)
+
+unfoldable pub vanished_line : Rule ResponseValue
+vanished_line = ended vanished_data
+
+unfoldable pub quota_line : Rule ResponseValue
+quota_line = ended (gives Quota quota or gives QuotaRoot quota_root)
+
+unfoldable pub id_line : Rule ResponseValue
+id_line = ended (gives Id id)
+
+unfoldable pub acl_line : Rule ResponseValue
+acl_line = ended (gives Acl acl)
 
 -- ---- tagged lines
 

@@ -1,164 +1,183 @@
-//! What a data line says.
+//! What a data line says. Each reader of a datum ends its line, so that a response is made in one place.
 
-ghost use Rattle.imap_bytes.specs.Answer.{Gives};
-ghost use Rattle.imap_bytes.specs.Rule.{gives};
+ghost use Rattle.std.specs.Prelude.{◌≡◌, ◌<◌, length, position, IfSome};
+ghost use Rattle.imap_bytes.specs.Answer.{Exactly, Gives};
+ghost use Rattle.imap_bytes.specs.Meaning.{outside};
+ghost use Rattle.imap_bytes.specs.Rule.{◌⨾◌};
 ghost use Rattle.imap_bytes.specs.Step.{step};
-ghost use Rattle.imap_items.specs.Capabilities as capabilities;
-ghost use Rattle.imap_data.specs.MailboxData as mailboxes;
-ghost use Rattle.imap_data.specs.Annotations as annotations;
-ghost use Rattle.imap_data.specs.Quotas as quotas;
-ghost use Rattle.imap_data.specs.Ids as ids;
-ghost use Rattle.imap_data.specs.Acls as acls;
+ghost use Rattle.imap_bytes.specs.Tags.{crlf};
 ghost use Rattle.imap_proto.specs.Responses.{response_value};
-ghost use Rattle.imap_proto.specs.Responses as value;
 ghost use Rattle.imap_proto.specs.Lines as rule;
 
 use crate::outcomes::spaced_outcome;
 use crate::response::Response;
-use imap_bytes::tags::word;
-use imap_bytes::{IResult, first, number};
+use imap_bytes::tags::{cut0, tag, word};
+use imap_bytes::{Err, IResult, Needed, named, number};
+use imap_data::MailboxDatum;
 use imap_data::readers::{
     acl, capability_data, enabled_data, id, list_rights, mailbox_datum, metadata_solicited,
     metadata_unsolicited, my_rights, quota, quota_root, status, vanished,
 };
 use std::alloc::Global;
 
-#[tactic(auto, unfolding(crate::specs::Lines::status_data))]
-fn status_data(alloc: Global, i: &[u8]) -> IResult<&[u8], Response<'_>>
-    ensures { Gives response_value result (step rule.status_data i.now) }
+fn is_space(c: u8) -> bool
+    ensures { result ≡ rule.is_space c }
+{
+    c == b' '
+}
+
+fn spaces_end(i: &[u8]) -> Option<usize>
+    ensures at { result ≡ position (outside rule.is_space) i.now }
+    ensures within { IfSome result (λ n. n < length i.now) }
+{
+    i.iter().position(|c| !is_space(*c))
+}
+
+#[tactic(auto, unfolding(crate::specs::Lines::spaces))]
+fn spaces(i: &[u8]) -> IResult<&[u8], &[u8]>
+    ensures { Exactly (λ x. x.now) result (step rule.spaces i.now) }
+{
+    cut0(spaces_end(i), i)
+}
+
+// Spaces, and the end of the line.
+fn line_end(i: &[u8]) -> IResult<&[u8], (&[u8], &[u8])>
+    ensures { Exactly (λ x. (x.0.now, x.1.now)) result (step (rule.spaces ⨾ crlf) i.now) }
+{
+    let (rest, before) = spaces(i)?;
+    let (rest, end) = tag(b"\r\n", rest)?;
+    Ok((rest, (before, end)))
+}
+
+// Where the reader answers, ends its line and answers the response that is made of what it found; goes on where it denies.
+macro_rules! line {
+    ($answer:expr, $found:pat => $response:expr) => {
+        match $answer {
+            Ok((rest, $found)) => match line_end(rest) {
+                Ok((rest, _)) => return Ok((rest, $response)),
+                Err(e) => return Err(e),
+            },
+            Err(Err::Error) => {}
+            Err(e) => return Err(e),
+        }
+    };
+}
+
+#[tactic(auto, unfolding(crate::specs::Lines::status_line, crate::specs::Lines::status_data))]
+fn status_line(alloc: Global, i: &[u8]) -> IResult<&[u8], Response<'_>>
+    ensures { Gives response_value result (step rule.status_line i.now) }
 {
     let (i, status) = status(i)?;
-    let (i, outcome) = spaced_outcome(alloc, i)?;
-    Ok((i, Response::Data { status, outcome }))
+    line!(spaced_outcome(alloc, i), outcome => Response::Data { status, outcome });
+    Err(Err::Error)
 }
 
-#[tactic(auto, unfolding(crate::specs::Lines::expunge))]
-fn expunge(i: &[u8]) -> IResult<&[u8], Response<'_>>
-    ensures { Gives response_value result (step rule.expunge i.now) }
+// The number is read once, whichever word stands behind it.
+#[tactic(auto, unfolding(crate::specs::Lines::numbered_line, crate::specs::Lines::expunge, imap_data::specs::MailboxData::exists, imap_data::specs::MailboxData::recent))]
+fn numbered_line(i: &[u8]) -> IResult<&[u8], Response<'_>>
+    ensures { Exactly response_value result (step rule.numbered_line i.now) }
 {
     let (i, n) = number(i)?;
-    let (i, _) = word(b" EXPUNGE", i)?;
-    Ok((i, Response::Expunge(n)))
+    line!(word(b" EXISTS", i), _ => Response::MailboxData(MailboxDatum::Exists(n)));
+    line!(word(b" RECENT", i), _ => Response::MailboxData(MailboxDatum::Recent(n)));
+    line!(word(b" EXPUNGE", i), _ => Response::Expunge(n));
+    Err(Err::Error)
 }
 
-fn mailbox_data(alloc: Global, i: &[u8]) -> IResult<&[u8], Response<'_>>
-    ensures { Gives response_value result (step (gives value.MailboxData mailboxes.mailbox_datum) i.now) }
+#[tactic(auto, unfolding(crate::specs::Lines::mailbox_line))]
+fn mailbox_line(alloc: Global, i: &[u8]) -> IResult<&[u8], Response<'_>>
+    ensures { Gives response_value result (step rule.mailbox_line i.now) }
 {
-    let (i, found) = mailbox_datum(alloc, i)?;
-    Ok((i, Response::MailboxData(found)))
+    line!(mailbox_datum(alloc, i), found => Response::MailboxData(found));
+    Err(Err::Error)
 }
 
-fn capabilities(alloc: Global, i: &[u8]) -> IResult<&[u8], Response<'_>>
-    ensures { Gives response_value result (step (gives value.Capabilities capabilities.capability_data) i.now) }
+#[tactic(auto, unfolding(crate::specs::Lines::list_line))]
+fn list_line(alloc: Global, i: &[u8]) -> IResult<&[u8], Response<'_>>
+    ensures { Gives response_value result (step rule.list_line i.now) }
 {
-    let (i, found) = capability_data(alloc, i)?;
-    Ok((i, Response::Capabilities(found)))
+    line!(mailbox_datum(alloc, i), found => Response::MailboxData(found));
+    line!(list_rights(alloc, i), found => Response::ListRights(found));
+    Err(Err::Error)
 }
 
-fn enabled(alloc: Global, i: &[u8]) -> IResult<&[u8], Response<'_>>
-    ensures { Gives response_value result (step (gives value.Capabilities capabilities.enabled_data) i.now) }
+#[tactic(auto, unfolding(crate::specs::Lines::capability_line))]
+fn capability_line(alloc: Global, i: &[u8]) -> IResult<&[u8], Response<'_>>
+    ensures { Gives response_value result (step rule.capability_line i.now) }
 {
-    let (i, found) = enabled_data(alloc, i)?;
-    Ok((i, Response::Capabilities(found)))
+    line!(capability_data(alloc, i), found => Response::Capabilities(found));
+    Err(Err::Error)
 }
 
-fn annotations(alloc: Global, i: &[u8]) -> IResult<&[u8], Response<'_>>
-    ensures { Gives response_value result (step (gives value.MailboxData annotations.metadata_solicited) i.now) }
+#[tactic(auto, unfolding(crate::specs::Lines::enabled_line))]
+fn enabled_line(alloc: Global, i: &[u8]) -> IResult<&[u8], Response<'_>>
+    ensures { Gives response_value result (step rule.enabled_line i.now) }
 {
-    let (i, found) = metadata_solicited(alloc, i)?;
-    Ok((i, Response::MailboxData(found)))
+    line!(enabled_data(alloc, i), found => Response::Capabilities(found));
+    Err(Err::Error)
 }
 
-fn annotation_names(alloc: Global, i: &[u8]) -> IResult<&[u8], Response<'_>>
-    ensures { Gives response_value result (step (gives value.MailboxData annotations.metadata_unsolicited) i.now) }
+#[tactic(auto, unfolding(crate::specs::Lines::annotation_line))]
+fn annotation_line(alloc: Global, i: &[u8]) -> IResult<&[u8], Response<'_>>
+    ensures { Gives response_value result (step rule.annotation_line i.now) }
 {
-    let (i, found) = metadata_unsolicited(alloc, i)?;
-    Ok((i, Response::MailboxData(found)))
+    line!(metadata_solicited(alloc, i), found => Response::MailboxData(found));
+    line!(metadata_unsolicited(alloc, i), found => Response::MailboxData(found));
+    line!(my_rights(alloc, i), found => Response::MyRights(found));
+    Err(Err::Error)
 }
 
-#[tactic(auto, unfolding(crate::specs::Lines::vanished_data))]
-fn vanished_data(alloc: Global, i: &[u8]) -> IResult<&[u8], Response<'_>>
-    ensures { Gives response_value result (step rule.vanished_data i.now) }
+#[tactic(auto, unfolding(crate::specs::Lines::vanished_line, crate::specs::Lines::vanished_data))]
+fn vanished_line(alloc: Global, i: &[u8]) -> IResult<&[u8], Response<'_>>
+    ensures { Gives response_value result (step rule.vanished_line i.now) }
 {
-    let (i, (earlier, uids)) = vanished(alloc, i)?;
-    Ok((i, Response::Vanished { earlier, uids }))
+    line!(vanished(alloc, i), (earlier, uids) => Response::Vanished { earlier, uids });
+    Err(Err::Error)
 }
 
-fn quota_data(alloc: Global, i: &[u8]) -> IResult<&[u8], Response<'_>>
-    ensures { Gives response_value result (step (gives value.Quota quotas.quota) i.now) }
+#[tactic(auto, unfolding(crate::specs::Lines::quota_line))]
+fn quota_line(alloc: Global, i: &[u8]) -> IResult<&[u8], Response<'_>>
+    ensures { Gives response_value result (step rule.quota_line i.now) }
 {
-    let (i, found) = quota(alloc, i)?;
-    Ok((i, Response::Quota(found)))
+    line!(quota(alloc, i), found => Response::Quota(found));
+    line!(quota_root(alloc, i), found => Response::QuotaRoot(found));
+    Err(Err::Error)
 }
 
-fn quota_root_data(alloc: Global, i: &[u8]) -> IResult<&[u8], Response<'_>>
-    ensures { Gives response_value result (step (gives value.QuotaRoot quotas.quota_root) i.now) }
+#[tactic(auto, unfolding(crate::specs::Lines::id_line))]
+fn id_line(alloc: Global, i: &[u8]) -> IResult<&[u8], Response<'_>>
+    ensures { Gives response_value result (step rule.id_line i.now) }
 {
-    let (i, found) = quota_root(alloc, i)?;
-    Ok((i, Response::QuotaRoot(found)))
+    line!(id(alloc, i), found => Response::Id(found));
+    Err(Err::Error)
 }
 
-fn id_data(alloc: Global, i: &[u8]) -> IResult<&[u8], Response<'_>>
-    ensures { Gives response_value result (step (gives value.Id ids.id) i.now) }
+#[tactic(auto, unfolding(crate::specs::Lines::acl_line))]
+fn acl_line(alloc: Global, i: &[u8]) -> IResult<&[u8], Response<'_>>
+    ensures { Gives response_value result (step rule.acl_line i.now) }
 {
-    let (i, found) = id(alloc, i)?;
-    Ok((i, Response::Id(found)))
+    line!(acl(alloc, i), found => Response::Acl(found));
+    Err(Err::Error)
 }
 
-fn acl_data(alloc: Global, i: &[u8]) -> IResult<&[u8], Response<'_>>
-    ensures { Gives response_value result (step (gives value.Acl acls.acl) i.now) }
+/// A datum and the end of its line: of the alternatives those are tried, in order, that may start with the first byte.
+#[tactic(auto, using(crate::proofs::FirstBytes::datum_none, crate::proofs::FirstBytes::datum_of_status, crate::proofs::FirstBytes::datum_of_number, crate::proofs::FirstBytes::datum_of_mailbox, crate::proofs::FirstBytes::datum_of_list, crate::proofs::FirstBytes::datum_of_capability, crate::proofs::FirstBytes::datum_of_enabled, crate::proofs::FirstBytes::datum_of_annotation, crate::proofs::FirstBytes::datum_of_vanished, crate::proofs::FirstBytes::datum_of_quota, crate::proofs::FirstBytes::datum_of_id, crate::proofs::FirstBytes::datum_of_acl, crate::proofs::FirstBytes::datum_other))]
+pub(crate) fn datum_line(alloc: Global, i: &[u8]) -> IResult<&[u8], Response<'_>>
+    ensures { Gives response_value result (step rule.ended_datum i.now) }
 {
-    let (i, found) = acl(alloc, i)?;
-    Ok((i, Response::Acl(found)))
-}
-
-fn list_rights_data(alloc: Global, i: &[u8]) -> IResult<&[u8], Response<'_>>
-    ensures { Gives response_value result (step (gives value.ListRights acls.list_rights) i.now) }
-{
-    let (i, found) = list_rights(alloc, i)?;
-    Ok((i, Response::ListRights(found)))
-}
-
-fn my_rights_data(alloc: Global, i: &[u8]) -> IResult<&[u8], Response<'_>>
-    ensures { Gives response_value result (step (gives value.MyRights acls.my_rights) i.now) }
-{
-    let (i, found) = my_rights(alloc, i)?;
-    Ok((i, Response::MyRights(found)))
-}
-
-// The state of the server and of a mailbox.
-#[tactic(auto, unfolding(crate::specs::Lines::state_datum))]
-fn state_datum(alloc: Global, i: &[u8]) -> IResult<&[u8], Response<'_>>
-    ensures { Gives response_value result (step rule.state_datum i.now) }
-{
-    first!(status_data(alloc, i));
-    first!(mailbox_data(alloc, i));
-    first!(expunge(i));
-    first!(capabilities(alloc, i));
-    first!(enabled(alloc, i));
-    first!(annotations(alloc, i));
-    annotation_names(alloc, i)
-}
-
-// The lines of extensions.
-#[tactic(auto, unfolding(crate::specs::Lines::extension_datum))]
-fn extension_datum(alloc: Global, i: &[u8]) -> IResult<&[u8], Response<'_>>
-    ensures { Gives response_value result (step rule.extension_datum i.now) }
-{
-    first!(vanished_data(alloc, i));
-    first!(quota_data(alloc, i));
-    first!(quota_root_data(alloc, i));
-    first!(id_data(alloc, i));
-    first!(acl_data(alloc, i));
-    first!(list_rights_data(alloc, i));
-    my_rights_data(alloc, i)
-}
-
-/// A datum: the alternatives of a data line, in order.
-#[tactic(auto, unfolding(crate::specs::Lines::datum))]
-pub(crate) fn datum(alloc: Global, i: &[u8]) -> IResult<&[u8], Response<'_>>
-    ensures { Gives response_value result (step rule.datum i.now) }
-{
-    first!(state_datum(alloc, i));
-    extension_datum(alloc, i)
+    match i.first() {
+        None => Err(Err::Incomplete(Needed::Unknown)),
+        Some(b'o' | b'O' | b'n' | b'N' | b'b' | b'B' | b'p' | b'P') => status_line(alloc, i),
+        Some(b'f' | b'F' | b's' | b'S' | b'x' | b'X') => mailbox_line(alloc, i),
+        Some(b'l' | b'L') => list_line(alloc, i),
+        Some(b'c' | b'C') => capability_line(alloc, i),
+        Some(b'e' | b'E') => enabled_line(alloc, i),
+        Some(b'm' | b'M') => annotation_line(alloc, i),
+        Some(b'v' | b'V') => vanished_line(alloc, i),
+        Some(b'q' | b'Q') => quota_line(alloc, i),
+        Some(b'i' | b'I') => id_line(alloc, i),
+        Some(b'a' | b'A') => acl_line(alloc, i),
+        Some(b) if b.is_ascii_digit() => numbered_line(i),
+        Some(_) => Err(Err::Error),
+    }
 }

@@ -10,12 +10,23 @@ mod outcome;
 mod outcomes;
 mod response;
 
-pub use imap_bytes as imap_core;
+pub use imap_bytes::{Err, IResult, Needed};
 pub use imap_data::{
     Capability, MailboxDatum, MailboxListData, NameAttribute, ResponseCode, Status, StatusAttribute,
 };
 pub use outcome::Outcome;
 pub use response::{ParseResult, RequestId, Response};
+
+/// What readers answer, and the readers of bytes: classes, numbers, strings, texts and lists (the Rust crate's module `core`).
+pub mod imap_core {
+    pub use imap_bytes::{
+        Err, IResult, Needed, astring, astring_utf8, atom, is_astring_char, is_atom_char,
+        is_atom_specials, is_char, is_list_wildcards, is_quoted_specials, is_resp_specials,
+        is_text_char, literal, nil, nstring, nstring_utf8, number, number_64, opt_opt,
+        paren_delimited, parenthesized_list, parenthesized_nonempty_list, quoted, quoted_utf8,
+        sequence_range, sequence_set, string, string_utf8, text,
+    };
+}
 
 /// RFC 3501: Internet Message Access Protocol, version 4rev1.
 pub mod rfc3501 {

@@ -8,12 +8,12 @@ ghost use Rattle.imap_bytes.specs.Rule.{run1};
 ghost use Rattle.imap_proto.specs.Responses.{response_value};
 ghost use Rattle.imap_proto.specs.Lines as rule;
 
-use crate::data::datum;
+use crate::data::datum_line;
 use crate::outcomes::{outcome, spaced_outcome};
 use crate::response::{RequestId, Response};
 use imap_bytes::strings::as_utf8;
-use imap_bytes::tags::{cut0, cut1, maybe_space, tag};
-use imap_bytes::{Err, IResult, first, is_astring_char};
+use imap_bytes::tags::{cut1, maybe_space, tag};
+use imap_bytes::{Err, IResult, is_astring_char};
 use imap_data::readers::status;
 use std::alloc::Global;
 
@@ -23,40 +23,23 @@ fn continuation(alloc: Global, i: &[u8]) -> IResult<&[u8], Response<'_>>
 {
     let (i, _) = tag(b"+", i)?;
     let (i, _) = maybe_space(i)?;
-    let (i, outcome) = outcome(alloc, i)?;
-    let (i, _) = tag(b"\r\n", i)?;
-    Ok((i, Response::Continue(outcome)))
-}
-
-fn is_space(c: u8) -> bool
-    ensures { result ≡ rule.is_space c }
-{
-    c == b' '
-}
-
-fn spaces_end(i: &[u8]) -> Option<usize>
-    ensures at { result ≡ position (outside rule.is_space) i.now }
-    ensures within { IfSome result (λ n. n < length i.now) }
-{
-    i.iter().position(|c| !is_space(*c))
-}
-
-#[tactic(auto, unfolding(crate::specs::Lines::spaces))]
-fn spaces(i: &[u8]) -> IResult<&[u8], &[u8]>
-    ensures { Exactly (λ x. x.now) result (step rule.spaces i.now) }
-{
-    cut0(spaces_end(i), i)
+    match outcome(alloc, i) {
+        Ok((i, outcome)) => match tag(b"\r\n", i) {
+            Ok((i, _)) => Ok((i, Response::Continue(outcome))),
+            Err(e) => Err(e),
+        },
+        Err(e) => Err(e),
+    }
 }
 
 #[tactic(auto, unfolding(crate::specs::Lines::data_line))]
 fn data_line(alloc: Global, i: &[u8]) -> IResult<&[u8], Response<'_>>
     ensures { Gives response_value result (step rule.data_line i.now) }
 {
-    let (i, _) = tag(b"* ", i)?;
-    let (i, response) = datum(alloc, i)?;
-    let (i, _) = spaces(i)?;
-    let (i, _) = tag(b"\r\n", i)?;
-    Ok((i, response))
+    match tag(b"* ", i) {
+        Ok((i, _)) => datum_line(alloc, i),
+        Err(e) => Err(e),
+    }
 }
 
 fn is_tag_char(c: u8) -> bool
@@ -96,25 +79,31 @@ fn tagged(alloc: Global, i: &[u8]) -> IResult<&[u8], Response<'_>>
     let (i, tag_text) = request_tag(i)?;
     let (i, _) = tag(b" ", i)?;
     let (i, status) = status(i)?;
-    let (i, outcome) = spaced_outcome(alloc, i)?;
-    let (i, _) = tag(b"\r\n", i)?;
-    let tag = RequestId(String::from_str(alloc, tag_text)?);
-    Ok((
-        i,
-        Response::Done {
-            tag,
-            status,
-            outcome,
-        },
-    ))
+    match spaced_outcome(alloc, i) {
+        Ok((i, outcome)) => {
+            let (i, _) = tag(b"\r\n", i)?;
+            let tag = RequestId(String::from_str(alloc, tag_text)?);
+            Ok((
+                i,
+                Response::Done {
+                    tag,
+                    status,
+                    outcome,
+                },
+            ))
+        }
+        Err(e) => Err(e),
+    }
 }
 
 /// A response: a continuation, a data line or a tagged line.
-#[tactic(auto, unfolding(crate::specs::Lines::response))]
+#[tactic(auto, using(crate::proofs::FirstBytes::response_none, crate::proofs::FirstBytes::response_plus, crate::proofs::FirstBytes::response_star, crate::proofs::FirstBytes::response_other))]
 pub(crate) fn response(alloc: Global, i: &[u8]) -> IResult<&[u8], Response<'_>>
     ensures { Gives response_value result (step rule.response i.now) }
 {
-    first!(continuation(alloc, i));
-    first!(data_line(alloc, i));
-    tagged(alloc, i)
+    match i.first() {
+        None | Some(b'+') => continuation(alloc, i),
+        Some(b'*') => data_line(alloc, i),
+        Some(_) => tagged(alloc, i),
+    }
 }

@@ -3,11 +3,7 @@
 ghost use Rattle.std.specs.Prelude.{◌≡◌, option_map, string_bytes};
 ghost use Rattle.imap_bytes.specs.Answer.{Gives};
 ghost use Rattle.imap_bytes.specs.Step.{step};
-ghost use Rattle.imap_bytes.specs.Rule.{opt, ◌▹◌};
-ghost use Rattle.imap_bytes.specs.Tags.{sp};
 ghost use Rattle.imap_bytes.specs.Text.{text_of};
-ghost use Rattle.imap_data.specs.Codes.{code_value};
-ghost use Rattle.imap_data.specs.Codes.{response_code as response_code_rule};
 ghost use Rattle.imap_proto.specs.Responses.{outcome_value};
 ghost use Rattle.imap_proto.specs.Outcomes as outcomes;
 ghost use Rattle.imap_proto.specs.Outcomes.{after_first};
@@ -15,7 +11,6 @@ ghost use Rattle.imap_proto.specs.Outcomes.{after_first};
 use crate::outcome::Outcome;
 use imap_bytes::tags::tag;
 use imap_bytes::{Err, IResult, first, text};
-use imap_data::ResponseCode;
 use imap_data::readers::response_code;
 use std::alloc::Global;
 use std::borrow::CowStr;
@@ -47,13 +42,21 @@ fn without_first(text: CowStr<'_>) -> CowStr<'_>
     }
 }
 
-fn maybe_code(alloc: Global, i: &[u8]) -> IResult<&[u8], Option<ResponseCode<'_>>>
-    ensures { Gives (λ x. option_map code_value x) result (step (opt response_code_rule) i.now) }
+// The information that a text is where no code stands in front: an empty text is none.
+fn plain(text: CowStr<'_>) -> Option<CowStr<'_>>
+    ensures { option_map text_of result ≡ outcomes.unless_empty (text_of text.entry).bytes (text_of text.entry) }
 {
-    match response_code(alloc, i) {
-        Ok((rest, code)) => Ok((rest, Some(code))),
-        Err(Err::Error) => Ok((i, None)),
-        Err(e) => Err(e),
+    if text.is_empty() { None } else { Some(text) }
+}
+
+// The same behind a code.
+fn behind_code(text: CowStr<'_>) -> Option<CowStr<'_>>
+    ensures { option_map text_of result ≡ outcomes.unless_empty (text_of text.entry).bytes (after_first (text_of text.entry)) }
+{
+    if text.is_empty() {
+        None
+    } else {
+        Some(without_first(text))
     }
 }
 
@@ -61,48 +64,30 @@ fn maybe_code(alloc: Global, i: &[u8]) -> IResult<&[u8], Option<ResponseCode<'_>
 pub(crate) fn outcome(alloc: Global, i: &[u8]) -> IResult<&[u8], Outcome<'_>>
     ensures { Gives outcome_value result (step outcomes.outcome i.now) }
 {
-    let (rest, code) = maybe_code(alloc, i)?;
-    let (rest, text) = text(alloc, rest)?;
-    if text.is_empty() {
-        return Ok((
-            rest,
-            Outcome {
-                code,
-                information: None,
-            },
-        ));
+    match response_code(alloc, i) {
+        Ok((rest, code)) => {
+            let (rest, text) = text(alloc, rest)?;
+            let (code, information) = (Some(code), behind_code(text));
+            Ok((rest, Outcome { code, information }))
+        }
+        Err(Err::Error) => {
+            let (rest, text) = text(alloc, i)?;
+            let (code, information) = (None, plain(text));
+            Ok((rest, Outcome { code, information }))
+        }
+        Err(e) => Err(e),
     }
-    let information = if code.is_some() {
-        without_first(text)
-    } else {
-        text
-    };
-    Ok((
-        rest,
-        Outcome {
-            code,
-            information: Some(information),
-        },
-    ))
-}
-
-fn behind_space(alloc: Global, i: &[u8]) -> IResult<&[u8], Outcome<'_>>
-    ensures { Gives outcome_value result (step (sp ▹ outcomes.outcome) i.now) }
-{
-    let (rest, _) = tag(b" ", i)?;
-    outcome(alloc, rest)
 }
 
 #[tactic(auto, unfolding(crate::specs::Outcomes::spaced_outcome))]
 pub(crate) fn spaced_outcome(alloc: Global, i: &[u8]) -> IResult<&[u8], Outcome<'_>>
     ensures { Gives outcome_value result (step outcomes.spaced_outcome i.now) }
 {
-    first!(behind_space(alloc, i));
-    Ok((
-        i,
-        Outcome {
-            code: None,
-            information: None,
-        },
-    ))
+    match tag(b" ", i) {
+        Ok((rest, _)) => first!(outcome(alloc, rest)),
+        Err(Err::Error) => {}
+        Err(e) => return Err(e),
+    }
+    let (code, information) = (None, None);
+    Ok((i, Outcome { code, information }))
 }

@@ -76,7 +76,8 @@ impl<'a> Response<'a> {
     /// The response at the front of the message, and the bytes behind it (RFC 3501, section 9: response).
     ///
     /// `Error`: no bytes behind these make a response. `Incomplete`: more bytes are needed. `Failure`: memory ran out,
-    /// and nothing else. Texts borrow from the message exactly where their bytes are UTF-8; the message is only read.
+    /// and nothing else. Texts borrow from the message exactly where their bytes are UTF-8, but for the keys of an ID map:
+    /// of two equal keys either one may be kept. The message is only read.
     #[tactic(auto, using(imap_bytes::proofs::Agreement::answered, crate::proofs::Ending::line_ends))]
     pub fn parse(alloc: Global, msg: &'a [u8]) -> ParseResult<'a>
         ensures steps { Gives response_value result (step rule.response msg.now) }

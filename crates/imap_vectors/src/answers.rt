@@ -1,5 +1,6 @@
 //! What an answer says, as text.
 
+use imap_bytes::Err;
 use imap_bytes::texts::decode;
 use imap_proto::Response;
 use imap_proto::imap_core::IResult;
@@ -28,6 +29,22 @@ fn told<T: Debug + Drop>(alloc: Global, answer: IResult<&[u8], T>) -> Result<Str
 /// Whether a reader's answer is told so.
 pub fn says<T: Debug + Drop>(alloc: Global, answer: IResult<&[u8], T>, want: &str) -> bool {
     match told(alloc, answer) {
+        Ok(text) => text.as_str() == want,
+        Err(_) => false,
+    }
+}
+
+/// Whether a reader at a position reached this one, and told the value so.
+pub fn says_at<T: Debug + Drop>(
+    alloc: Global,
+    answer: Result<(usize, T), Err>,
+    want: &str,
+) -> bool {
+    let text = match answer {
+        Ok((reached, value)) => format!(in alloc; "{value:?} up to {reached}"),
+        Err(error) => format!(in alloc; "{error:?}"),
+    };
+    match text {
         Ok(text) => text.as_str() == want,
         Err(_) => false,
     }

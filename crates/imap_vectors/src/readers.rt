@@ -1,6 +1,7 @@
 //! The readers of data, called by themselves.
 
-use crate::answers::{says, says_marked};
+use crate::answers::{says, says_at, says_marked};
+use imap_data::at;
 use imap_data::readers::{
     acl, capability_data, enabled_data, flag, flag_list, flag_perm, gmail_label_list, gmail_msgid,
     gmail_thrid, id, list_rights, mailbox, mailbox_datum, metadata_solicited, metadata_unsolicited,
@@ -54,6 +55,30 @@ fn items_of_gmail(rt: HostRuntime) {
     let number = gmail_msgid(b"X-GM-MSGID 1278455344230334865)");
     assert!(rt; says(alloc, number, r#"1278455344230334865 then ")""#));
     assert!(rt; says(alloc, gmail_thrid(b"x-gm-thrid 7)"), r#"7 then ")""#));
+}
+
+#[test]
+fn lists_at_positions(rt: HostRuntime) {
+    let alloc = rt.alloc();
+    let flags = at::flag_list(alloc, b"FLAGS (\\Seen \\* $x )x", 6);
+    assert!(rt;
+        says_at(
+            alloc,
+            flags,
+            "[Span { start: 7, end: 12 }, Span { start: 13, end: 15 }, Span { start: 16, end: 18 }] up to 20"
+        )
+    );
+    let seen = at::flag_list(alloc, b"* 2 FETCH (UID 7 FLAGS (\\Seen))\r\n", 23);
+    assert!(rt; says_at(alloc, seen, "[Span { start: 24, end: 29 }] up to 30"));
+    assert!(rt; says_at(alloc, at::flag_list(alloc, b"(\xc3)", 0), "Error"));
+    let labels = at::gmail_label_list(alloc, b"(x-gm-labels (\\Sent \"a b\")\r", 1);
+    assert!(rt;
+        says_at(
+            alloc,
+            labels,
+            "[Span { start: 14, end: 19 }, Span { start: 21, end: 24 }] up to 26"
+        )
+    );
 }
 
 #[test]

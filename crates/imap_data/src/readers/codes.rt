@@ -10,7 +10,8 @@ ghost use Rattle.imap_data.specs.Codes.{code_value, HasOrderedUids};
 use crate::types::codes::ResponseCode;
 use imap_bytes::tags::{tag, word};
 use imap_bytes::{
-    Err, IResult, astring_utf8, first, named, number, number_64, parenthesized_nonempty_list,
+    Err, IResult, Needed, astring_utf8, first, named, number, number_64,
+    parenthesized_nonempty_list,
 };
 use imap_items::readers::capabilities::capability_data;
 use imap_items::readers::flags::flag_list;
@@ -144,33 +145,56 @@ fn copy_uid(alloc: Global, i: &[u8]) -> IResult<&[u8], ResponseCode<'_>>
     Ok((i, ResponseCode::CopyUid(uid_validity, sources, copies)))
 }
 
-#[tactic(auto, unfolding(crate::specs::Codes::basic_code))]
-fn basic_code(alloc: Global, i: &[u8]) -> IResult<&[u8], ResponseCode<'_>>
-    ensures { Gives (λ x. code_value x) result (step codes.basic_code i.now) }
+#[tactic(auto, unfolding(crate::specs::Codes::code_of_a))]
+fn code_of_a(alloc: Global, i: &[u8]) -> IResult<&[u8], ResponseCode<'_>>
+    ensures { Gives (λ x. code_value x) result (step codes.code_of_a i.now) }
 {
     named!(b"ALERT", i, ResponseCode::Alert);
-    first!(bad_charset(alloc, i));
+    append_uid(alloc, i)
+}
+
+#[tactic(auto, unfolding(crate::specs::Codes::code_of_c))]
+fn code_of_c(alloc: Global, i: &[u8]) -> IResult<&[u8], ResponseCode<'_>>
+    ensures { Gives (λ x. code_value x) result (step codes.code_of_c i.now) }
+{
     first!(capabilities(alloc, i));
+    copy_uid(alloc, i)
+}
+
+#[tactic(auto, unfolding(crate::specs::Codes::code_of_p))]
+fn code_of_p(alloc: Global, i: &[u8]) -> IResult<&[u8], ResponseCode<'_>>
+    ensures { Gives (λ x. code_value x) result (step codes.code_of_p i.now) }
+{
     named!(b"PARSE", i, ResponseCode::Parse);
-    first!(permanent_flags(alloc, i));
+    permanent_flags(alloc, i)
+}
+
+#[tactic(auto, unfolding(crate::specs::Codes::code_of_u))]
+fn code_of_u(i: &[u8]) -> IResult<&[u8], ResponseCode<'_>>
+    ensures { Exactly (λ x. code_value x) result (step codes.code_of_u i.now) }
+{
     first!(uid_validity(i));
     first!(uid_next(i));
     first!(unseen(i));
-    named!(b"READ-ONLY", i, ResponseCode::ReadOnly);
-    named!(b"READ-WRITE", i, ResponseCode::ReadWrite);
-    named!(b"TRYCREATE", i, ResponseCode::TryCreate);
+    named!(b"UIDNOTSTICKY", i, ResponseCode::UidNotSticky);
     Err(Err::Error)
 }
 
-#[tactic(auto, unfolding(crate::specs::Codes::uid_code))]
-fn uid_code(alloc: Global, i: &[u8]) -> IResult<&[u8], ResponseCode<'_>>
-    ensures { Gives (λ x. code_value x) result (step codes.uid_code i.now) }
+#[tactic(auto, unfolding(crate::specs::Codes::code_of_r))]
+fn code_of_r(i: &[u8]) -> IResult<&[u8], ResponseCode<'_>>
+    ensures { Exactly (λ x. code_value x) result (step codes.code_of_r i.now) }
 {
-    first!(highest_mod_seq(i));
-    first!(append_uid(alloc, i));
-    first!(copy_uid(alloc, i));
-    named!(b"UIDNOTSTICKY", i, ResponseCode::UidNotSticky);
+    named!(b"READ-ONLY", i, ResponseCode::ReadOnly);
+    named!(b"READ-WRITE", i, ResponseCode::ReadWrite);
     Err(Err::Error)
+}
+
+#[tactic(auto, unfolding(crate::specs::Codes::code_of_t))]
+fn code_of_t(i: &[u8]) -> IResult<&[u8], ResponseCode<'_>>
+    ensures { Exactly (λ x. code_value x) result (step codes.code_of_t i.now) }
+{
+    let (i, _) = word(b"TRYCREATE", i)?;
+    Ok((i, ResponseCode::TryCreate))
 }
 
 #[tactic(auto, unfolding(crate::specs::Codes::metadata_code))]
@@ -183,12 +207,24 @@ fn metadata_code(i: &[u8]) -> IResult<&[u8], ResponseCode<'_>>
     no_private(i)
 }
 
+// Of the codes those are tried, in order, that may start with the first byte.
+#[tactic(auto, using(crate::proofs::FirstBytes::code_none, crate::proofs::FirstBytes::code_is_of_a, crate::proofs::FirstBytes::code_is_bad_charset, crate::proofs::FirstBytes::code_is_of_c, crate::proofs::FirstBytes::code_is_highest_mod_seq, crate::proofs::FirstBytes::code_is_metadata, crate::proofs::FirstBytes::code_is_of_p, crate::proofs::FirstBytes::code_is_of_r, crate::proofs::FirstBytes::code_is_of_t, crate::proofs::FirstBytes::code_is_of_u, crate::proofs::FirstBytes::code_other))]
 fn any_code(alloc: Global, i: &[u8]) -> IResult<&[u8], ResponseCode<'_>>
     ensures { Gives (λ x. code_value x) result (step codes.any_code i.now) }
 {
-    first!(basic_code(alloc, i));
-    first!(uid_code(alloc, i));
-    metadata_code(i)
+    match i.first() {
+        None => Err(Err::Incomplete(Needed::Unknown)),
+        Some(b'a' | b'A') => code_of_a(alloc, i),
+        Some(b'b' | b'B') => bad_charset(alloc, i),
+        Some(b'c' | b'C') => code_of_c(alloc, i),
+        Some(b'h' | b'H') => highest_mod_seq(i),
+        Some(b'm' | b'M') => metadata_code(i),
+        Some(b'p' | b'P') => code_of_p(alloc, i),
+        Some(b'r' | b'R') => code_of_r(i),
+        Some(b't' | b'T') => code_of_t(i),
+        Some(b'u' | b'U') => code_of_u(i),
+        Some(_) => Err(Err::Error),
+    }
 }
 
 /// A code in brackets (RFC 3501, section 9: resp-text-code; RFC 4551, RFC 4315, RFC 5464).

@@ -8,7 +8,7 @@ ghost use Rattle.imap_data.specs.Counts as counts;
 use crate::types::counts::StatusAttribute;
 use imap_bytes::lists::repeated;
 use imap_bytes::tags::{maybe_space, tag};
-use imap_bytes::{IResult, first, number, number_64, parenthesized_list};
+use imap_bytes::{Err, IResult, Needed, first, number, number_64, parenthesized_list};
 use std::alloc::Global;
 
 #[tactic(auto, unfolding(crate::specs::Counts::highest_mod_seq))]
@@ -53,17 +53,28 @@ fn unseen(i: &[u8]) -> IResult<&[u8], StatusAttribute>
     worded!(i: b"UNSEEN ", number => StatusAttribute::Unseen)
 }
 
-/// An item of STATUS: its word in any case, and a number (RFC 3501, section 9: status-att-list; RFC 4551, section 3.6). No memory.
-#[tactic(auto, unfolding(crate::specs::Counts::status_item))]
-pub(crate) fn status_item(i: &[u8]) -> IResult<&[u8], StatusAttribute>
-    ensures { Exactly (λ x. x) result (step counts.status_item i.now) }
+#[tactic(auto, unfolding(crate::specs::Counts::item_of_u))]
+fn item_of_u(i: &[u8]) -> IResult<&[u8], StatusAttribute>
+    ensures { Exactly (λ x. x) result (step counts.item_of_u i.now) }
 {
-    first!(highest_mod_seq(i));
-    first!(messages(i));
-    first!(recent(i));
     first!(uid_next(i));
     first!(uid_validity(i));
     unseen(i)
+}
+
+/// An item of STATUS: its word in any case, and a number (RFC 3501, section 9: status-att-list; RFC 4551, section 3.6). No memory.
+#[tactic(auto, using(crate::proofs::FirstBytes::item_none, crate::proofs::FirstBytes::item_is_highest_mod_seq, crate::proofs::FirstBytes::item_is_messages, crate::proofs::FirstBytes::item_is_recent, crate::proofs::FirstBytes::item_is_of_u, crate::proofs::FirstBytes::item_other))]
+pub(crate) fn status_item(i: &[u8]) -> IResult<&[u8], StatusAttribute>
+    ensures { Exactly (λ x. x) result (step counts.status_item i.now) }
+{
+    match i.first() {
+        None => Err(Err::Incomplete(Needed::Unknown)),
+        Some(b'h' | b'H') => highest_mod_seq(i),
+        Some(b'm' | b'M') => messages(i),
+        Some(b'r' | b'R') => recent(i),
+        Some(b'u' | b'U') => item_of_u(i),
+        Some(_) => Err(Err::Error),
+    }
 }
 
 /// Items of STATUS in parentheses, maybe none.

@@ -9,7 +9,7 @@ use super::counts::{found_numbers, status_items};
 use super::names::list_data;
 use crate::types::mailbox_data::MailboxDatum;
 use imap_bytes::tags::{tag, word};
-use imap_bytes::{IResult, first, number};
+use imap_bytes::{Err, IResult, Needed, first, named, number};
 use imap_items::readers::flags::flag_list;
 use imap_items::readers::gmail::{gmail_label_list, gmail_msgid, gmail_thrid};
 use imap_items::readers::mailboxes::mailbox;
@@ -20,15 +20,6 @@ fn flags(alloc: Global, i: &[u8]) -> IResult<&[u8], MailboxDatum<'_>>
     ensures { Gives (λ x. mailbox_value x) result (step rules.flags i.now) }
 {
     worded!(i: b"FLAGS ", flag_list(alloc) => MailboxDatum::Flags)
-}
-
-#[tactic(auto, unfolding(crate::specs::MailboxData::exists))]
-fn exists(i: &[u8]) -> IResult<&[u8], MailboxDatum<'_>>
-    ensures { Exactly (λ x. mailbox_value x) result (step rules.exists i.now) }
-{
-    let (rest, count) = number(i)?;
-    let (rest, _) = word(b" EXISTS", rest)?;
-    Ok((rest, MailboxDatum::Exists(count)))
 }
 
 #[tactic(auto, unfolding(crate::specs::MailboxData::list))]
@@ -54,15 +45,6 @@ fn status(alloc: Global, i: &[u8]) -> IResult<&[u8], MailboxDatum<'_>>
     let (rest, _) = tag(b" ", rest)?;
     let (rest, status) = status_items(alloc, rest)?;
     Ok((rest, MailboxDatum::Status { mailbox, status }))
-}
-
-#[tactic(auto, unfolding(crate::specs::MailboxData::recent))]
-fn recent(i: &[u8]) -> IResult<&[u8], MailboxDatum<'_>>
-    ensures { Exactly (λ x. mailbox_value x) result (step rules.recent i.now) }
-{
-    let (rest, count) = number(i)?;
-    let (rest, _) = word(b" RECENT", rest)?;
-    Ok((rest, MailboxDatum::Recent(count)))
 }
 
 #[tactic(auto, unfolding(crate::specs::MailboxData::search))]
@@ -103,21 +85,57 @@ fn sort(alloc: Global, i: &[u8]) -> IResult<&[u8], MailboxDatum<'_>>
     worded!(i: b"SORT", found_numbers(alloc) => MailboxDatum::Sort)
 }
 
-#[tactic(auto, unfolding(crate::specs::MailboxData::mailbox_datum))]
+// The number is read once, whichever word stands behind it.
+#[tactic(auto, unfolding(crate::specs::MailboxData::datum_of_number, crate::specs::MailboxData::exists, crate::specs::MailboxData::recent))]
+fn datum_of_number(i: &[u8]) -> IResult<&[u8], MailboxDatum<'_>>
+    ensures { Exactly (λ x. mailbox_value x) result (step rules.datum_of_number i.now) }
+{
+    let (i, count) = number(i)?;
+    named!(b" EXISTS", i, MailboxDatum::Exists(count));
+    named!(b" RECENT", i, MailboxDatum::Recent(count));
+    Err(Err::Error)
+}
+
+#[tactic(auto, unfolding(crate::specs::MailboxData::datum_of_l))]
+fn datum_of_l(alloc: Global, i: &[u8]) -> IResult<&[u8], MailboxDatum<'_>>
+    ensures { Gives (λ x. mailbox_value x) result (step rules.datum_of_l i.now) }
+{
+    first!(list(alloc, i));
+    lsub(alloc, i)
+}
+
+#[tactic(auto, unfolding(crate::specs::MailboxData::datum_of_s))]
+fn datum_of_s(alloc: Global, i: &[u8]) -> IResult<&[u8], MailboxDatum<'_>>
+    ensures { Gives (λ x. mailbox_value x) result (step rules.datum_of_s i.now) }
+{
+    first!(status(alloc, i));
+    first!(search(alloc, i));
+    sort(alloc, i)
+}
+
+#[tactic(auto, unfolding(crate::specs::MailboxData::datum_of_x))]
+fn datum_of_x(alloc: Global, i: &[u8]) -> IResult<&[u8], MailboxDatum<'_>>
+    ensures { Gives (λ x. mailbox_value x) result (step rules.datum_of_x i.now) }
+{
+    first!(labels(alloc, i));
+    first!(msgid(i));
+    thrid(i)
+}
+
+// Of the data those are tried, in order, that may start with the first byte.
+#[tactic(auto, using(crate::proofs::FirstBytes::datum_none, crate::proofs::FirstBytes::datum_is_flags, crate::proofs::FirstBytes::datum_is_of_l, crate::proofs::FirstBytes::datum_is_of_s, crate::proofs::FirstBytes::datum_is_of_x, crate::proofs::FirstBytes::datum_is_of_number, crate::proofs::FirstBytes::datum_other))]
 fn datum(alloc: Global, i: &[u8]) -> IResult<&[u8], MailboxDatum<'_>>
     ensures { Gives (λ x. mailbox_value x) result (step rules.mailbox_datum i.now) }
 {
-    first!(flags(alloc, i));
-    first!(exists(i));
-    first!(list(alloc, i));
-    first!(lsub(alloc, i));
-    first!(status(alloc, i));
-    first!(recent(i));
-    first!(search(alloc, i));
-    first!(labels(alloc, i));
-    first!(msgid(i));
-    first!(thrid(i));
-    sort(alloc, i)
+    match i.first() {
+        None => Err(Err::Incomplete(Needed::Unknown)),
+        Some(b'f' | b'F') => flags(alloc, i),
+        Some(b'l' | b'L') => datum_of_l(alloc, i),
+        Some(b's' | b'S') => datum_of_s(alloc, i),
+        Some(b'x' | b'X') => datum_of_x(alloc, i),
+        Some(b) if b.is_ascii_digit() => datum_of_number(i),
+        Some(_) => Err(Err::Error),
+    }
 }
 
 /// Data of a mailbox: `FLAGS`, `EXISTS`, `LIST`, `LSUB`, `STATUS`, `RECENT`, `SEARCH`, `SORT` and Gmail's items, words in any case

@@ -5,18 +5,54 @@ ghost use Rattle.imap_bytes.specs.Step.{step};
 ghost use Rattle.imap_items.specs.Statuses as rule;
 
 use crate::types::statuses::Status;
-use imap_bytes::{Err, IResult, named};
+use imap_bytes::{Err, IResult, Needed, named};
 
-#[tactic(auto, unfolding(crate::specs::Statuses::status))]
+#[tactic(auto, unfolding(crate::specs::Statuses::ok_word))]
+fn ok_word(i: &[u8]) -> IResult<&[u8], Status>
+    ensures { Exactly (λ x. x) result (step rule.ok_word i.now) }
+{
+    named!(b"OK", i, Status::Ok);
+    Err(Err::Error)
+}
+
+#[tactic(auto, unfolding(crate::specs::Statuses::no_word))]
+fn no_word(i: &[u8]) -> IResult<&[u8], Status>
+    ensures { Exactly (λ x. x) result (step rule.no_word i.now) }
+{
+    named!(b"NO", i, Status::No);
+    Err(Err::Error)
+}
+
+#[tactic(auto, unfolding(crate::specs::Statuses::bad_or_bye))]
+fn bad_or_bye(i: &[u8]) -> IResult<&[u8], Status>
+    ensures { Exactly (λ x. x) result (step rule.bad_or_bye i.now) }
+{
+    named!(b"BAD", i, Status::Bad);
+    named!(b"BYE", i, Status::Bye);
+    Err(Err::Error)
+}
+
+#[tactic(auto, unfolding(crate::specs::Statuses::preauth_word))]
+fn preauth_word(i: &[u8]) -> IResult<&[u8], Status>
+    ensures { Exactly (λ x. x) result (step rule.preauth_word i.now) }
+{
+    named!(b"PREAUTH", i, Status::PreAuth);
+    Err(Err::Error)
+}
+
+// Of the words those are tried, in order, that may start with the first byte.
+#[tactic(auto, using(crate::proofs::FirstBytes::status_none, crate::proofs::FirstBytes::status_is_ok, crate::proofs::FirstBytes::status_is_no, crate::proofs::FirstBytes::status_is_bad_or_bye, crate::proofs::FirstBytes::status_is_preauth, crate::proofs::FirstBytes::status_other))]
 fn status_word(i: &[u8]) -> IResult<&[u8], Status>
     ensures { Exactly (λ x. x) result (step rule.status i.now) }
 {
-    named!(b"OK", i, Status::Ok);
-    named!(b"NO", i, Status::No);
-    named!(b"BAD", i, Status::Bad);
-    named!(b"PREAUTH", i, Status::PreAuth);
-    named!(b"BYE", i, Status::Bye);
-    Err(Err::Error)
+    match i.first() {
+        None => Err(Err::Incomplete(Needed::Unknown)),
+        Some(b'o' | b'O') => ok_word(i),
+        Some(b'n' | b'N') => no_word(i),
+        Some(b'b' | b'B') => bad_or_bye(i),
+        Some(b'p' | b'P') => preauth_word(i),
+        Some(_) => Err(Err::Error),
+    }
 }
 
 /// A status word in any case (RFC 3501, section 9: resp-cond-state, resp-cond-auth, resp-cond-bye). No memory.

@@ -1,0 +1,32 @@
+-- The text of annotations of mailboxes.
+use Rattle.std.specs.Prelude.{List}
+use Rattle.imap_bytes.specs.Text.{Text, as_text}
+use Rattle.imap_bytes.specs.Pieces.{Pieces, ◌then◌, words, space, lit, nstring_text, literal_text, quoted_text, separated, list_text}
+use Rattle.imap_bytes.specs.ReadBack.{Texts}
+use Rattle.imap_bytes.specs.Spelling.{exactly, in_any_case, ◌and◌, nil_or, with_between, spells_string_text, spells_astring_text, spells_quoted_text, spells_some_list}
+use Rattle.imap_data.specs.MailboxValues.{MetadataValue}
+
+-- an entry's name and its value
+abbrev pub canonical_annotation : MetadataValue → Pieces
+canonical_annotation a = lit a.entry then space then nstring_text a.value
+
+abbrev pub canonical_metadata : Text → Pieces
+canonical_metadata mailbox = words "METADATA " then quoted_text mailbox then space
+
+abbrev pub canonical_solicited : Text → List MetadataValue → Pieces
+canonical_solicited mailbox values = canonical_metadata mailbox then list_text canonical_annotation values
+
+abbrev pub canonical_unsolicited : Text → List Text → Pieces
+canonical_unsolicited mailbox entries = canonical_metadata mailbox then separated space literal_text entries
+
+abbrev pub spells_annotation : MetadataValue → Texts
+spells_annotation a = spells_astring_text (as_text a.entry) and exactly " " and nil_or (λ b. spells_string_text (as_text b)) a.value
+
+abbrev pub spells_metadata : Text → Texts
+spells_metadata mailbox = in_any_case "METADATA " and spells_quoted_text mailbox and exactly " "
+
+abbrev pub spells_solicited : Text → List MetadataValue → Texts
+spells_solicited mailbox values = spells_metadata mailbox and spells_some_list spells_annotation values
+
+abbrev pub spells_unsolicited : Text → List Text → Texts
+spells_unsolicited mailbox entries = spells_metadata mailbox and with_between (exactly " ") spells_astring_text entries

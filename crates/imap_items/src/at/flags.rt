@@ -1,0 +1,112 @@
+//! Flags at a position, as spans of their texts.
+
+ghost use Rattle.std.specs.Prelude.{◌≤◌, length, drop, codes, map};
+ghost use Rattle.imap_bytes.specs.Positions.{AnswersAt, ExactlyAt, GivesAt, Ahead, Inside, RestsOn, named_in};
+ghost use Rattle.imap_bytes.specs.Step.{step};
+ghost use Rattle.imap_bytes.specs.Tags.{exactly_names};
+ghost use Rattle.imap_items.specs.Flags as flags;
+ghost use Rattle.imap_items.specs.Spanned.{flag_in};
+
+use imap_bytes::at::parenthesized_list;
+use imap_bytes::at::span::Span;
+use imap_bytes::at::strings::{astring_chars, atom_chars0};
+use imap_bytes::at::tags::tag;
+use imap_bytes::strings::as_utf8;
+use imap_bytes::{Err, first};
+use std::alloc::Global;
+
+#[tactic(auto, unfolding(crate::specs::Flags::backslashed))]
+fn backslashed(m: &[u8], p: usize) -> Result<(usize, Span), Err>
+    requires { p ≤ length m.now }
+    ensures steps { ExactlyAt (λ x. named_in m.now x) m.now result (step flags.backslashed (drop p m.now)) }
+    ensures inside { Inside m.now p result }
+{
+    let (q, _) = tag(b"\\", m, p)?;
+    let (q, _) = atom_chars0(m, q)?;
+    Ok((q, Span { start: p, end: q }))
+}
+
+#[tactic(auto, using(imap_bytes::proofs::Positions::kept_self), unfolding(crate::specs::Flags::backslashed_text))]
+fn backslashed_text(m: &[u8], p: usize) -> Result<(usize, Span), Err>
+    requires { p ≤ length m.now }
+    ensures steps { ExactlyAt (λ x. named_in m.now x) m.now result (step flags.backslashed_text (drop p m.now)) }
+    ensures inside { Inside m.now p result }
+{
+    let (q, flag) = backslashed(m, p)?;
+    match as_utf8(flag.bytes(m)) {
+        None => Err(Err::Error),
+        Some(_) => Ok((q, flag)),
+    }
+}
+
+#[tactic(auto, using(imap_bytes::proofs::Positions::kept_self), unfolding(crate::specs::Flags::keyword))]
+fn keyword(m: &[u8], p: usize) -> Result<(usize, Span), Err>
+    requires { p ≤ length m.now }
+    ensures steps { ExactlyAt (λ x. named_in m.now x) m.now result (step flags.keyword (drop p m.now)) }
+    ensures inside { Inside m.now p result }
+{
+    let (q, keyword) = astring_chars(m, p)?;
+    match as_utf8(keyword.bytes(m)) {
+        None => Err(Err::Error),
+        Some(_) => Ok((q, keyword)),
+    }
+}
+
+#[tactic(auto, unfolding(crate::specs::Flags::flag))]
+pub(crate) fn flag(m: &[u8], p: usize) -> Result<(usize, Span), Err>
+    requires { p ≤ length m.now }
+    ensures steps { ExactlyAt (λ x. named_in m.now x) m.now result (step flags.flag (drop p m.now)) }
+    ensures inside { Inside m.now p result }
+{
+    first!(backslashed_text(m, p));
+    keyword(m, p)
+}
+
+fn star(m: &[u8], p: usize) -> Result<(usize, Span), Err>
+    requires { p ≤ length m.now }
+    ensures steps { ExactlyAt (λ x. named_in m.now x) m.now result (step (exactly_names "\\*" (codes "\\*")) (drop p m.now)) }
+    ensures inside { Inside m.now p result }
+{
+    let (q, star) = tag(b"\\*", m, p)?;
+    Ok((q, star))
+}
+
+#[tactic(auto, unfolding(crate::specs::Flags::flag_perm))]
+fn flag_perm(m: &[u8], p: usize) -> Result<(usize, Span), Err>
+    requires { p ≤ length m.now }
+    ensures steps { ExactlyAt (λ x. named_in m.now x) m.now result (step flags.flag_perm (drop p m.now)) }
+    ensures inside { Inside m.now p result }
+{
+    first!(star(m, p));
+    flag(m, p)
+}
+
+#[tactic(auto, using(crate::proofs::Spanned::flag_rests), unfolding(crate::specs::Flags::flag_text))]
+fn flag_text(m: &[u8], p: usize) -> Result<(usize, Span), Err>
+    requires { p ≤ length m.now }
+    ensures steps { ExactlyAt (λ x. flag_in m.now x) m.now result (step flags.flag_text (drop p m.now)) }
+    ensures ahead { Ahead m.now p result }
+    ensures rests { RestsOn flag_in result }
+{
+    let (q, flag) = flag_perm(m, p)?;
+    Ok((q, flag))
+}
+
+/// Flags in parentheses, maybe none, each as the span of its text, which is UTF-8 (RFC 3501, section 9: flag-list).
+///
+/// It takes memory for the list, and for no text. Bytes that are no UTF-8 are `Error`.
+pub fn flag_list(alloc: Global, m: &[u8], p: usize) -> Result<(usize, Vec<Span>), Err>
+    requires { p ≤ length m.now }
+    ensures steps { GivesAt (λ x. map (flag_in m.now) x.items) m.now result (step flags.flag_list (drop p m.now)) }
+    ensures answer { AnswersAt flags.flag_list (λ x. map (flag_in m.now) x.items) m.now p result }
+    ensures ahead { Ahead m.now p result }
+    ensures rests { RestsOn (λ n x. map (flag_in n) x.items) result }
+{
+    let item = |k: usize|
+        requires { k ≤ length m.now }
+        ensures steps { ExactlyAt (λ x. flag_in m.entry.now x) m.entry.now result (step flags.flag_text (drop k m.entry.now)) }
+        ensures ahead { Ahead m.entry.now k result }
+        ensures rests { RestsOn flag_in result }
+    { flag_text(m, k) };
+    parenthesized_list(alloc, item, m, p)
+}

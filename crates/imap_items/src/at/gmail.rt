@@ -1,0 +1,89 @@
+//! Gmail's labels at a position, as spans of their texts.
+
+ghost use Rattle.std.specs.Prelude.{◌≤◌, length, drop, map};
+ghost use Rattle.imap_bytes.specs.Positions.{AnswersAt, ExactlyAt, GivesAt, Ahead, Inside, RestsOn};
+ghost use Rattle.imap_bytes.specs.Step.{step};
+ghost use Rattle.imap_bytes.specs.Texts as texts;
+ghost use Rattle.imap_items.specs.Gmail as rules;
+ghost use Rattle.imap_items.specs.Spanned.{label_in};
+
+use super::flags::flag;
+use imap_bytes::at::span::Span;
+use imap_bytes::at::tags::word;
+use imap_bytes::at::{parenthesized_list, quoted};
+use imap_bytes::{Err, first};
+use std::alloc::Global;
+
+#[tactic(auto, using(crate::proofs::Spanned::flag_decoded))]
+fn flag_label(m: &[u8], p: usize) -> Result<(usize, Span), Err>
+    requires { p ≤ length m.now }
+    ensures steps { ExactlyAt (λ x. label_in m.now x) m.now result (step rules.flag_label (drop p m.now)) }
+    ensures inside { Inside m.now p result }
+{
+    let (q, label) = flag(m, p)?;
+    Ok((q, label))
+}
+
+#[tactic(auto, unfolding(imap_bytes::specs::Texts::quoted_utf8))]
+fn quoted_label(m: &[u8], p: usize) -> Result<(usize, Span), Err>
+    requires { p ≤ length m.now }
+    ensures steps { ExactlyAt (λ x. label_in m.now x) m.now result (step texts.quoted_utf8 (drop p m.now)) }
+    ensures inside { Inside m.now p result }
+{
+    let (q, content) = quoted(m, p)?;
+    Ok((q, content))
+}
+
+// A label: a flag, or a quoted string.
+#[tactic(auto, using(crate::proofs::Spanned::label_rests), unfolding(crate::specs::Gmail::gmail_label))]
+fn gmail_label(m: &[u8], p: usize) -> Result<(usize, Span), Err>
+    requires { p ≤ length m.now }
+    ensures steps { ExactlyAt (λ x. label_in m.now x) m.now result (step rules.gmail_label (drop p m.now)) }
+    ensures ahead { Ahead m.now p result }
+    ensures rests { RestsOn label_in result }
+{
+    first!(flag_label(m, p));
+    let (q, label) = quoted_label(m, p)?;
+    Ok((q, label))
+}
+
+fn gmail_labels(alloc: Global, m: &[u8], p: usize) -> Result<(usize, Vec<Span>), Err>
+    requires { p ≤ length m.now }
+    ensures steps { GivesAt (λ x. map (label_in m.now) x.items) m.now result (step rules.gmail_labels (drop p m.now)) }
+    ensures ahead { Ahead m.now p result }
+    ensures rests { RestsOn (λ n x. map (label_in n) x.items) result }
+{
+    let label = |k: usize|
+        requires { k ≤ length m.now }
+        ensures steps { ExactlyAt (λ x. label_in m.entry.now x) m.entry.now result (step rules.gmail_label (drop k m.entry.now)) }
+        ensures ahead { Ahead m.entry.now k result }
+        ensures rests { RestsOn label_in result }
+    { gmail_label(m, k) };
+    parenthesized_list(alloc, label, m, p)
+}
+
+#[tactic(auto, unfolding(crate::specs::Gmail::gmail_label_list))]
+fn labels(alloc: Global, m: &[u8], p: usize) -> Result<(usize, Vec<Span>), Err>
+    requires { p ≤ length m.now }
+    ensures steps { GivesAt (λ x. map (label_in m.now) x.items) m.now result (step rules.gmail_label_list (drop p m.now)) }
+    ensures ahead { Ahead m.now p result }
+    ensures rests { RestsOn (λ n x. map (label_in n) x.items) result }
+{
+    let (p, _) = word(b"X-GM-LABELS ", m, p)?;
+    let (p, labels) = gmail_labels(alloc, m, p)?;
+    Ok((p, labels))
+}
+
+/// `X-GM-LABELS` and the labels of a message in parentheses, maybe none, each as the span of a flag's text or of a quoted string's raw content (Gmail's X-GM-EXT-1).
+///
+/// It takes memory for the list, and for no text.
+#[tactic(auto, using(imap_bytes::proofs::Agreement::answered_at))]
+pub fn gmail_label_list(alloc: Global, m: &[u8], p: usize) -> Result<(usize, Vec<Span>), Err>
+    requires { p ≤ length m.now }
+    ensures steps { GivesAt (λ x. map (label_in m.now) x.items) m.now result (step rules.gmail_label_list (drop p m.now)) }
+    ensures answer { AnswersAt rules.gmail_label_list (λ x. map (label_in m.now) x.items) m.now p result }
+    ensures ahead { Ahead m.now p result }
+    ensures rests { RestsOn (λ n x. map (label_in n) x.items) result }
+{
+    labels(alloc, m, p)
+}
