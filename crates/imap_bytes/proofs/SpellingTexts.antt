@@ -1,7 +1,7 @@
 -- What each rule of numbers, strings, texts and sets takes spells its value.
-use Rattle.std.proofs.Common.{◌≡◌, ℕ, ◌^◌, ◌⊎◌, ◌++◌, None, Some, sym, ◌∙◌, ap, refl, inl, inr, append_assoc, codes}
+use Rattle.std.proofs.Common.{◌≡◌, ℕ, ◌^◌, ◌++◌, None, Some, sym, ◌∙◌, ap, refl, inl, inr, append_assoc, codes}
 use Prim.Native.String.{String}
-use Rattle.imap_grammar.specs.Rule.{Rule, ◌⨾◌, ◌▹◌, ◌◃◌, ◌or◌, meaning}
+use Rattle.imap_grammar.specs.Rule.{Rule, meaning}
 use Rattle.imap_grammar.specs.Text.{Bytes, Text}
 use Rattle.imap_grammar.specs.Classes.{is_quoted_char, is_astring_char, is_text_char}
 use Rattle.imap_grammar.specs.Tags.{tag}

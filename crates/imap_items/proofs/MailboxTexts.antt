@@ -6,7 +6,7 @@ use Rattle.imap_grammar.specs.Meaning.{is_word}
 use Rattle.imap_grammar.specs.Rule.{meaning}
 use Rattle.imap_grammar.specs.Text.{Bytes, Text, decoded, as_text, lent_text}
 use Rattle.imap_grammar.specs.Tags.{same_letter}
-use Rattle.imap_grammar.specs.Pieces.{written, literal_of}
+use Rattle.imap_grammar.specs.Pieces.{literal_of}
 use Rattle.imap_grammar.specs.ReadBack.{ReadsBack, Spells, Keeps, Any, Closes}
 use Rattle.imap_grammar.specs.Spelling.{spells_astring_text}
 use Rattle.imap_grammar.proofs.Reading.{reads-follow}

@@ -1,11 +1,9 @@
 -- Rights read back.
-use Rattle.std.proofs.Common.{◌≡◌, ℕ, List, [], ◌∷◌, sym, ◌∙◌, ap, ap₂, subst, refl, map, encode_utf8_all, chars, IsUtf8, rules}
+use Rattle.std.proofs.Common.{◌≡◌, ℕ, List, [], ◌∷◌, sym, ◌∙◌, ap, ap₂, refl, map, encode_utf8_all, chars, IsUtf8, rules}
 use Rattle.std.proofs.lemmas.Str.{encodes-chars}
-use Rattle.std.specs.Str.Lossy.{utf8_lossy}
 use Rattle.imap_grammar.specs.Text.{Bytes, Text}
 use Rattle.imap_grammar.specs.Pieces.{lit}
 use Rattle.imap_grammar.specs.ReadBack.{ReadsBack, Spells, Keeps, Any, Closes, as_is}
-use Rattle.imap_grammar.specs.Spelling.{spells_astring}
 use Rattle.imap_grammar.proofs.Yields.{Yields}
 use Rattle.imap_grammar.proofs.Reading.{reads-gives, reads-where, reads-follow}
 use Rattle.imap_grammar.proofs.Spelling.{spells-gives, spells-where}

@@ -1,12 +1,12 @@
 -- Sets of UIDs read back.
-use Rattle.std.proofs.Common.{◌≡◌, ℕ, ◌<◌, ◌≤◌, ◌^◌, min, max, ◌++◌, decimal, ap₂, ap, sym, ◌∙◌, subst, refl, inl, inr, arith, map}
+use Rattle.std.proofs.Common.{◌≡◌, ℕ, ◌<◌, ◌^◌, min, max, ◌++◌, decimal, ap₂, sym, subst, refl, inl, inr, arith}
 use Rattle.std.proofs.lemmas.Bool.{cases_lt}
 use Rattle.std.proofs.lemmas.List.{map-id}
 use Rattle.imap_grammar.specs.Meaning.{Denies, outside}
-use Rattle.imap_grammar.specs.Rule.{meaning, gives, ◌⨾◌, ◌▹◌}
+use Rattle.imap_grammar.specs.Rule.{meaning, gives}
 use Rattle.imap_grammar.specs.Text.{Bytes}
 use Rattle.imap_grammar.specs.Tags.{tag}
-use Rattle.imap_grammar.specs.Pieces.{written, number_text}
+use Rattle.imap_grammar.specs.Pieces.{written}
 use Rattle.imap_grammar.specs.ReadBack.{ReadsBack, Spells, Keeps, Apart, Starts, Closes, as_is}
 use Rattle.imap_grammar.proofs.Reading.{raw_on, reads-gives, reads-follow, reads-list1, reads-as, first, denies-gives, denies-after, closes-in}
 use Rattle.imap_grammar.proofs.ReadingLists.{takes-text}

@@ -1,5 +1,5 @@
 -- The text of capabilities.
-use Rattle.std.specs.Prelude.{◌≡◌, true, false, List, cond}
+use Rattle.std.specs.Prelude.{◌≡◌, true, List, cond}
 use Rattle.std.specs.List.{list_any}
 use Rattle.imap_grammar.specs.Pieces.{Pieces, ◌then◌, words, space, plain, each}
 use Rattle.imap_grammar.specs.ReadBack.{Texts}
