@@ -1,15 +1,15 @@
 -- A loop that reads one more as often as there is one, and keeps what it read.
 use Rattle.std.proofs.Common.{◌≡◌, ℕ, ◌<◌, ◌≤◌, true, List, [], ◌∷◌, ◌++◌, map, take, drop, Some, None, Ok, Err, refl, sym, ap, ◌∙◌, append_assoc}
 use Rattle.std.proofs.lemmas.List.{append-nil, map-append}
-use Rattle.imap_bytes.specs.declared.answer.Err.{Err as Fault}
-use Rattle.imap_bytes.specs.declared.answer.Err.TheVariants.{Incomplete, Error, Failure}
-use Rattle.imap_bytes.specs.Answer.{Stops}
-use Rattle.imap_bytes.specs.Rule.{Rule, gives, opt, many, ◌⨾◌}
-use Rattle.imap_bytes.specs.Step.{Step, ◌>>=◌, step, beside}
-use Rattle.imap_bytes.specs.Positions.{Rests}
-use Rattle.imap_bytes.proofs.Consumption.{consumes}
-use Rattle.imap_bytes.proofs.Loops.{onto, onto_nothing, more, smaller, end, after_start, after_fault}
-use Rattle.imap_bytes.proofs.Positions.{further, rests_more}
+use Rattle.imap_grammar.specs.declared.answer.Err.{Err as Fault}
+use Rattle.imap_grammar.specs.declared.answer.Err.TheVariants.{Incomplete, Error, Failure}
+use Rattle.imap_grammar.specs.Answer.{Stops}
+use Rattle.imap_grammar.specs.Rule.{Rule, gives, opt, many, ◌⨾◌}
+use Rattle.imap_grammar.specs.Step.{Step, ◌>>=◌, step, beside}
+use Rattle.imap_grammar.specs.Positions.{Rests}
+use Rattle.imap_grammar.proofs.Consumption.{consumes}
+use Rattle.imap_grammar.proofs.Loops.{onto, onto_nothing, more, smaller, end, after_start, after_fault}
+use Rattle.imap_grammar.proofs.Positions.{further, rests_more}
 
 -- Of a list that s reads, vs were read, and the rest of it is still to be read by `more` from k on.
 pub record Gathered {V : Type 0} (s : Step (List V)) (more : Rule V) (vs : List V) (k : List ℕ) : Type 0 where

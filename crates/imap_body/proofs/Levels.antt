@@ -1,7 +1,7 @@
 -- Lists and bodies above level 0.
 use Rattle.std.proofs.Common.{◌≡◌, ◌≢◌, ℕ, zero, suc, ◌-◌, true, List, refl, ap, arith}
-use Rattle.imap_bytes.specs.Step.{step}
-use Rattle.imap_bytes.proofs.Consumption.{consumes}
+use Rattle.imap_grammar.specs.Step.{step}
+use Rattle.imap_grammar.proofs.Consumption.{consumes}
 use Rattle.imap_body.specs.Extensions.{bracketed_extensions, extension_list}
 use Rattle.imap_body.specs.Bodies.{bracketed_body, body}
 

@@ -2,10 +2,10 @@
 use Rattle.std.proofs.Common.{◌≡◌, ℕ, ◌≤◌, List, map, take, Option, Some, None, refl, sym, ap, ◌∙◌}
 use Rattle.std.specs.Option.{option_map}
 use Rattle.std.specs.Global.{Vec}
-use Rattle.imap_bytes.specs.Text.{as_text, decoded}
-use Rattle.imap_bytes.specs.declared.at.span.Span.{Span}
-use Rattle.imap_bytes.specs.Positions.{maybe_in, Rests}
-use Rattle.imap_bytes.proofs.Positions.{some_rests}
+use Rattle.imap_grammar.specs.Text.{as_text, decoded}
+use Rattle.imap_grammar.specs.declared.at.span.Span.{Span}
+use Rattle.imap_grammar.specs.Positions.{maybe_in, Rests}
+use Rattle.imap_grammar.proofs.Positions.{some_rests}
 use Rattle.imap_body.specs.declared.spans.SpannedText.TheVariants.{Part}
 use Rattle.imap_body.specs.Spans.{text_in}
 use Rattle.imap_body.specs.Spanned.{maybe_bytes_in}

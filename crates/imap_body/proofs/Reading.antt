@@ -1,7 +1,7 @@
 -- What a body says that was made of the parts that were read, and what it rests on.
 use Rattle.std.proofs.Common.{◌≡◌, ℕ, List, refl, sym, ◌∙◌, map, take, Vec, Box, Global, Ok}
-use Rattle.imap_bytes.specs.declared.at.span.Span.{Span}
-use Rattle.imap_bytes.specs.Positions.{Rests}
+use Rattle.imap_grammar.specs.declared.at.span.Span.{Span}
+use Rattle.imap_grammar.specs.Positions.{Rests}
 use Rattle.imap_body.specs.declared.spans.SpannedText.{SpannedText}
 use Rattle.imap_body.specs.declared.spans.SpannedText.TheVariants as fixed
 use Rattle.imap_body.specs.declared.shapes.envelopes.Envelope.{Envelope}
@@ -18,8 +18,8 @@ use Rattle.imap_body.specs.BodyValues.{common_seen, single_seen}
 use Rattle.imap_body.specs.Spans.{text_in, bytes_in}
 use Rattle.imap_body.specs.Spanned.{envelope_in, fields_in, ext_1part_in, ext_mpart_in, body_in}
 use Rattle.imap_body.proofs.Trees.{text_seen, basic_seen, message_seen, multipart_seen}
-use Rattle.imap_bytes.specs.Step.{step}
-use Rattle.imap_bytes.specs.Tags.{word}
+use Rattle.imap_grammar.specs.Step.{step}
+use Rattle.imap_grammar.specs.Tags.{word}
 use Rattle.imap_bytes.specs.Numbers.{number}
 use Rattle.imap_bytes.specs.Texts.{string_utf8}
 use Rattle.imap_body.specs.Envelopes.{spaced, envelope}

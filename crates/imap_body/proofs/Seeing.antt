@@ -1,8 +1,8 @@
 -- What an extension says, by its kinds, and what it rests on.
 use Rattle.std.proofs.Common.{◌≡◌, ℕ, sym, ap, ◌∙◌, map, take, Vec, Global, Option}
 use Rattle.std.specs.Option.{option_map}
-use Rattle.imap_bytes.specs.Text.{Text}
-use Rattle.imap_bytes.specs.Positions.{Rests}
+use Rattle.imap_grammar.specs.Text.{Text}
+use Rattle.imap_grammar.specs.Positions.{Rests}
 use Rattle.imap_body.specs.declared.spans.SpannedText.{SpannedText}
 use Rattle.imap_body.specs.declared.shapes.extensions.BodyExtension.{BodyExtension}
 use Rattle.imap_body.specs.declared.shapes.extensions.BodyExtension.TheVariants as extension

@@ -1,7 +1,7 @@
 -- What trees say, by their kinds.
 use Rattle.std.proofs.Common.{◌≡◌, ℕ, zero, suc, ◌+◌, ◌<◌, ◌≤◌, arith, List, [], ◌∷◌, length, get_or, sym, ap, ◌∙◌, map, Vec, Box, Global, Option}
 use Rattle.std.specs.Option.{option_map}
-use Rattle.imap_bytes.specs.Text.{Text, as_text}
+use Rattle.imap_grammar.specs.Text.{Text, as_text}
 use Rattle.imap_body.specs.EnvelopeValues.{EnvelopeValue, envelope_seen}
 use Rattle.imap_body.specs.ExtensionValues.{ExtensionValue, Num, Str, Listed, extensions_of, extension_step, extension_seen}
 use Rattle.imap_body.specs.BodyValues.{CommonValue, SingleValue, BodyValue, Basic, TextBody, Message, Multipart, Bodies, no_bodies, one_body, bodies_of, common_seen, single_seen, body_step, body_seen}

@@ -4,7 +4,7 @@ use Rattle.std.proofs.Math.Seq.{drop-cons}
 use Rattle.std.proofs.lemmas.Bool.{lt-ltb}
 use Rattle.std.specs.declared.borrow.CowStr.{CowStr}
 use Rattle.std.specs.declared.borrow.CowSlice.{CowSlice}
-use Rattle.imap_bytes.specs.Text.{text_of}
+use Rattle.imap_grammar.specs.Text.{text_of}
 use Rattle.imap_body.specs.Spans.{bytes_of}
 use Rattle.imap_body.specs.BodyValues.{BodyValue, one_body, bodies_of, body_seen}
 use Rattle.imap_body.specs.Search.{visited, visited_from, count, too_many, too_many_in, FindsFirst}

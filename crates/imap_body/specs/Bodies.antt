@@ -1,8 +1,8 @@
 -- Structures of bodies, down to a level (RFC 3501, section 9: body, body-type-text, body-type-msg, body-type-basic, body-type-mpart).
 use Rattle.std.specs.Prelude.{ℕ, zero, suc, List, codes}
-use Rattle.imap_bytes.specs.Text.{Bytes, Text, as_text}
-use Rattle.imap_bytes.specs.Rule.{Rule, gives, never, some1, ◌⨾◌, ◌▹◌, ◌◃◌, ◌or◌}
-use Rattle.imap_bytes.specs.Tags.{tag, word}
+use Rattle.imap_grammar.specs.Text.{Bytes, Text, as_text}
+use Rattle.imap_grammar.specs.Rule.{Rule, gives, never, some1, ◌⨾◌, ◌▹◌, ◌◃◌, ◌or◌}
+use Rattle.imap_grammar.specs.Tags.{tag, word}
 use Rattle.imap_bytes.specs.Numbers.{number}
 use Rattle.imap_bytes.specs.Texts.{string_utf8}
 use Rattle.imap_body.specs.EnvelopeValues.{EnvelopeValue}

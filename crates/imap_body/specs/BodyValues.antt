@@ -1,7 +1,7 @@
 -- What the structure of a body says (RFC 3501, section 9: body).
 use Rattle.std.specs.Prelude.{ℕ, List, [], ◌∷◌, Option}
 use Rattle.std.specs.Option.{option_map}
-use Rattle.imap_bytes.specs.Text.{Text}
+use Rattle.imap_grammar.specs.Text.{Text}
 use Rattle.imap_body.specs.EnvelopeValues.{EnvelopeValue, envelope_seen}
 use Rattle.imap_body.specs.FieldValues.{ParamsValue, params_seen, EncodingValue, encoding_seen}
 use Rattle.imap_body.specs.ExtensionValues.{DispositionValue, disposition_seen, languages_seen, ExtensionValue, extension_seen}

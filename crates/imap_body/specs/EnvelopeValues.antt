@@ -3,7 +3,7 @@ use Rattle.std.specs.Prelude.{List, Option, map}
 use Rattle.std.specs.Option.{option_map}
 use Rattle.std.specs.declared.alloc.Global.{Global}
 use Rattle.std.specs.declared.vec.Vec.{Vec}
-use Rattle.imap_bytes.specs.Text.{Text}
+use Rattle.imap_grammar.specs.Text.{Text}
 use Rattle.imap_body.specs.declared.shapes.envelopes.Address.{Address}
 use Rattle.imap_body.specs.declared.shapes.envelopes.Envelope.{Envelope}
 

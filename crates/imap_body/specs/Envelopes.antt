@@ -1,9 +1,9 @@
 -- Envelopes (RFC 3501, section 9: envelope, address).
 use Rattle.std.specs.Prelude.{List, Option}
 use Rattle.std.specs.Option.{option_map}
-use Rattle.imap_bytes.specs.Text.{Text, as_text}
-use Rattle.imap_bytes.specs.Rule.{Rule, gives, opt, some1, ◌⨾◌, ◌▹◌, ◌◃◌}
-use Rattle.imap_bytes.specs.Tags.{tag, sp}
+use Rattle.imap_grammar.specs.Text.{Text, as_text}
+use Rattle.imap_grammar.specs.Rule.{Rule, gives, opt, some1, ◌⨾◌, ◌▹◌, ◌◃◌}
+use Rattle.imap_grammar.specs.Tags.{tag, sp}
 use Rattle.imap_bytes.specs.Strings.{nstring, nil_or}
 use Rattle.imap_body.specs.EnvelopeValues.{AddressValue, EnvelopeValue}
 

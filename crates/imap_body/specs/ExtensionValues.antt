@@ -3,7 +3,7 @@ use Rattle.std.specs.Prelude.{ℕ, List, [], ◌∷◌, Option, map}
 use Rattle.std.specs.Option.{option_map}
 use Rattle.std.specs.declared.alloc.Global.{Global}
 use Rattle.std.specs.declared.vec.Vec.{Vec}
-use Rattle.imap_bytes.specs.Text.{Text}
+use Rattle.imap_grammar.specs.Text.{Text}
 use Rattle.imap_body.specs.FieldValues.{ParamsValue, params_seen}
 use Rattle.imap_body.specs.declared.shapes.extensions.ContentDisposition.{ContentDisposition}
 use Rattle.imap_body.specs.declared.shapes.extensions.BodyExtension.{BodyExtension, fold-BodyExtension}

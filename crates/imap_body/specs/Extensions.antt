@@ -1,13 +1,13 @@
 -- Extension data of bodies (RFC 3501, section 9: body-ext-1part, body-ext-mpart, body-fld-dsp, body-fld-lang, body-extension).
 use Rattle.std.specs.Prelude.{ℕ, zero, suc, List, [], ◌∷◌, Option, Some}
 use Rattle.std.specs.Option.{option_map}
-use Rattle.imap_bytes.specs.Text.{Text}
-use Rattle.imap_bytes.specs.Rule.{Rule, gives, never, opt, list1, ◌⨾◌, ◌▹◌, ◌◃◌, ◌or◌}
-use Rattle.imap_bytes.specs.Tags.{tag, sp, blanks0}
+use Rattle.imap_grammar.specs.Text.{Text}
+use Rattle.imap_grammar.specs.Rule.{Rule, gives, never, opt, list1, ◌⨾◌, ◌▹◌, ◌◃◌, ◌or◌}
+use Rattle.imap_grammar.specs.Tags.{tag, sp, blanks0}
+use Rattle.imap_grammar.specs.Lists.{opt_opt_of}
 use Rattle.imap_bytes.specs.Numbers.{number}
 use Rattle.imap_bytes.specs.Strings.{nil_or}
 use Rattle.imap_bytes.specs.Texts.{string_utf8, nstring_utf8}
-use Rattle.imap_bytes.specs.Lists.{opt_opt_of}
 use Rattle.imap_body.specs.FieldValues.{ParamsValue}
 use Rattle.imap_body.specs.ExtensionValues.{DispositionValue, ExtensionValue, Num, Str, Listed, extensions_of, Ext1PartValue, ExtMPartValue}
 use Rattle.imap_body.specs.Envelopes.{spaced}

@@ -1,8 +1,8 @@
 -- Parameters, encodings and fields of bodies (RFC 3501, section 9: body-fields, body-fld-param, body-fld-enc).
 use Rattle.std.specs.Prelude.{ℕ, List, Option}
-use Rattle.imap_bytes.specs.Text.{Text}
-use Rattle.imap_bytes.specs.Rule.{Rule, gives, nothing, list1, ◌⨾◌, ◌▹◌, ◌◃◌, ◌or◌}
-use Rattle.imap_bytes.specs.Tags.{tag, names, sp, blanks0}
+use Rattle.imap_grammar.specs.Text.{Text}
+use Rattle.imap_grammar.specs.Rule.{Rule, gives, nothing, list1, ◌⨾◌, ◌▹◌, ◌◃◌, ◌or◌}
+use Rattle.imap_grammar.specs.Tags.{tag, names, sp, blanks0}
 use Rattle.imap_bytes.specs.Numbers.{number}
 use Rattle.imap_bytes.specs.Strings.{nil, nil_or}
 use Rattle.imap_bytes.specs.Texts.{string_utf8, nstring_utf8}

@@ -1,6 +1,6 @@
 -- Part search: the bodies inside a body, by their paths (RFC 3501, section 6.4.5: part numbers).
 use Rattle.std.specs.Prelude.{◌≡◌, ◌⊎◌, ℕ, zero, suc, ◌+◌, List, [], ◌∷◌, ◌++◌, Option, None, Some, Bool, true, false, ◌||◌, nat_lt}
-use Rattle.imap_bytes.specs.Text.{text_of}
+use Rattle.imap_grammar.specs.Text.{text_of}
 use Rattle.imap_body.specs.Spans.{bytes_of}
 use Rattle.imap_body.specs.BodyValues.{BodyValue, Basic, TextBody, Message, Multipart, Bodies, no_bodies, one_body, body_seen}
 use Rattle.imap_body.specs.declared.search.Part.{Part}

@@ -3,8 +3,8 @@ use Rattle.std.specs.Prelude.{List, Option}
 use Rattle.std.specs.Option.{option_map}
 use Rattle.std.specs.declared.alloc.Global.{Global}
 use Rattle.std.specs.declared.vec.Vec.{Vec}
-use Rattle.imap_bytes.specs.declared.at.span.Span.{Span}
-use Rattle.imap_bytes.specs.Text.{Bytes, Text}
+use Rattle.imap_grammar.specs.declared.at.span.Span.{Span}
+use Rattle.imap_grammar.specs.Text.{Bytes, Text}
 use Rattle.imap_body.specs.declared.spans.SpannedText.{SpannedText}
 use Rattle.imap_body.specs.declared.shapes.envelopes.Address.{Address}
 use Rattle.imap_body.specs.declared.shapes.envelopes.Envelope.{Envelope}

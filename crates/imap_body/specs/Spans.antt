@@ -3,9 +3,9 @@ use Rattle.std.specs.Prelude.{ℕ, true, false, codes}
 use Rattle.std.specs.declared.borrow.CowStr.{CowStr}
 use Rattle.std.specs.declared.borrow.CowSlice.{CowSlice}
 use Rattle.std.specs.declared.borrow.CowSlice.TheVariants as slice
-use Rattle.imap_bytes.specs.Text.{Bytes, Text, text_of, decoded, as_text}
-use Rattle.imap_bytes.specs.declared.at.span.Span.{Span}
-use Rattle.imap_bytes.specs.Positions.{named_in}
+use Rattle.imap_grammar.specs.Text.{Bytes, Text, text_of, decoded, as_text}
+use Rattle.imap_grammar.specs.declared.at.span.Span.{Span}
+use Rattle.imap_grammar.specs.Positions.{named_in}
 use Rattle.imap_body.specs.declared.spans.SpannedText.{SpannedText}
 use Rattle.imap_body.specs.declared.spans.SpannedText.TheVariants as spanned
 

@@ -1,7 +1,7 @@
 //! The same values with all texts owned. They are consumed, and `Err` where there is no memory.
 
 ghost use Rattle.std.specs.Prelude.{◌≡◌, IfOk};
-ghost use Rattle.imap_bytes.specs.Text.{text_of};
+ghost use Rattle.imap_grammar.specs.Text.{text_of};
 ghost use Rattle.imap_body.specs.Spans.{bytes_of, bytes_owned, text_owned};
 ghost use Rattle.imap_body.specs.EnvelopeValues.{address_seen, envelope_seen};
 ghost use Rattle.imap_body.specs.FieldValues.{encoding_seen, fields_seen};

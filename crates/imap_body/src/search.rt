@@ -3,7 +3,7 @@
 ghost use Rattle.std.specs.Prelude.{◌≡◌, ◌++◌, [], true, false, map, IfOk, OnOk, IfErr};
 ghost use Rattle.std.specs.Option.{option_map};
 ghost use Rattle.std.specs.Fn.{FnReturnsAt};
-ghost use Rattle.imap_bytes.specs.Text.{text_of};
+ghost use Rattle.imap_grammar.specs.Text.{text_of};
 ghost use Rattle.imap_body.specs.Spans.{bytes_of};
 ghost use Rattle.imap_body.specs.BodyValues.{body_seen};
 ghost use Rattle.imap_body.specs.Search.{visited, too_many, part_seen, FindsFirst};

@@ -1,7 +1,7 @@
 //! What spans name in a message: the real values of trees of spans.
 
 ghost use Rattle.std.specs.Prelude.{◌≡◌, IfOk};
-ghost use Rattle.imap_bytes.specs.Text.{text_of};
+ghost use Rattle.imap_grammar.specs.Text.{text_of};
 ghost use Rattle.imap_body.specs.Spans.{bytes_of, bytes_in, text_in};
 ghost use Rattle.imap_body.specs.EnvelopeValues.{address_seen, envelope_seen};
 ghost use Rattle.imap_body.specs.FieldValues.{fields_seen};

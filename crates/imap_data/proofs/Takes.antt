@@ -1,6 +1,6 @@
 -- That a rule takes at least a byte wherever it yields: of the items of lists.
 use Rattle.std.proofs.Common.{◌≡◌, true, refl}
-use Rattle.imap_bytes.proofs.Consumption.{consumes}
+use Rattle.imap_grammar.proofs.Consumption.{consumes}
 use Rattle.imap_bytes.proofs.Takes.{astring_takes}
 use Rattle.imap_items.proofs.Takes.{backslashed_text_takes}
 use Rattle.imap_data.specs.Names.{name_attribute}

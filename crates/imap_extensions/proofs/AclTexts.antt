@@ -1,19 +1,21 @@
 -- Access control lists read back.
 use Rattle.std.proofs.Common.{◌≡◌, ℕ, ◌==◌, true, List, [], ◌∷◌, ◌++◌, refl, sym, subst, inl, inr, ◌⊎◌, map}
 use Rattle.std.proofs.lemmas.Bool.{false≢true, or_cases, eqb-true}
-use Rattle.imap_bytes.specs.Classes.{is_blank}
-use Rattle.imap_bytes.specs.Meaning.{Denies, outside}
-use Rattle.imap_bytes.specs.Rule.{Rule, meaning, list0, ◌▹◌}
-use Rattle.imap_bytes.specs.Text.{Bytes}
-use Rattle.imap_bytes.specs.Tags.{blanks0, blanks1}
+use Rattle.imap_grammar.specs.Classes.{is_blank}
+use Rattle.imap_grammar.specs.Meaning.{Denies, outside}
+use Rattle.imap_grammar.specs.Rule.{Rule, meaning, list0, ◌▹◌}
+use Rattle.imap_grammar.specs.Text.{Bytes}
+use Rattle.imap_grammar.specs.Tags.{blanks0, blanks1}
+use Rattle.imap_grammar.specs.Pieces.{Pieces, written, Fits, space, separated, each, ◌then◌}
+use Rattle.imap_grammar.specs.ReadBack.{ReadsBack, Spells, Keeps, Any, Starts, Closes, closes}
+use Rattle.imap_grammar.proofs.Reading.{written_on, reads-gives, reads-seq, reads-after, reads-list0, reads-follow, denials, denies-gives, denies-seq, closes-in, after-has, after-on, ◌▹ʳ◌}
+use Rattle.imap_grammar.proofs.ReadingLists.{takes-word, takes-blanks}
+use Rattle.imap_grammar.proofs.Spelling.{◌⨾ˢ◌, ◌▹ˢ◌, spells-gives, spells-word, spells-blanks0, spells-blanks1, spells-list0}
 use Rattle.imap_bytes.specs.Strings.{astring, string, quoted, literal, literal_header}
 use Rattle.imap_bytes.specs.Texts.{astring_utf8}
-use Rattle.imap_bytes.specs.Pieces.{Pieces, written, Fits, space, separated, each, ◌then◌}
-use Rattle.imap_bytes.specs.ReadBack.{ReadsBack, Spells, Keeps, Any, Starts, Closes, closes}
-use Rattle.imap_bytes.proofs.Reading.{written_on, reads-gives, reads-seq, reads-after, reads-list0, reads-follow, denials, denies-gives, denies-seq, closes-in, after-has, after-on, ◌▹ʳ◌}
-use Rattle.imap_bytes.proofs.ReadingTexts.{takes-word, takes-blanks, reads-astring_utf8}
+use Rattle.imap_bytes.proofs.ReadingTexts.{reads-astring_utf8}
 use Rattle.imap_bytes.proofs.ReadingCounts.{closes_blanks}
-use Rattle.imap_bytes.proofs.Spelling.{◌⨾ˢ◌, ◌▹ˢ◌, spells-gives, spells-word, spells-blanks0, spells-blanks1, spells-list0, spells-astring_utf8}
+use Rattle.imap_bytes.proofs.SpellingTexts.{spells-astring_utf8}
 use Rattle.imap_items.proofs.MailboxTexts.{reads_mailbox, mailbox_spells}
 use Rattle.imap_items.proofs.RightTexts.{reads_rights, rights_spell}
 use Rattle.imap_extensions.specs.Acls.{lent_acl_entry, lent_acl, lent_my_rights, acl_entry_of, acl_entry, acl_entries, acl_of, acl, my_rights_of, my_rights}

@@ -17,7 +17,7 @@ use Rattle.imap_extensions.specs.contracts.types.acls.AclPartialEq.TheImpl as ac
 use Rattle.imap_extensions.specs.contracts.types.acls.ListRightsPartialEq.TheImpl as list_eq
 use Rattle.imap_extensions.specs.contracts.types.acls.MyRightsPartialEq.TheImpl as my_eq
 use Rattle.imap_items.specs.contracts.types.rights.AclRightPartialEq.TheImpl as right_eq
-use Rattle.imap_bytes.proofs.Seen.{Tells, texts_tell, lists_tell, plain_lists_tell}
+use Rattle.imap_grammar.proofs.Seen.{Tells, texts_tell, lists_tell, plain_lists_tell}
 
 rights_tell : Tells (pointwise (right_eq.eq-value).it) (λ (rights : List AclRight). rights)
 rights_tell = plain_lists_tell (right_eq.eq-value).it right_tells

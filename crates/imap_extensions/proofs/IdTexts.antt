@@ -7,20 +7,22 @@ use Rattle.std.specs.Ordering.{is_lt, is_eq, eq_by_cmp}
 use Rattle.std.specs.Cmp.Lexicographic.{slice_cmp, nat_list_cmp_total}
 use Rattle.std.specs.FinMap.{empty, insert, entries, get, find, put, from_entries, get-empty, get-from_entries, get-insert, entries-insert, entries_sorted, is_sorted, len-entries, len-empty, same_map, slice_cmp-IsAntisymmetric, nat_cmp-IsAntisymmetric}
 use Rattle.std.specs.FinMap.Entries.{below_all, by_order}
-use Rattle.imap_bytes.specs.Classes.{is_blank}
-use Rattle.imap_bytes.specs.Meaning.{Cuts, outside}
-use Rattle.imap_bytes.specs.Rule.{meaning, nothing, ◌⨾◌, ◌▹◌, ◌◃◌}
-use Rattle.imap_bytes.specs.Text.{Bytes, Text, as_text, lent_text}
-use Rattle.imap_bytes.specs.Tags.{same_letter, tag, blanks0, blanks1}
+use Rattle.imap_grammar.specs.Classes.{is_blank}
+use Rattle.imap_grammar.specs.Meaning.{Cuts, outside}
+use Rattle.imap_grammar.specs.Rule.{meaning, nothing, ◌⨾◌, ◌▹◌, ◌◃◌}
+use Rattle.imap_grammar.specs.Text.{Bytes, Text, as_text, lent_text}
+use Rattle.imap_grammar.specs.Tags.{same_letter, tag, blanks0, blanks1}
+use Rattle.imap_grammar.specs.Pieces.{Pieces, written, Fits, words, space, each, literal_of, ◌then◌}
+use Rattle.imap_grammar.specs.ReadBack.{ReadsBack, Spells, Keeps, Any, Starts, Closes}
+use Rattle.imap_grammar.specs.Spelling.{exactly, ◌and◌, blanks, some_blanks, with_between}
+use Rattle.imap_grammar.proofs.Yields.{Yields, both_yield, either_yields, named_yields, given_yields, made_yields, right_yields, left_yields, list_yields}
+use Rattle.imap_grammar.proofs.Reading.{first, written_on, fits-parts, reads-names, reads-after, reads-follow, takes-tag, apart-names, denies-gives, denies-after, denies-tag, denies-run1, after-on, before-on, ◌▹ʳ◌}
+use Rattle.imap_grammar.proofs.ReadingLists.{takes-word, takes-blanks}
+use Rattle.imap_grammar.proofs.Spelling.{◌⨾ˢ◌, ◌▹ˢ◌, ◌◃ˢ◌, ◌orˢ◌, spells-gives, spells-where, spells-names, spells-word, spells-tag, spells-list1, spells-blanks0, spells-blanks1}
 use Rattle.imap_bytes.specs.Strings.{nil}
 use Rattle.imap_bytes.specs.Texts.{string_utf8, nstring_utf8}
-use Rattle.imap_bytes.specs.Pieces.{Pieces, written, Fits, words, space, each, literal_of, ◌then◌}
-use Rattle.imap_bytes.specs.ReadBack.{ReadsBack, Spells, Keeps, Any, Starts, Closes}
-use Rattle.imap_bytes.specs.Spelling.{exactly, ◌and◌, blanks, some_blanks, with_between}
-use Rattle.imap_bytes.proofs.Yields.{Yields, both_yield, either_yields, named_yields, given_yields, made_yields, right_yields, left_yields, list_yields}
-use Rattle.imap_bytes.proofs.Reading.{first, written_on, fits-parts, reads-names, reads-after, reads-follow, takes-tag, apart-names, denies-gives, denies-after, denies-tag, denies-run1, after-on, before-on, ◌▹ʳ◌}
-use Rattle.imap_bytes.proofs.ReadingTexts.{takes-word, takes-blanks, string_on, decoded_utf8, utf8_yields}
-use Rattle.imap_bytes.proofs.Spelling.{◌⨾ˢ◌, ◌▹ˢ◌, ◌◃ˢ◌, ◌orˢ◌, spells-gives, spells-where, spells-names, spells-word, spells-tag, spells-list1, spells-blanks0, spells-blanks1, spells-string_utf8, spells-nstring_utf8}
+use Rattle.imap_bytes.proofs.ReadingTexts.{string_on, decoded_utf8, utf8_yields}
+use Rattle.imap_bytes.proofs.SpellingTexts.{spells-string_utf8, spells-nstring_utf8}
 use Rattle.imap_extensions.specs.Ids.{IdValue, put_pairs, map_of_pairs, lent_entry, lent_id, params_of, some_params, id_pair, id_pairs, id_list, id_params, id}
 use Rattle.imap_extensions.specs.IdTexts.{canonical_field, canonical_fields, canonical_params, canonical_id, spells_pair, spells_params, spells_id}
 

@@ -11,8 +11,8 @@ use Rattle.std.specs.Map.{lookup}
 use Rattle.std.specs.FinMap.{insert, entries, get, find, get-entries, get-from_entries, get-insert, same_map, slice_cmp-IsAntisymmetric, nat_cmp-IsAntisymmetric}
 use Rattle.std.specs.HashMap as hash
 use Rattle.std.specs.HashMap.Eq.{get_from_hash_map_eq, hash_map_eq_from_get}
-use Rattle.imap_bytes.specs.Text.{Bytes, Text, text_of, lent_text}
-use Rattle.imap_bytes.proofs.Seen.{Tells, option_tells, option_twice, texts_tell}
+use Rattle.imap_grammar.specs.Text.{Bytes, Text, text_of, lent_text}
+use Rattle.imap_grammar.proofs.Seen.{Tells, option_tells, option_twice, texts_tell}
 use Rattle.imap_extensions.specs.Ids.{IdValue, IdTable, entry_value, id_value, lent_entry, lent_id, id_content}
 
 abbrev same_bytes : CowStr Global → CowStr Global → Bool

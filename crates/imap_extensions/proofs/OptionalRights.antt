@@ -5,21 +5,23 @@ use Rattle.std.proofs.lemmas.Str.{scalars-chars, chars-encodes}
 use Rattle.std.specs.List.{All}
 use Rattle.std.specs.Str.{all_scalars}
 use mathlib.Core.List.{map-append}
-use Rattle.imap_bytes.specs.Classes.{is_blank}
-use Rattle.imap_bytes.specs.Meaning.{outside}
-use Rattle.imap_bytes.specs.Rule.{meaning, gives, nothing, ◌▹◌}
-use Rattle.imap_bytes.specs.Text.{Bytes, as_text}
-use Rattle.imap_bytes.specs.Tags.{blanks0, blanks1}
+use Rattle.imap_grammar.specs.Classes.{is_blank}
+use Rattle.imap_grammar.specs.Meaning.{outside}
+use Rattle.imap_grammar.specs.Rule.{meaning, gives, nothing, ◌▹◌}
+use Rattle.imap_grammar.specs.Text.{Bytes, as_text}
+use Rattle.imap_grammar.specs.Tags.{blanks0, blanks1}
+use Rattle.imap_grammar.specs.Pieces.{written, Fits, literal_of}
+use Rattle.imap_grammar.specs.ReadBack.{ReadsBack, Spells, Keeps, Closes, as_is}
+use Rattle.imap_grammar.proofs.Yields.{Yields, given_yields, either_yields, right_yields, list_yields}
+use Rattle.imap_grammar.proofs.Reading.{reads-gives, reads-seq, reads-after, denies-gives, denies-after, closes-in, gives-on, after-on, ◌▹ʳ◌}
+use Rattle.imap_grammar.proofs.ReadingLists.{takes-word, takes-blanks}
+use Rattle.imap_grammar.proofs.Spelling.{◌⨾ˢ◌, ◌▹ˢ◌, spells-gives, spells-wider, spells-word, spells-blanks0, spells-blanks1, spells-list0}
 use Rattle.imap_bytes.specs.Strings.{astring}
 use Rattle.imap_bytes.specs.Texts.{astring_utf8}
-use Rattle.imap_bytes.specs.Pieces.{written, Fits, literal_of}
-use Rattle.imap_bytes.specs.ReadBack.{ReadsBack, Spells, Keeps, Closes, as_is}
 use Rattle.imap_bytes.proofs.LossyTwice.{all-append}
-use Rattle.imap_bytes.proofs.Yields.{Yields, given_yields, either_yields, right_yields, list_yields}
-use Rattle.imap_bytes.proofs.Reading.{reads-gives, reads-seq, reads-after, denies-gives, denies-after, closes-in, gives-on, after-on, ◌▹ʳ◌}
-use Rattle.imap_bytes.proofs.ReadingTexts.{takes-word, takes-blanks, astring_on, decoded_utf8, reads-astring_utf8, utf8_yields}
+use Rattle.imap_bytes.proofs.ReadingTexts.{astring_on, decoded_utf8, reads-astring_utf8, utf8_yields}
 use Rattle.imap_bytes.proofs.ReadingCounts.{closes_blanks}
-use Rattle.imap_bytes.proofs.Spelling.{◌⨾ˢ◌, ◌▹ˢ◌, spells-gives, spells-wider, spells-word, spells-blanks0, spells-blanks1, spells-list0, spells-astring_utf8}
+use Rattle.imap_bytes.proofs.SpellingTexts.{spells-astring_utf8}
 use Rattle.imap_items.specs.declared.types.rights.AclRight.{AclRight}
 use Rattle.imap_items.specs.Rights.{right_of, letter_of, rights_of, rights_in, rights}
 use Rattle.imap_items.specs.RightTexts.{letters_of}

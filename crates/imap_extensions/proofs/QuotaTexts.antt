@@ -1,18 +1,20 @@
 -- Quotas read back.
 use Rattle.std.proofs.Common.{◌∷◌, ◌++◌, refl, codes, map}
-use Rattle.imap_bytes.specs.Classes.{is_blank}
-use Rattle.imap_bytes.specs.Meaning.{Denies, outside}
-use Rattle.imap_bytes.specs.Rule.{meaning}
-use Rattle.imap_bytes.specs.Text.{Bytes}
+use Rattle.imap_grammar.specs.Classes.{is_blank}
+use Rattle.imap_grammar.specs.Meaning.{Denies, outside}
+use Rattle.imap_grammar.specs.Rule.{meaning}
+use Rattle.imap_grammar.specs.Text.{Bytes}
+use Rattle.imap_grammar.specs.Pieces.{Pieces, written, space, number_text, list_text, ◌then◌}
+use Rattle.imap_grammar.specs.ReadBack.{ReadsBack, Spells, Keeps, Any, Starts, Closes}
+use Rattle.imap_grammar.proofs.Reading.{first, first_yields, reads-word, reads-gives, reads-seq, reads-after, reads-after_where, reads-before, reads-list0, reads-many, apart_forms, denials, denies-after, Begins, begun, reads-follow, ◌▹ʳ◌}
+use Rattle.imap_grammar.proofs.ReadingLists.{takes-text, takes-word, takes-blanks}
+use Rattle.imap_grammar.proofs.Reading.{denies-run1}
+use Rattle.imap_grammar.proofs.Spelling.{◌⨾ˢ◌, ◌▹ˢ◌, ◌◃ˢ◌, ◌orˢ◌, spells-gives, spells-names, spells-word, spells-tag, spells-blanks1, spells-list0, spells-many}
 use Rattle.imap_bytes.specs.Strings.{astring, string, quoted, literal, literal_header}
 use Rattle.imap_bytes.specs.Texts.{astring_utf8}
-use Rattle.imap_bytes.specs.Pieces.{Pieces, written, space, number_text, list_text, ◌then◌}
-use Rattle.imap_bytes.specs.ReadBack.{ReadsBack, Spells, Keeps, Any, Starts, Closes}
-use Rattle.imap_bytes.proofs.Reading.{first, first_yields, reads-word, reads-gives, reads-seq, reads-after, reads-after_where, reads-before, reads-list0, reads-many, apart_forms, denials, denies-after, Begins, begun, reads-follow, ◌▹ʳ◌}
-use Rattle.imap_bytes.proofs.ReadingTexts.{not_digit, takes-text, takes-word, takes-blanks, reads-number_64, reads-astring_utf8}
+use Rattle.imap_bytes.proofs.ReadingTexts.{not_digit, reads-number_64, reads-astring_utf8}
 use Rattle.imap_bytes.proofs.ReadingCounts.{number_no_blank, numbers_64_yield, blank_number, closes_blanks}
-use Rattle.imap_bytes.proofs.Reading.{denies-run1}
-use Rattle.imap_bytes.proofs.Spelling.{◌⨾ˢ◌, ◌▹ˢ◌, ◌◃ˢ◌, ◌orˢ◌, spells-gives, spells-names, spells-word, spells-tag, spells-blanks1, spells-list0, spells-many, spells-number_64, spells-astring_utf8}
+use Rattle.imap_bytes.proofs.SpellingTexts.{spells-number_64, spells-astring_utf8}
 use Rattle.imap_extensions.specs.Quotas.{QuotaResourceNameValue, Storage, Message, Atom, lent_quota_resource_name, lent_quota_resource, lent_quota, lent_quota_root, quota_resource_name, resource_of, quota_resource, quota_resources, quota_list, quota_of, quota, quota_root_name, quota_root_names, quota_root_of, quota_root}
 use Rattle.imap_extensions.specs.QuotaTexts.{canonical_resource_name, canonical_resource, canonical_quota, canonical_quota_root, spells_resource_name, spells_resource, spells_quota, spells_quota_root}
 

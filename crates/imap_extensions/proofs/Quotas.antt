@@ -1,9 +1,9 @@
 -- What `==` and hashing tell of quotas.
 use Rattle.std.proofs.Common.{rules, ◌≡◌, ap, true}
 use Rattle.std.proofs.lemmas.Bool.{and_parts, and_from}
-use Rattle.imap_bytes.specs.Equality.{Tells, HashesAlike}
-use Rattle.imap_bytes.specs.Text.{text_of, lent_text}
-use Rattle.imap_bytes.proofs.Seen.{texts_tell, lists_tell, text_lists_tell}
+use Rattle.imap_grammar.specs.Equality.{Tells, HashesAlike}
+use Rattle.imap_grammar.specs.Text.{text_of, lent_text}
+use Rattle.imap_grammar.proofs.Seen.{texts_tell, lists_tell, text_lists_tell}
 use Rattle.imap_extensions.specs.Quotas.{QuotaValue, QuotaRootValue, quota_resource_value, lent_quota_resource, quota_resource_content, quota_content, quota_root_content}
 use Rattle.imap_extensions.specs.declared.types.quotas.Quota.{Quota}
 use Rattle.imap_extensions.specs.declared.types.quotas.QuotaRoot.{QuotaRoot}
@@ -13,7 +13,7 @@ use Rattle.imap_extensions.specs.contracts.types.quotas.QuotaRootPartialEq.TheIm
 use Rattle.imap_extensions.specs.contracts.types.quotas.QuotaResourceHash.TheImpl as resource_hash
 use Rattle.imap_extensions.specs.contracts.types.quotas.QuotaHash.TheImpl as quota_hash
 use Rattle.imap_extensions.specs.contracts.types.quotas.QuotaRootHash.TheImpl as root_hash
-use Rattle.imap_bytes.proofs.Hashing.{lists_alike, same_bytes, texts_alike}
+use Rattle.imap_grammar.proofs.Hashing.{lists_alike, same_bytes, texts_alike}
 
 resources_tell : Tells (resource_eq.eq-value).it quota_resource_content
 resources_tell = search rules

@@ -1,6 +1,6 @@
 -- That a rule takes at least a byte wherever it yields: of the items of lists.
 use Rattle.std.proofs.Common.{◌≡◌, true, refl}
-use Rattle.imap_bytes.proofs.Consumption.{consumes}
+use Rattle.imap_grammar.proofs.Consumption.{consumes}
 use Rattle.imap_bytes.proofs.Takes.{astring_utf8_takes, string_utf8_takes}
 use Rattle.imap_extensions.specs.Quotas.{quota_resource_name, quota_resource, quota_root_name}
 use Rattle.imap_extensions.specs.Ids.{id_pair}

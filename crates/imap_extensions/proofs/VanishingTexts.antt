@@ -1,20 +1,21 @@
 -- VANISHED reads back.
 use Rattle.std.proofs.Common.{Bool, true, false, [], ◌∷◌, ◌++◌, refl, codes, inl, inr, arith}
 use Rattle.std.proofs.lemmas.Bool.{false≢true}
-use Rattle.imap_bytes.specs.Classes.{is_digit, is_blank}
-use Rattle.imap_bytes.specs.Meaning.{Denies, outside}
-use Rattle.imap_bytes.specs.Rule.{meaning, nothing}
-use Rattle.imap_bytes.specs.Text.{Bytes}
-use Rattle.imap_bytes.specs.Tags.{word, names, blanks1, same_letter}
-use Rattle.imap_bytes.specs.Pieces.{written, ranges_text}
-use Rattle.imap_bytes.specs.ReadBack.{Texts, ReadsBack, Spells, Keeps, Starts, Closes, as_is}
-use Rattle.imap_bytes.specs.Spelling.{in_any_case, ◌and◌, some_blanks}
-use Rattle.imap_bytes.proofs.Yields.{right_yields}
-use Rattle.imap_bytes.proofs.Reading.{reads-seq_where, reads-after_where, reads-follow, after-on, tag-on, closes-in, starts, ◌▹ʳ◌}
-use Rattle.imap_bytes.proofs.ReadingTexts.{takes-word, takes-blanks}
+use Rattle.imap_grammar.specs.Classes.{is_digit, is_blank}
+use Rattle.imap_grammar.specs.Meaning.{Denies, outside}
+use Rattle.imap_grammar.specs.Rule.{meaning, nothing}
+use Rattle.imap_grammar.specs.Text.{Bytes}
+use Rattle.imap_grammar.specs.Tags.{word, names, blanks1, same_letter}
+use Rattle.imap_grammar.specs.Pieces.{written, ranges_text}
+use Rattle.imap_grammar.specs.ReadBack.{Texts, ReadsBack, Spells, Keeps, Starts, Closes, as_is}
+use Rattle.imap_grammar.specs.Spelling.{in_any_case, ◌and◌, some_blanks}
+use Rattle.imap_grammar.proofs.Yields.{right_yields}
+use Rattle.imap_grammar.proofs.Reading.{reads-seq_where, reads-after_where, reads-follow, after-on, tag-on, closes-in, starts, ◌▹ʳ◌}
+use Rattle.imap_grammar.proofs.ReadingLists.{takes-word, takes-blanks}
+use Rattle.imap_grammar.proofs.Spelling.{◌⨾ˢ◌, ◌▹ˢ◌, ◌orˢ◌, spells-names, spells-wider, spells-nothing, spells-word, spells-blanks1}
 use Rattle.imap_bytes.proofs.ReadingSets.{in_set, reads-sequence_set}
 use Rattle.imap_bytes.proofs.ReadingCounts.{sets_yield, digit_no_blank, word_no_number}
-use Rattle.imap_bytes.proofs.Spelling.{◌⨾ˢ◌, ◌▹ˢ◌, ◌orˢ◌, spells-names, spells-wider, spells-nothing, spells-word, spells-blanks1, spells-sequence_set}
+use Rattle.imap_bytes.proofs.SpellingTexts.{spells-sequence_set}
 use Rattle.imap_extensions.specs.Vanishings.{earlier_word, earlier, vanished}
 use Rattle.imap_extensions.specs.VanishingTexts.{canonical_earlier, canonical_vanished, spells_earlier, spells_vanished}
 

@@ -1,8 +1,8 @@
 -- The text of access control lists.
 use Rattle.std.specs.Prelude.{◌≡◌, List, [], ◌∷◌}
-use Rattle.imap_bytes.specs.Pieces.{Pieces, ◌then◌, words, space, literal_text, each}
-use Rattle.imap_bytes.specs.ReadBack.{Texts}
-use Rattle.imap_bytes.specs.Spelling.{in_any_case, ◌and◌, blanks, some_blanks, with_between, spells_astring_text}
+use Rattle.imap_grammar.specs.Pieces.{Pieces, ◌then◌, words, space, literal_text, each}
+use Rattle.imap_grammar.specs.ReadBack.{Texts}
+use Rattle.imap_grammar.specs.Spelling.{in_any_case, ◌and◌, blanks, some_blanks, with_between, spells_astring_text}
 use Rattle.imap_items.specs.declared.types.rights.AclRight.{AclRight}
 use Rattle.imap_items.specs.MailboxTexts.{canonical_mailbox, spells_mailbox}
 use Rattle.imap_items.specs.RightTexts.{canonical_rights, spells_rights}

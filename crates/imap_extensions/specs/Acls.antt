@@ -1,12 +1,12 @@
 -- Access control lists (RFC 4314, section 4: acl-data, listrights-data, myrights-data).
 use Rattle.std.specs.Prelude.{List, map}
 use Rattle.std.specs.List.{flat_map}
-use Rattle.imap_bytes.specs.declared.lists.Separator.TheVariants.{Blanks}
-use Rattle.imap_bytes.specs.Text.{Text, text_of, lent_text}
-use Rattle.imap_bytes.specs.Rule.{Rule, gives, list0, ◌⨾◌, ◌▹◌}
-use Rattle.imap_bytes.specs.Tags.{word, blanks0, blanks1}
+use Rattle.imap_grammar.specs.declared.lists.Separator.TheVariants.{Blanks}
+use Rattle.imap_grammar.specs.Text.{Text, text_of, lent_text}
+use Rattle.imap_grammar.specs.Rule.{Rule, gives, list0, ◌⨾◌, ◌▹◌}
+use Rattle.imap_grammar.specs.Tags.{word, blanks0, blanks1}
+use Rattle.imap_grammar.specs.Lists.{separator}
 use Rattle.imap_bytes.specs.Texts.{astring_utf8}
-use Rattle.imap_bytes.specs.Lists.{separator}
 use Rattle.imap_items.specs.Mailboxes.{mailbox}
 use Rattle.imap_items.specs.Rights.{rights}
 use Rattle.imap_items.specs.declared.types.rights.AclRight.{AclRight}

@@ -1,10 +1,10 @@
 -- The text of what an implementation says of itself.
 use Rattle.std.specs.Prelude.{◌≡◌, List, [], ◌∷◌, Option, None, Some}
 use Rattle.std.specs.FinMap.{entries}
-use Rattle.imap_bytes.specs.Text.{Bytes, Text}
-use Rattle.imap_bytes.specs.Pieces.{Pieces, ◌then◌, words, space, lit, literal_text, list_text}
-use Rattle.imap_bytes.specs.ReadBack.{Texts}
-use Rattle.imap_bytes.specs.Spelling.{exactly, in_any_case, ◌and◌, blanks, some_blanks, with_between, spells_string_text, spells_ntext}
+use Rattle.imap_grammar.specs.Text.{Bytes, Text}
+use Rattle.imap_grammar.specs.Pieces.{Pieces, ◌then◌, words, space, lit, literal_text, list_text}
+use Rattle.imap_grammar.specs.ReadBack.{Texts}
+use Rattle.imap_grammar.specs.Spelling.{exactly, in_any_case, ◌and◌, blanks, some_blanks, with_between, spells_string_text, spells_ntext}
 use Rattle.imap_extensions.specs.Ids.{IdValue, map_of_pairs}
 
 -- a field and its value

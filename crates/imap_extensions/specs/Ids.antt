@@ -1,8 +1,8 @@
 -- What an implementation says of itself (RFC 2971, section 4: id_response, id_params_list), with any blanks between the parts. Its value is a finite map from the keys' bytes to texts: a key has no mark of its own, since of two equal ones either may be the one that is kept.
 use Rattle.std.specs.Prelude.{List, Option, None, Some, [], ◌∷◌, option_map, map}
-use Rattle.imap_bytes.specs.Text.{Text, Bytes, text_of, lent_text}
-use Rattle.imap_bytes.specs.Rule.{Rule, nothing, gives, list1, ◌⨾◌, ◌▹◌, ◌◃◌, ◌or◌}
-use Rattle.imap_bytes.specs.Tags.{tag, word, blanks0, blanks1}
+use Rattle.imap_grammar.specs.Text.{Text, Bytes, text_of, lent_text}
+use Rattle.imap_grammar.specs.Rule.{Rule, nothing, gives, list1, ◌⨾◌, ◌▹◌, ◌◃◌, ◌or◌}
+use Rattle.imap_grammar.specs.Tags.{tag, word, blanks0, blanks1}
 use Rattle.imap_bytes.specs.Strings.{nil}
 use Rattle.imap_bytes.specs.Texts.{string_utf8, nstring_utf8}
 use Rattle.std.specs.Ordering.{nat_cmp}

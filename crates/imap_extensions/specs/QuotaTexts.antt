@@ -1,7 +1,7 @@
 -- The text of quotas.
-use Rattle.imap_bytes.specs.Pieces.{Pieces, ◌then◌, words, space, number_text, literal_text, each, list_text}
-use Rattle.imap_bytes.specs.ReadBack.{Texts}
-use Rattle.imap_bytes.specs.Spelling.{exactly, in_any_case, ◌and◌, some_blanks, each_of, with_between, spells_number, spells_astring_text}
+use Rattle.imap_grammar.specs.Pieces.{Pieces, ◌then◌, words, space, number_text, literal_text, each, list_text}
+use Rattle.imap_grammar.specs.ReadBack.{Texts}
+use Rattle.imap_grammar.specs.Spelling.{exactly, in_any_case, ◌and◌, some_blanks, each_of, with_between, spells_number, spells_astring_text}
 use Rattle.imap_extensions.specs.Quotas.{QuotaResourceNameValue, QuotaResourceValue, QuotaValue, QuotaRootValue, Storage, Message, Atom}
 
 abbrev pub canonical_resource_name : QuotaResourceNameValue → Pieces

@@ -1,8 +1,8 @@
 -- Quotas (RFC 2087, section 6: quota_response, quota_list, quota_resource, quotaroot_response), with any blanks between the parts.
 use Rattle.std.specs.Prelude.{ℕ, List, map}
-use Rattle.imap_bytes.specs.Text.{Text, text_of, lent_text}
-use Rattle.imap_bytes.specs.Rule.{Rule, many, gives, list0, ◌⨾◌, ◌▹◌, ◌◃◌, ◌or◌}
-use Rattle.imap_bytes.specs.Tags.{tag, word, names, blanks1}
+use Rattle.imap_grammar.specs.Text.{Text, text_of, lent_text}
+use Rattle.imap_grammar.specs.Rule.{Rule, many, gives, list0, ◌⨾◌, ◌▹◌, ◌◃◌, ◌or◌}
+use Rattle.imap_grammar.specs.Tags.{tag, word, names, blanks1}
 use Rattle.imap_bytes.specs.Numbers.{number_64}
 use Rattle.imap_bytes.specs.Texts.{astring_utf8}
 use Rattle.imap_items.specs.Copies.{IsLent}

@@ -1,8 +1,8 @@
 -- The text of messages that are gone.
 use Rattle.std.specs.Prelude.{ℕ, Bool, true, false, List, []}
-use Rattle.imap_bytes.specs.Pieces.{Pieces, ◌then◌, words, space, ranges_text}
-use Rattle.imap_bytes.specs.ReadBack.{Texts}
-use Rattle.imap_bytes.specs.Spelling.{this, in_any_case, ◌and◌, some_blanks, spells_ranges}
+use Rattle.imap_grammar.specs.Pieces.{Pieces, ◌then◌, words, space, ranges_text}
+use Rattle.imap_grammar.specs.ReadBack.{Texts}
+use Rattle.imap_grammar.specs.Spelling.{this, in_any_case, ◌and◌, some_blanks, spells_ranges}
 
 abbrev pub canonical_earlier : Bool → Pieces
 canonical_earlier true = words " (EARLIER)"

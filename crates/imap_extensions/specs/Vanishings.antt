@@ -2,8 +2,8 @@
 use Rattle.std.specs.Prelude.{ℕ, Bool, true, false, List, map}
 use Rattle.std.specs.Global.{Vec}
 use Rattle.std.specs.declared.ops.RangeInclusive.{RangeInclusive}
-use Rattle.imap_bytes.specs.Rule.{Rule, otherwise, ◌⨾◌, ◌▹◌}
-use Rattle.imap_bytes.specs.Tags.{word, names, blanks1}
+use Rattle.imap_grammar.specs.Rule.{Rule, otherwise, ◌⨾◌, ◌▹◌}
+use Rattle.imap_grammar.specs.Tags.{word, names, blanks1}
 use Rattle.imap_bytes.specs.Sets.{sequence_set, ends}
 
 abbrev pub earlier_word : Rule Bool

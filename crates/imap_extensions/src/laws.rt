@@ -1,9 +1,9 @@
 //! Laws of the rules and types of this crate, as contracts of functions that do nothing.
 
 ghost use Rattle.std.specs.Prelude.{◌≡◌, option_map};
-ghost use Rattle.imap_bytes.specs.Stable.{Stable};
-ghost use Rattle.imap_bytes.specs.Equality.{Tells, HashesAlike};
-ghost use Rattle.imap_bytes.specs.ReadBack.{Keeps, Closes, as_is};
+ghost use Rattle.imap_grammar.specs.Stable.{Stable};
+ghost use Rattle.imap_grammar.specs.Equality.{Tells, HashesAlike};
+ghost use Rattle.imap_grammar.specs.ReadBack.{Keeps, Closes, as_is};
 ghost use Rattle.imap_extensions.specs.Quotas as quotas;
 ghost use Rattle.imap_extensions.specs.Quotas.{quota_content, quota_resource_content, quota_resource_name_content, quota_root_content, lent_quota, lent_quota_root};
 ghost use Rattle.imap_extensions.specs.QuotaTexts.{canonical_quota, spells_quota, canonical_quota_root, spells_quota_root};
@@ -22,7 +22,7 @@ use crate::types::quotas::{Quota, QuotaResource, QuotaResourceName, QuotaRoot};
 use std::hash::Hash;
 
 /// Each rule has one answer, and appended bytes change neither a value nor a denial, and make what is lacking as much smaller.
-#[tactic(auto, using(imap_bytes::proofs::Stability::is_stable))]
+#[tactic(auto, using(imap_grammar::proofs::Stability::is_stable))]
 pub fn stable()
     ensures quota_resource { Stable quotas.quota_resource }
     ensures quota { Stable quotas.quota }

@@ -1,8 +1,8 @@
 -- The texts that spans name in a message.
 use Rattle.std.specs.Prelude.{ℕ, List}
-use Rattle.imap_bytes.specs.declared.at.span.Span.{Span}
-use Rattle.imap_bytes.specs.Positions.{named_in}
-use Rattle.imap_bytes.specs.Text.{Text, as_text, decoded}
+use Rattle.imap_grammar.specs.declared.at.span.Span.{Span}
+use Rattle.imap_grammar.specs.Positions.{named_in}
+use Rattle.imap_grammar.specs.Text.{Text, as_text, decoded}
 
 -- the bytes as they are: of a flag, which is UTF-8
 abbrev pub flag_in : List ℕ → Span → Text

@@ -1,12 +1,12 @@
 -- Which alternatives answer, by the first byte.
 use Rattle.std.proofs.Common.{◌≡◌, ℕ, List, None, Err, refl}
 use Rattle.std.specs.Prelude.{slice_get}
-use Rattle.imap_bytes.specs.declared.answer.Err.TheVariants.{Incomplete}
-use Rattle.imap_bytes.specs.declared.answer.Needed.TheVariants.{Unknown}
-use Rattle.imap_bytes.specs.Rule.{never}
-use Rattle.imap_bytes.specs.Step.{step}
+use Rattle.imap_grammar.specs.declared.answer.Err.TheVariants.{Incomplete}
+use Rattle.imap_grammar.specs.declared.answer.Needed.TheVariants.{Unknown}
+use Rattle.imap_grammar.specs.Rule.{never}
+use Rattle.imap_grammar.specs.Step.{step}
+use Rattle.imap_grammar.proofs.Starts.{AtNone, AtAny, AtDigit, AtOther, AtOtherThanDigits, by_none, waits_without, by_any, by_digit, by_other, by_other_than_digits}
 use Rattle.imap_bytes.specs.Numbers.{number, digits}
-use Rattle.imap_bytes.proofs.Starts.{AtNone, AtAny, AtDigit, AtOther, AtOtherThanDigits, by_none, waits_without, by_any, by_digit, by_other, by_other_than_digits}
 use Rattle.imap_items.specs.Statuses.{status}
 use Rattle.imap_data.specs.MailboxData.{flags, exists, list, lsub, status as mailbox_status, recent, search, labels, msgid, thrid, sort, mailbox_datum}
 use Rattle.imap_items.specs.Gmail.{gmail_label_list, gmail_msgid, gmail_thrid}

@@ -1,9 +1,9 @@
 -- Lines of a server (RFC 3501, section 9: response, continue-req, response-data, response-tagged).
 use Rattle.std.specs.Prelude.{ℕ, Bool, List, ◌==◌, ◌&&◌, not}
-use Rattle.imap_bytes.specs.Classes.{is_astring_char}
-use Rattle.imap_bytes.specs.Text.{Bytes}
-use Rattle.imap_bytes.specs.Rule.{Rule, run0, run1, gives, ◌⨾◌, ◌▹◌, ◌◃◌, ◌or◌}
-use Rattle.imap_bytes.specs.Tags.{tag, word, sp, maybe_space, crlf}
+use Rattle.imap_grammar.specs.Classes.{is_astring_char}
+use Rattle.imap_grammar.specs.Text.{Bytes}
+use Rattle.imap_grammar.specs.Rule.{Rule, run0, run1, gives, ◌⨾◌, ◌▹◌, ◌◃◌, ◌or◌}
+use Rattle.imap_grammar.specs.Tags.{tag, word, sp, maybe_space, crlf}
 use Rattle.imap_bytes.specs.Numbers.{number}
 use Rattle.imap_bytes.specs.Strings.{in_utf8}
 use Rattle.imap_items.specs.declared.types.statuses.Status.{Status}

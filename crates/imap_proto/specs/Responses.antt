@@ -1,7 +1,7 @@
 -- Responses as values: texts by their bytes, and whether they lie in the input.
 use Rattle.std.specs.Prelude.{◌≡◌, ℕ, Bool, List, ◌∷◌, ◌++◌, Option, option_map, map}
 use Rattle.std.specs.String.{string_bytes}
-use Rattle.imap_bytes.specs.Text.{Bytes, Text, text_of, lent_text}
+use Rattle.imap_grammar.specs.Text.{Bytes, Text, text_of, lent_text}
 use Rattle.imap_bytes.specs.Sets.{ends}
 use Rattle.imap_items.specs.declared.types.statuses.Status.{Status}
 use Rattle.imap_data.specs.Codes.{CodeValue, code_value, lent_code}

@@ -2,9 +2,9 @@
 
 ghost use Rattle.std.specs.Prelude.{◌≤◌, length, drop, map};
 ghost use Rattle.std.specs.Option.{option_map};
-ghost use Rattle.imap_bytes.specs.Positions.{ExactlyAt, GivesAt, Ahead, RestsOn};
-ghost use Rattle.imap_bytes.specs.Step.{step};
-ghost use Rattle.imap_bytes.specs.Rule.{opt};
+ghost use Rattle.imap_grammar.specs.Positions.{ExactlyAt, GivesAt, Ahead, RestsOn};
+ghost use Rattle.imap_grammar.specs.Step.{step};
+ghost use Rattle.imap_grammar.specs.Rule.{opt};
 ghost use Rattle.imap_body.specs.Envelopes as envelopes;
 ghost use Rattle.imap_body.specs.Envelopes.{spaced};
 ghost use Rattle.imap_body.specs.Spanned.{address_in, addresses_in, envelope_in};

@@ -1,11 +1,11 @@
 //! Extension data of bodies at a position.
 
 ghost use Rattle.std.specs.Prelude.{◌≡◌, ◌≤◌, length, drop, map, IfOk};
-ghost use Rattle.imap_bytes.specs.Text.{Bytes};
+ghost use Rattle.imap_grammar.specs.Text.{Bytes};
 ghost use Rattle.std.specs.Option.{option_map};
-ghost use Rattle.imap_bytes.specs.Positions.{ExactlyAt, GivesAt, Ahead, RestsOn};
-ghost use Rattle.imap_bytes.specs.Step.{step};
-ghost use Rattle.imap_bytes.specs.Rule.{opt};
+ghost use Rattle.imap_grammar.specs.Positions.{ExactlyAt, GivesAt, Ahead, RestsOn};
+ghost use Rattle.imap_grammar.specs.Step.{step};
+ghost use Rattle.imap_grammar.specs.Rule.{opt};
 ghost use Rattle.imap_bytes.specs.Texts as texts;
 ghost use Rattle.imap_body.specs.Envelopes.{spaced};
 ghost use Rattle.imap_body.specs.Fields as fields;

@@ -2,10 +2,10 @@
 
 ghost use Rattle.std.specs.Prelude.{◌≤◌, length, drop, map};
 ghost use Rattle.std.specs.Option.{option_map};
-ghost use Rattle.imap_bytes.specs.Positions.{ExactlyAt, GivesAt, Ahead, RestsOn};
-ghost use Rattle.imap_bytes.specs.Step.{step};
-ghost use Rattle.imap_bytes.specs.Rule.{opt, gives};
-ghost use Rattle.imap_bytes.specs.Tags as tags;
+ghost use Rattle.imap_grammar.specs.Positions.{ExactlyAt, GivesAt, Ahead, RestsOn};
+ghost use Rattle.imap_grammar.specs.Step.{step};
+ghost use Rattle.imap_grammar.specs.Rule.{opt, gives};
+ghost use Rattle.imap_grammar.specs.Tags as tags;
 ghost use Rattle.imap_bytes.specs.Texts as texts;
 ghost use Rattle.imap_body.specs.declared.shapes.fields.ContentEncoding.TheVariants as encoding;
 ghost use Rattle.imap_body.specs.Envelopes.{spaced};

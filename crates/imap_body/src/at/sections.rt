@@ -2,12 +2,12 @@
 
 ghost use Rattle.std.specs.Prelude.{◌≤◌, length, drop};
 ghost use Rattle.std.specs.Option.{option_map};
-ghost use Rattle.imap_bytes.specs.Positions.{ExactlyAt, GivesAt, Ahead, named_in};
-ghost use Rattle.imap_bytes.specs.Step.{step};
-ghost use Rattle.imap_bytes.specs.Rule.{opt, otherwise, ◌▹◌};
+ghost use Rattle.imap_grammar.specs.Positions.{ExactlyAt, GivesAt, Ahead, named_in};
+ghost use Rattle.imap_grammar.specs.Step.{step};
+ghost use Rattle.imap_grammar.specs.Rule.{opt, otherwise, ◌▹◌};
+ghost use Rattle.imap_grammar.specs.Tags as tags;
 ghost use Rattle.imap_bytes.specs.Strings as strings;
 ghost use Rattle.imap_bytes.specs.Numbers as numbers;
-ghost use Rattle.imap_bytes.specs.Tags as tags;
 ghost use Rattle.imap_body.specs.Sections as sections;
 ghost use Rattle.imap_body.specs.Envelopes.{spaced};
 ghost use Rattle.imap_body.specs.SectionValues.{path_value};

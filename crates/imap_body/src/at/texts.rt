@@ -1,8 +1,8 @@
 //! Strings at a position, each as a byte string or as a text to be decoded. None takes memory.
 
 ghost use Rattle.std.specs.Prelude.{◌≤◌, length, drop};
-ghost use Rattle.imap_bytes.specs.Positions.{ExactlyAt, Ahead, RestsOn};
-ghost use Rattle.imap_bytes.specs.Step.{step};
+ghost use Rattle.imap_grammar.specs.Positions.{ExactlyAt, Ahead, RestsOn};
+ghost use Rattle.imap_grammar.specs.Step.{step};
 ghost use Rattle.imap_bytes.specs.Numbers as numbers;
 ghost use Rattle.imap_bytes.specs.Texts as texts;
 ghost use Rattle.imap_body.specs.Envelopes as envelopes;

@@ -1,7 +1,7 @@
 //! Changes of texts.
 
 ghost use Rattle.std.specs.Prelude.{◌≡◌, IfOk};
-ghost use Rattle.imap_bytes.specs.Text.{Text};
+ghost use Rattle.imap_grammar.specs.Text.{Text};
 
 use std::alloc::AllocError;
 

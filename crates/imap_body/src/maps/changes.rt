@@ -1,7 +1,7 @@
 //! The changes of texts: a copy, one with all texts owned, and what spans name in a message.
 
 ghost use Rattle.std.specs.Prelude.{◌≡◌, IfOk, false};
-ghost use Rattle.imap_bytes.specs.Text.{text_of};
+ghost use Rattle.imap_grammar.specs.Text.{text_of};
 ghost use Rattle.imap_body.specs.Spans.{bytes_of, bytes_owned, text_owned, bytes_in, text_in};
 
 use super::change::Change;

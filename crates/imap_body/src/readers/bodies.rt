@@ -1,8 +1,8 @@
 //! Structures of bodies.
 
-ghost use Rattle.imap_bytes.specs.Answer.{Answers, Gives};
-ghost use Rattle.imap_bytes.specs.Step.{step};
-ghost use Rattle.imap_bytes.specs.Text.{text_of};
+ghost use Rattle.imap_grammar.specs.Answer.{Answers, Gives};
+ghost use Rattle.imap_grammar.specs.Step.{step};
+ghost use Rattle.imap_grammar.specs.Text.{text_of};
 ghost use Rattle.imap_body.specs.Bodies as bodies;
 ghost use Rattle.imap_body.specs.BodyValues.{body_seen};
 ghost use Rattle.imap_body.specs.Spans.{bytes_of};
@@ -16,7 +16,7 @@ use std::alloc::Global;
 /// The structure of a body: a text, a message, another single part, or several parts (RFC 3501, section 9: body).
 ///
 /// A body inside `MAX_BODY_DEPTH` others is `Error`. It takes memory for the tree, and for texts that are no UTF-8.
-#[tactic(auto, using(imap_bytes::proofs::Agreement::answered))]
+#[tactic(auto, using(imap_grammar::proofs::Agreement::answered))]
 pub fn body_structure(alloc: Global, i: &[u8]) -> IResult<&[u8], BodyStructure<'_>>
     ensures steps { Gives (λ x. body_seen text_of bytes_of x) result (step bodies.body_structure i.now) }
     ensures answer { Answers bodies.body_structure (λ x. body_seen text_of bytes_of x) i.now result }

@@ -1,7 +1,7 @@
 //! Envelopes.
 
-ghost use Rattle.imap_bytes.specs.Answer.{Answers, Gives};
-ghost use Rattle.imap_bytes.specs.Step.{step};
+ghost use Rattle.imap_grammar.specs.Answer.{Answers, Gives};
+ghost use Rattle.imap_grammar.specs.Step.{step};
 ghost use Rattle.imap_body.specs.Envelopes as envelopes;
 ghost use Rattle.imap_body.specs.EnvelopeValues.{address_seen, envelope_seen};
 ghost use Rattle.imap_body.specs.Spans.{bytes_of};
@@ -13,7 +13,7 @@ use imap_bytes::at::span::rest;
 use std::alloc::Global;
 
 /// An address: four nstrings in parentheses (RFC 3501, section 9: address). Its byte strings are borrowed.
-#[tactic(auto, using(imap_bytes::proofs::Agreement::answered))]
+#[tactic(auto, using(imap_grammar::proofs::Agreement::answered))]
 pub fn address(i: &[u8]) -> IResult<&[u8], Address<'_>>
     ensures steps { Gives (λ x. address_seen bytes_of x) result (step envelopes.address i.now) }
     ensures answer { Answers envelopes.address (λ x. address_seen bytes_of x) i.now result }
@@ -25,7 +25,7 @@ pub fn address(i: &[u8]) -> IResult<&[u8], Address<'_>>
 /// An envelope: its ten fields in parentheses (RFC 3501, section 9: envelope). Its byte strings are borrowed.
 ///
 /// It takes memory for the lists of addresses.
-#[tactic(auto, using(imap_bytes::proofs::Agreement::answered))]
+#[tactic(auto, using(imap_grammar::proofs::Agreement::answered))]
 pub fn envelope(alloc: Global, i: &[u8]) -> IResult<&[u8], Envelope<'_>>
     ensures steps { Gives (λ x. envelope_seen bytes_of x) result (step envelopes.envelope i.now) }
     ensures answer { Answers envelopes.envelope (λ x. envelope_seen bytes_of x) i.now result }

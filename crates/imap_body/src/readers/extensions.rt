@@ -1,8 +1,8 @@
 //! Extension data of bodies.
 
-ghost use Rattle.imap_bytes.specs.Answer.{Answers, Gives};
-ghost use Rattle.imap_bytes.specs.Step.{step};
-ghost use Rattle.imap_bytes.specs.Text.{text_of};
+ghost use Rattle.imap_grammar.specs.Answer.{Answers, Gives};
+ghost use Rattle.imap_grammar.specs.Step.{step};
+ghost use Rattle.imap_grammar.specs.Text.{text_of};
 ghost use Rattle.imap_body.specs.Extensions as extensions;
 ghost use Rattle.imap_body.specs.ExtensionValues.{extension_seen};
 
@@ -15,7 +15,7 @@ use std::alloc::Global;
 /// A number, an nstring, or a list of such (RFC 3501, section 9: body-extension).
 ///
 /// A list inside `MAX_EXTENSION_DEPTH` others is `Error`. It takes memory for lists, and for texts that are no UTF-8.
-#[tactic(auto, using(imap_bytes::proofs::Agreement::answered))]
+#[tactic(auto, using(imap_grammar::proofs::Agreement::answered))]
 pub fn body_extension(alloc: Global, i: &[u8]) -> IResult<&[u8], BodyExtension<'_>>
     ensures steps { Gives (λ x. extension_seen text_of x) result (step extensions.body_extension i.now) }
     ensures answer { Answers extensions.body_extension (λ x. extension_seen text_of x) i.now result }

@@ -1,8 +1,8 @@
 //! Fields of bodies.
 
-ghost use Rattle.imap_bytes.specs.Answer.{Answers, Gives};
-ghost use Rattle.imap_bytes.specs.Step.{step};
-ghost use Rattle.imap_bytes.specs.Text.{text_of};
+ghost use Rattle.imap_grammar.specs.Answer.{Answers, Gives};
+ghost use Rattle.imap_grammar.specs.Step.{step};
+ghost use Rattle.imap_grammar.specs.Text.{text_of};
 ghost use Rattle.imap_body.specs.Fields as fields;
 ghost use Rattle.imap_body.specs.FieldValues.{fields_seen};
 
@@ -15,7 +15,7 @@ use std::alloc::Global;
 /// The fields of a single part: parameters, id, description, encoding and octets (RFC 3501, section 9: body-fields).
 ///
 /// It takes memory for the parameters, and for texts that are no UTF-8.
-#[tactic(auto, using(imap_bytes::proofs::Agreement::answered))]
+#[tactic(auto, using(imap_grammar::proofs::Agreement::answered))]
 pub fn body_fields(alloc: Global, i: &[u8]) -> IResult<&[u8], BodyFields<'_>>
     ensures steps { Gives (λ x. fields_seen text_of x) result (step fields.body_fields i.now) }
     ensures answer { Answers fields.body_fields (λ x. fields_seen text_of x) i.now result }

@@ -1,8 +1,8 @@
 //! Access control lists.
 
 ghost use Rattle.std.specs.Prelude.{◌≡◌, map, IfOk};
-ghost use Rattle.imap_bytes.specs.Answer.{Answers, Gives};
-ghost use Rattle.imap_bytes.specs.Step.{step};
+ghost use Rattle.imap_grammar.specs.Answer.{Answers, Gives};
+ghost use Rattle.imap_grammar.specs.Step.{step};
 ghost use Rattle.imap_items.specs.Rights as letters;
 ghost use Rattle.imap_extensions.specs.Acls as rules;
 ghost use Rattle.imap_extensions.specs.Acls.{acl_entry_value, acl_value, list_rights_value, my_rights_value};
@@ -39,7 +39,7 @@ fn acl_entries(alloc: Global, i: &[u8]) -> IResult<&[u8], Vec<AclEntry<'_>>>
 /// The rights of each identifier on a mailbox, maybe of none (RFC 4314, section 3.6: ACL).
 ///
 /// It takes memory for them, and for texts that are no UTF-8.
-#[tactic(auto, using(imap_bytes::proofs::Agreement::answered), unfolding(crate::specs::Acls::acl))]
+#[tactic(auto, using(imap_grammar::proofs::Agreement::answered), unfolding(crate::specs::Acls::acl))]
 pub fn acl(alloc: Global, i: &[u8]) -> IResult<&[u8], Acl<'_>>
     ensures steps { Gives (λ x. acl_value x) result (step rules.acl i.now) }
     ensures answer { Answers rules.acl (λ x. acl_value x) i.now result }
@@ -106,7 +106,7 @@ fn list_rights_parts(alloc: Global, i: &[u8]) -> IResult<&[u8], ListRights<'_>>
 /// The rights that an identifier always has on a mailbox, and those that it may be granted, in order (RFC 4314, section 3.7: LISTRIGHTS).
 ///
 /// It takes memory for them, and for texts that are no UTF-8.
-#[tactic(auto, using(imap_bytes::proofs::Agreement::answered))]
+#[tactic(auto, using(imap_grammar::proofs::Agreement::answered))]
 pub fn list_rights(alloc: Global, i: &[u8]) -> IResult<&[u8], ListRights<'_>>
     ensures steps { Gives (λ x. list_rights_value x) result (step rules.list_rights i.now) }
     ensures answer { Answers rules.list_rights (λ x. list_rights_value x) i.now result }
@@ -129,7 +129,7 @@ fn my_rights_parts(alloc: Global, i: &[u8]) -> IResult<&[u8], MyRights<'_>>
 /// The client's own rights on a mailbox (RFC 4314, section 3.8: MYRIGHTS).
 ///
 /// It takes memory for them, and for a mailbox that is no UTF-8.
-#[tactic(auto, using(imap_bytes::proofs::Agreement::answered))]
+#[tactic(auto, using(imap_grammar::proofs::Agreement::answered))]
 pub fn my_rights(alloc: Global, i: &[u8]) -> IResult<&[u8], MyRights<'_>>
     ensures steps { Gives (λ x. my_rights_value x) result (step rules.my_rights i.now) }
     ensures answer { Answers rules.my_rights (λ x. my_rights_value x) i.now result }

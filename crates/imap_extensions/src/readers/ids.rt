@@ -3,9 +3,9 @@
 ghost use Rattle.std.specs.Prelude.{◌≡◌, option_map, map, IfOk, OnOk};
 ghost use Rattle.std.specs.FinMap.{insert};
 ghost use Rattle.std.specs.Cow.{cow_str_bytes};
-ghost use Rattle.imap_bytes.specs.Answer.{Answers, Gives};
-ghost use Rattle.imap_bytes.specs.Step.{step};
-ghost use Rattle.imap_bytes.specs.Text.{text_of};
+ghost use Rattle.imap_grammar.specs.Answer.{Answers, Gives};
+ghost use Rattle.imap_grammar.specs.Step.{step};
+ghost use Rattle.imap_grammar.specs.Text.{text_of};
 ghost use Rattle.imap_extensions.specs.Ids as ids;
 ghost use Rattle.imap_extensions.specs.Ids.{id_value, pair_value, map_of_pairs};
 
@@ -92,7 +92,7 @@ fn id_params(alloc: Global, i: &[u8]) -> IResult<&[u8], Option<IdMap<'_>>>
 ///
 /// A field whose value is `NIL` is left out, and of equal fields the last counts. `NIL` in place of the list is `None`.
 /// It takes memory for the map, and for texts that are no UTF-8.
-#[tactic(auto, using(imap_bytes::proofs::Agreement::answered), unfolding(crate::specs::Ids::id))]
+#[tactic(auto, using(imap_grammar::proofs::Agreement::answered), unfolding(crate::specs::Ids::id))]
 pub fn id(alloc: Global, i: &[u8]) -> IResult<&[u8], Option<IdMap<'_>>>
     ensures steps { Gives (option_map id_value) result (step ids.id i.now) }
     ensures answer { Answers ids.id (option_map id_value) i.now result }

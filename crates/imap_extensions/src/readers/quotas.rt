@@ -1,9 +1,9 @@
 //! Quotas.
 
 ghost use Rattle.std.specs.Prelude.{map};
-ghost use Rattle.imap_bytes.specs.Answer.{Answers, Gives};
-ghost use Rattle.imap_bytes.specs.Step.{step};
-ghost use Rattle.imap_bytes.specs.Text.{text_of};
+ghost use Rattle.imap_grammar.specs.Answer.{Answers, Gives};
+ghost use Rattle.imap_grammar.specs.Step.{step};
+ghost use Rattle.imap_grammar.specs.Text.{text_of};
 ghost use Rattle.imap_extensions.specs.Quotas as quotas;
 ghost use Rattle.imap_extensions.specs.Quotas.{quota_resource_name_value, quota_resource_value, quota_value, quota_root_value};
 
@@ -76,7 +76,7 @@ fn quota_parts(alloc: Global, i: &[u8]) -> IResult<&[u8], Quota<'_>>
 /// `QUOTA`, a quota root, and its resources, maybe none (RFC 2087, section 5.1: QUOTA).
 ///
 /// A usage or limit past 64 bits is `Error`. It takes memory for the resources, and for texts that are no UTF-8.
-#[tactic(auto, using(imap_bytes::proofs::Agreement::answered))]
+#[tactic(auto, using(imap_grammar::proofs::Agreement::answered))]
 pub fn quota(alloc: Global, i: &[u8]) -> IResult<&[u8], Quota<'_>>
     ensures steps { Gives (λ x. quota_value x) result (step quotas.quota i.now) }
     ensures answer { Answers quotas.quota (λ x. quota_value x) i.now result }
@@ -121,7 +121,7 @@ fn quota_root_parts(alloc: Global, i: &[u8]) -> IResult<&[u8], QuotaRoot<'_>>
 /// `QUOTAROOT`, a mailbox, and its quota roots, maybe none (RFC 2087, section 5.2: QUOTAROOT).
 ///
 /// It takes memory for the roots, and for texts that are no UTF-8.
-#[tactic(auto, using(imap_bytes::proofs::Agreement::answered))]
+#[tactic(auto, using(imap_grammar::proofs::Agreement::answered))]
 pub fn quota_root(alloc: Global, i: &[u8]) -> IResult<&[u8], QuotaRoot<'_>>
     ensures steps { Gives (λ x. quota_root_value x) result (step quotas.quota_root i.now) }
     ensures answer { Answers quotas.quota_root (λ x. quota_root_value x) i.now result }

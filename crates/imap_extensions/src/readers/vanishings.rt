@@ -1,7 +1,7 @@
 //! Messages that are gone.
 
-ghost use Rattle.imap_bytes.specs.Answer.{Answers, Exactly, Gives};
-ghost use Rattle.imap_bytes.specs.Step.{step};
+ghost use Rattle.imap_grammar.specs.Answer.{Answers, Exactly, Gives};
+ghost use Rattle.imap_grammar.specs.Step.{step};
 ghost use Rattle.imap_extensions.specs.Vanishings as vanishings;
 ghost use Rattle.imap_extensions.specs.Vanishings.{vanished_value};
 
@@ -40,7 +40,7 @@ fn vanished_parts(alloc: Global, i: &[u8]) -> IResult<&[u8], (bool, Vec<RangeInc
 /// `VANISHED`, maybe `(EARLIER)`, and the unique identifiers of messages that are gone (RFC 7162, section 3.2.10).
 ///
 /// Whether `(EARLIER)` stands there, and the ranges as they are written. It takes memory for the ranges.
-#[tactic(auto, using(imap_bytes::proofs::Agreement::answered))]
+#[tactic(auto, using(imap_grammar::proofs::Agreement::answered))]
 pub fn vanished(alloc: Global, i: &[u8]) -> IResult<&[u8], (bool, Vec<RangeInclusive<u32>>)>
     ensures steps { Gives vanished_value result (step vanishings.vanished i.now) }
     ensures answer { Answers vanishings.vanished vanished_value i.now result }

@@ -1,5 +1,5 @@
 use Rattle.std.proofs.Common.{◌≡◌, ◌++◌, ◌+◌, map, drop}
-use Rattle.imap_bytes.specs.Text.{text_of}
+use Rattle.imap_grammar.specs.Text.{text_of}
 use Rattle.imap_body.specs.Spans.{bytes_of}
 use Rattle.imap_body.specs.BodyValues.{bodies_of, body_seen}
 use Rattle.imap_body.specs.Search.{visited, visited_from, too_many, too_many_in, part_seen}

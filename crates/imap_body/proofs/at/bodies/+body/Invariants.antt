@@ -1,7 +1,7 @@
 use Rattle.std.proofs.Common.{drop, length, map, ◌≤◌, ◌-◌, ◌+◌, ◌*◌}
-use Rattle.imap_bytes.specs.Rule.{some1}
-use Rattle.imap_bytes.specs.Step.{step}
-use Rattle.imap_bytes.specs.Positions.{Rests}
+use Rattle.imap_grammar.specs.Rule.{some1}
+use Rattle.imap_grammar.specs.Step.{step}
+use Rattle.imap_grammar.specs.Positions.{Rests}
 use Rattle.imap_body.specs.Bodies.{body}
 use Rattle.imap_body.specs.Spanned.{body_in}
 use Rattle.imap_body.proofs.Gathering.{Gathered}

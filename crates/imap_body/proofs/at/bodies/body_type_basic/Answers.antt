@@ -1,5 +1,5 @@
 use Rattle.std.proofs.Common.{arith, ◌≤◌}
-use Rattle.imap_bytes.proofs.Positions.{rests_more}
+use Rattle.imap_grammar.proofs.Positions.{rests_more}
 use Rattle.imap_body.proofs.Reading.{basic_rests, basic_reads}
 use Rattle.imap_body.proofs.at.bodies.body_type_basic.Goals as goal
 

@@ -1,5 +1,5 @@
 use Rattle.std.proofs.Common.{refl, arith}
-use Rattle.imap_bytes.proofs.Positions.{rests_more}
+use Rattle.imap_grammar.proofs.Positions.{rests_more}
 use Rattle.imap_body.specs.Spanned.{address_in}
 use Rattle.imap_body.proofs.Naming.{listed_rest}
 use Rattle.imap_body.proofs.at.envelopes.addresses.Goals as goal

@@ -1,5 +1,5 @@
 use Rattle.std.proofs.Common.{refl, arith, ◌≤◌}
-use Rattle.imap_bytes.proofs.Positions.{rests_more}
+use Rattle.imap_grammar.proofs.Positions.{rests_more}
 use Rattle.imap_body.specs.EnvelopeValues.{envelope_seen}
 use Rattle.imap_body.proofs.at.envelopes.envelope.Goals as goal
 

@@ -1,6 +1,6 @@
 use Rattle.std.proofs.Common.{refl, arith, ◌<◌}
 use Rattle.std.proofs.lemmas.Result.{err_from_is_err_and}
-use Rattle.imap_bytes.proofs.Agreement.{stops}
+use Rattle.imap_grammar.proofs.Agreement.{stops}
 use Rattle.imap_body.specs.Envelopes.{address, listed_address, some_addresses}
 use Rattle.imap_body.specs.Spanned.{address_in}
 use Rattle.imap_body.proofs.Naming.{itself_rests}

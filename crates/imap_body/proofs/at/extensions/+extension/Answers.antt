@@ -1,7 +1,7 @@
 use Rattle.std.proofs.Common.{refl, sym, subst, drop, arith, ◌<◌}
 use Rattle.std.proofs.lemmas.Result.{err_from_is_err_and}
-use Rattle.imap_bytes.specs.Positions.{GivesAt}
-use Rattle.imap_bytes.proofs.Positions.{rests_more}
+use Rattle.imap_grammar.specs.Positions.{GivesAt}
+use Rattle.imap_grammar.proofs.Positions.{rests_more}
 use Rattle.imap_body.specs.Envelopes.{spaced}
 use Rattle.imap_body.specs.Extensions.{extension_over, some_extensions, extension_list}
 use Rattle.imap_body.specs.Spanned.{extension_in}

@@ -1,5 +1,5 @@
 use Rattle.std.proofs.Common.{refl, arith, ◌≤◌}
-use Rattle.imap_bytes.proofs.Positions.{rests_more}
+use Rattle.imap_grammar.proofs.Positions.{rests_more}
 use Rattle.imap_body.specs.ExtensionValues.{ext_1part_seen}
 use Rattle.imap_body.proofs.at.extensions.body_ext_1part.Goals as goal
 

@@ -1,5 +1,5 @@
 use Rattle.std.proofs.Common.{refl, arith, ◌≤◌}
-use Rattle.imap_bytes.proofs.Positions.{rests_more}
+use Rattle.imap_grammar.proofs.Positions.{rests_more}
 use Rattle.imap_body.proofs.at.extensions.body_fld_dsp.Goals as goal
 
 pub returns-in-Ok-clause-rests : goal.returns-in-Ok-clause-rests

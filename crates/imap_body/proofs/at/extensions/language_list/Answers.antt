@@ -1,5 +1,5 @@
 use Rattle.std.proofs.Common.{arith}
-use Rattle.imap_bytes.proofs.Positions.{rests_more}
+use Rattle.imap_grammar.proofs.Positions.{rests_more}
 use Rattle.imap_body.specs.Spans.{text_in}
 use Rattle.imap_body.proofs.Naming.{listed_rest}
 use Rattle.imap_body.proofs.at.extensions.language_list.Goals as goal

@@ -1,9 +1,9 @@
 use Rattle.std.proofs.Common.{drop, length, map, ◌≤◌, ◌-◌}
-use Rattle.imap_bytes.specs.Rule.{list1}
-use Rattle.imap_bytes.specs.Tags.{sp}
+use Rattle.imap_grammar.specs.Rule.{list1}
+use Rattle.imap_grammar.specs.Tags.{sp}
 use Rattle.imap_body.specs.Envelopes.{spaced}
-use Rattle.imap_bytes.specs.Step.{step}
-use Rattle.imap_bytes.specs.Positions.{Rests}
+use Rattle.imap_grammar.specs.Step.{step}
+use Rattle.imap_grammar.specs.Positions.{Rests}
 use Rattle.imap_bytes.specs.Texts.{string_utf8}
 use Rattle.imap_body.specs.Spans.{text_in}
 use Rattle.imap_body.proofs.Gathering.{Gathered}

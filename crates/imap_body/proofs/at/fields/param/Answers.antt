@@ -1,5 +1,5 @@
 use Rattle.std.proofs.Common.{refl}
-use Rattle.imap_bytes.proofs.Positions.{rests_more}
+use Rattle.imap_grammar.proofs.Positions.{rests_more}
 use Rattle.imap_body.proofs.at.fields.param.Goals as goal
 
 pub returns-clause-rests : goal.returns-clause-rests

@@ -1,8 +1,8 @@
 use Rattle.std.proofs.Common.{drop, length, List, ◌≤◌, ◌-◌}
-use Rattle.imap_bytes.specs.Rule.{list1}
-use Rattle.imap_bytes.specs.Step.{step}
-use Rattle.imap_bytes.specs.Tags.{sp}
-use Rattle.imap_bytes.specs.Text.{Bytes}
+use Rattle.imap_grammar.specs.Rule.{list1}
+use Rattle.imap_grammar.specs.Step.{step}
+use Rattle.imap_grammar.specs.Tags.{sp}
+use Rattle.imap_grammar.specs.Text.{Bytes}
 use Rattle.imap_bytes.specs.Strings.{astring}
 use Rattle.imap_body.specs.Envelopes.{spaced}
 use Rattle.imap_body.proofs.Gathering.{Gathered}

@@ -1,7 +1,7 @@
 use Rattle.std.proofs.Common.{rules, refl}
-use Rattle.imap_bytes.specs.declared.lists.Separator.TheVariants.{Blanks}
-use Rattle.imap_bytes.proofs.Under.{kept_shortens, kept_at}
-use Rattle.imap_bytes.proofs.Callers.{maybe_separated_read}
+use Rattle.imap_grammar.specs.declared.lists.Separator.TheVariants.{Blanks}
+use Rattle.imap_grammar.proofs.Under.{kept_shortens, kept_at}
+use Rattle.imap_grammar.proofs.Callers.{maybe_separated_read}
 use Rattle.imap_extensions.proofs.Takes.{acl_entry_takes}
 use Rattle.imap_extensions.specs.Acls.{acl_entry, acl_entries, acl_entry_value}
 use Rattle.imap_extensions.proofs.readers.acls.acl_entries.Goals as goal

@@ -1,7 +1,7 @@
 use Rattle.std.proofs.Common.{rules, refl}
-use Rattle.imap_bytes.specs.declared.lists.Separator.TheVariants.{Blanks}
-use Rattle.imap_bytes.proofs.Under.{kept_shortens, kept_at}
-use Rattle.imap_bytes.proofs.Callers.{separated_read}
+use Rattle.imap_grammar.specs.declared.lists.Separator.TheVariants.{Blanks}
+use Rattle.imap_grammar.proofs.Under.{kept_shortens, kept_at}
+use Rattle.imap_grammar.proofs.Callers.{separated_read}
 use Rattle.imap_extensions.proofs.Takes.{id_pair_takes}
 use Rattle.imap_extensions.specs.Ids.{id_pair, id_pairs}
 use Rattle.imap_extensions.specs.Ids.{pair_value}

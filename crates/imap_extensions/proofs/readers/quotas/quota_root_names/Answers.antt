@@ -1,7 +1,7 @@
 use Rattle.std.proofs.Common.{rules, refl}
-use Rattle.imap_bytes.specs.Text.{text_of}
-use Rattle.imap_bytes.proofs.Under.{kept_shortens, kept_at}
-use Rattle.imap_bytes.proofs.Callers.{many_read}
+use Rattle.imap_grammar.specs.Text.{text_of}
+use Rattle.imap_grammar.proofs.Under.{kept_shortens, kept_at}
+use Rattle.imap_grammar.proofs.Callers.{many_read}
 use Rattle.imap_extensions.proofs.Takes.{quota_root_name_takes}
 use Rattle.imap_extensions.specs.Quotas.{quota_root_name, quota_root_names}
 use Rattle.imap_extensions.proofs.readers.quotas.quota_root_names.Goals as goal
