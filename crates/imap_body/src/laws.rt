@@ -1,4 +1,4 @@
-//! Laws of the rules of this crate, as contracts of functions that do nothing.
+//! Laws of the rules of this crate and of `imap_structure`, as contracts of functions that do nothing.
 
 ghost use Rattle.std.specs.Prelude.{ℕ};
 ghost use Rattle.imap_grammar.specs.Stable.{Stable};

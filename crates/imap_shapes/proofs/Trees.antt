@@ -2,9 +2,9 @@
 use Rattle.std.proofs.Common.{◌≡◌, ℕ, zero, suc, ◌+◌, ◌<◌, ◌≤◌, arith, List, [], ◌∷◌, length, get_or, sym, ap, ◌∙◌, map, Vec, Box, Global, Option}
 use Rattle.std.specs.Option.{option_map}
 use Rattle.imap_grammar.specs.Text.{Text, as_text}
-use Rattle.imap_shapes.specs.EnvelopeValues.{EnvelopeValue, envelope_seen}
-use Rattle.imap_shapes.specs.ExtensionValues.{ExtensionValue, Num, Str, Listed, extensions_of, extension_step, extension_seen}
-use Rattle.imap_shapes.specs.BodyValues.{CommonValue, SingleValue, BodyValue, Basic, TextBody, Message, Multipart, Bodies, no_bodies, one_body, bodies_of, common_seen, single_seen, body_step, body_seen}
+use Rattle.imap_shapes.specs.EnvelopeValues.{envelope_seen}
+use Rattle.imap_shapes.specs.ExtensionValues.{ExtensionValue, Listed, extensions_of, extension_step, extension_seen}
+use Rattle.imap_shapes.specs.BodyValues.{BodyValue, Basic, TextBody, Message, Multipart, Bodies, no_bodies, one_body, bodies_of, common_seen, single_seen, body_step, body_seen}
 use Rattle.imap_shapes.specs.declared.shapes.extensions.BodyExtension.{BodyExtension}
 use Rattle.imap_shapes.specs.declared.shapes.extensions.BodyExtension.TheVariants as extension
 use Rattle.imap_shapes.specs.declared.shapes.extensions.BodyExtension.TheOpen as extension_layer

@@ -1,5 +1,5 @@
 -- What a search goes over.
-use Rattle.std.proofs.Common.{◌≡◌, ℕ, List, [], ◌∷◌, ◌++◌, refl, sym, ap, ◌∙◌, subst, map, Vec, Global, Bool, true, false, ◌||◌, nat_lt, Option, Some, drop, inl, inr, ◌+◌, ◌<◌, suc, length, get_or, arith}
+use Rattle.std.proofs.Common.{◌≡◌, ℕ, List, [], ◌∷◌, refl, sym, ap, ◌∙◌, subst, map, Vec, Global, Bool, true, false, ◌||◌, nat_lt, Option, Some, drop, inl, inr, ◌+◌, ◌<◌, suc, length, get_or, arith}
 use Rattle.std.proofs.Math.Seq.{drop-cons}
 use Rattle.std.proofs.lemmas.Bool.{lt-ltb}
 use Rattle.std.specs.declared.borrow.CowStr.{CowStr}

@@ -1,5 +1,5 @@
 -- Part search: the bodies inside a body, by their paths (RFC 3501, section 6.4.5: part numbers).
-use Rattle.std.specs.Prelude.{◌≡◌, ◌⊎◌, ℕ, zero, suc, ◌+◌, List, [], ◌∷◌, ◌++◌, Option, None, Some, Bool, true, false, ◌||◌, nat_lt}
+use Rattle.std.specs.Prelude.{◌≡◌, ◌⊎◌, ℕ, suc, ◌+◌, List, [], ◌∷◌, ◌++◌, Option, None, Some, Bool, true, false, ◌||◌, nat_lt}
 use Rattle.imap_grammar.specs.Text.{text_of}
 use Rattle.imap_shapes.specs.Spans.{bytes_of}
 use Rattle.imap_shapes.specs.BodyValues.{BodyValue, Basic, TextBody, Message, Multipart, Bodies, no_bodies, one_body, body_seen}

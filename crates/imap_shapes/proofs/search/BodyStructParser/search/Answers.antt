@@ -1,4 +1,4 @@
-use Rattle.std.proofs.Common.{◌≡◌, refl, subst, ap, Some, Bool, true, false}
+use Rattle.std.proofs.Common.{refl, subst, ap, Some}
 use Rattle.std.specs.Fn.{FnReturnsAt}
 use Rattle.imap_shapes.specs.declared.search.Part.{Part}
 use Rattle.imap_shapes.proofs.Visits.{found_here, found_later}

@@ -1,4 +1,4 @@
-use Rattle.std.proofs.Common.{◌≡◌, map, take, ◌∙◌, sym, ap}
+use Rattle.std.proofs.Common.{map, ◌∙◌, sym, ap}
 use Rattle.imap_shapes.specs.ExtensionValues.{Listed, extensions_of, extension_seen}
 use Rattle.imap_shapes.proofs.Lists.{mapped_further, mapped_whole}
 use Rattle.imap_shapes.proofs.Trees.{extension_list_seen}
