@@ -12,10 +12,10 @@ use Rattle.imap_data.specs.MailboxData.{flags, exists, list, lsub, status as mai
 use Rattle.imap_items.specs.Gmail.{gmail_label_list, gmail_msgid, gmail_thrid}
 use Rattle.imap_items.specs.Capabilities.{capability_data, enabled_data}
 use Rattle.imap_data.specs.Annotations.{metadata_solicited, metadata_unsolicited, metadata_mailbox}
-use Rattle.imap_data.specs.Vanishings.{vanished}
-use Rattle.imap_data.specs.Quotas.{quota, quota_root}
-use Rattle.imap_data.specs.Ids.{id}
-use Rattle.imap_data.specs.Acls.{acl, list_rights, my_rights}
+use Rattle.imap_extensions.specs.Vanishings.{vanished}
+use Rattle.imap_extensions.specs.Quotas.{quota, quota_root}
+use Rattle.imap_extensions.specs.Ids.{id}
+use Rattle.imap_extensions.specs.Acls.{acl, list_rights, my_rights}
 use Rattle.imap_proto.specs.Lines.{continuation, data_line, request_tag, tagged, response, datum, state_datum, extension_datum, status_data, expunge, vanished_data, ended_datum, status_line, numbered_line, mailbox_line, list_line, capability_line, enabled_line, annotation_line, vanished_line, quota_line, id_line, acl_line}
 
 -- ---- responses

@@ -11,10 +11,10 @@ use Rattle.imap_items.specs.Statuses.{status}
 use Rattle.imap_items.specs.Capabilities.{capability_data, enabled_data}
 use Rattle.imap_data.specs.MailboxData.{mailbox_datum, exists, recent}
 use Rattle.imap_data.specs.Annotations.{metadata_solicited, metadata_unsolicited}
-use Rattle.imap_data.specs.Vanishings.{vanished}
-use Rattle.imap_data.specs.Quotas.{quota, quota_root}
-use Rattle.imap_data.specs.Ids.{id}
-use Rattle.imap_data.specs.Acls.{acl, list_rights, my_rights}
+use Rattle.imap_extensions.specs.Vanishings.{vanished}
+use Rattle.imap_extensions.specs.Quotas.{quota, quota_root}
+use Rattle.imap_extensions.specs.Ids.{id}
+use Rattle.imap_extensions.specs.Acls.{acl, list_rights, my_rights}
 use Rattle.imap_proto.specs.Responses.{OutcomeValue, ResponseValue, Capabilities, Continue, Done, Data, Expunge, Vanished, MailboxData, Quota, QuotaRoot, Id, Acl, ListRights, MyRights}
 use Rattle.imap_proto.specs.Outcomes.{outcome, spaced_outcome}
 

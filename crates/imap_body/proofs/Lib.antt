@@ -1,8 +1,0 @@
-pub mod Lists
-pub mod Trees
-pub mod Visits
-pub mod Naming
-pub mod Gathering
-pub mod Seeing
-pub mod Levels
-pub mod Reading
