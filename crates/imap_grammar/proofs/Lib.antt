@@ -26,3 +26,5 @@ pub mod Reading
 pub mod ReadingWords
 pub mod ReadingLists
 pub mod Spelling
+pub mod ReadingChoices
+pub mod ReadingIf
