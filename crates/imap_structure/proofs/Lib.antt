@@ -3,3 +3,4 @@ pub mod Gathering
 pub mod Seeing
 pub mod Levels
 pub mod Reading
+pub mod FirstBytes
