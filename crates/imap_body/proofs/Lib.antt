@@ -1,1 +1,2 @@
 pub mod SectionTexts
+pub mod FirstBytes
