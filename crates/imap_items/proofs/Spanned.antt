@@ -36,7 +36,7 @@ unfolding meaning
 exactly_read k m rest v is = exact k v ((agrees (tag_by ◌==◌ k) m).yielded v rest is).1
 
 -- decoding what is UTF-8 changes nothing
-utf8_decoded : (a : Rule Bytes) (m rest v : Bytes) → Yields (λ b. is_utf8 b ≡ true) a → step a m ≡ Ok (rest, v) → step (gives as_text a) m ≡ Ok (rest, decoded v)
+pub utf8_decoded : (a : Rule Bytes) (m rest v : Bytes) → Yields (λ b. is_utf8 b ≡ true) a → step a m ≡ Ok (rest, v) → step (gives as_text a) m ≡ Ok (rest, decoded v)
 unfolding read
 utf8_decoded a m rest v utf8 is =
     let whole = utf8.each m v rest ((agrees a m).yielded v rest is) in

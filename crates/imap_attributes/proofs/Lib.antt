@@ -1,0 +1,4 @@
+pub mod Resting
+pub mod Factoring
+pub mod FirstBytes
+pub mod Standing

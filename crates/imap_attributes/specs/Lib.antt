@@ -1,0 +1,3 @@
+pub mod AttributeValues
+pub mod Attributes
+pub mod SpannedAttributes
