@@ -1,8 +1,4 @@
-pub mod Lists
-pub mod Trees
-pub mod Visits
-pub mod Naming
-pub mod Gathering
-pub mod Seeing
-pub mod Levels
-pub mod Reading
+pub mod Resting
+pub mod Factoring
+pub mod FirstBytes
+pub mod Standing

@@ -1,13 +1,5 @@
-pub mod Spans
-pub mod EnvelopeValues
-pub mod FieldValues
-pub mod ExtensionValues
-pub mod BodyValues
 pub mod SectionValues
-pub mod Search
 pub mod Sections
-pub mod Envelopes
-pub mod Fields
-pub mod Extensions
-pub mod Bodies
-pub mod Spanned
+pub mod AttributeValues
+pub mod Attributes
+pub mod SpannedAttributes

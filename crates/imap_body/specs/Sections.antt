@@ -1,8 +1,8 @@
 -- Sections of a message (RFC 3501, section 9: section, section-spec, section-part, section-text, section-msgtext, header-list).
 use Rattle.std.specs.Prelude.{ℕ, List, Option}
-use Rattle.imap_bytes.specs.Text.{Bytes}
-use Rattle.imap_bytes.specs.Rule.{Rule, gives, nothing, opt, otherwise, dropped, list1, ◌⨾◌, ◌▹◌, ◌◃◌, ◌or◌}
-use Rattle.imap_bytes.specs.Tags.{tag, word, names, sp}
+use Rattle.imap_grammar.specs.Text.{Bytes}
+use Rattle.imap_grammar.specs.Rule.{Rule, gives, nothing, opt, otherwise, dropped, list1, ◌⨾◌, ◌▹◌, ◌◃◌, ◌or◌}
+use Rattle.imap_grammar.specs.Tags.{tag, word, names, sp}
 use Rattle.imap_bytes.specs.Numbers.{number}
 use Rattle.imap_bytes.specs.Strings.{astring}
 use Rattle.imap_body.specs.declared.types.sections.MessageSection.{MessageSection}

@@ -1,9 +1,6 @@
 //! Readers that walk positions in one message, and keep texts as spans.
 
-pub mod bodies;
-pub mod envelopes;
-pub mod extensions;
-pub mod fields;
-mod lists;
+pub mod attributes;
 pub mod sections;
-pub mod texts;
+
+pub use imap_structure::at::{bodies, envelopes, extensions, fields, texts};

@@ -1,15 +1,15 @@
-//! Laws of the rules of this crate, as contracts of functions that do nothing.
+//! Laws of the rules of this crate and of `imap_structure`, as contracts of functions that do nothing.
 
 ghost use Rattle.std.specs.Prelude.{ℕ};
-ghost use Rattle.imap_bytes.specs.Stable.{Stable};
+ghost use Rattle.imap_grammar.specs.Stable.{Stable};
 ghost use Rattle.imap_body.specs.Sections as sections;
-ghost use Rattle.imap_body.specs.Envelopes as envelopes;
-ghost use Rattle.imap_body.specs.Fields as fields;
-ghost use Rattle.imap_body.specs.Extensions as extensions;
-ghost use Rattle.imap_body.specs.Bodies as bodies;
+ghost use Rattle.imap_structure.specs.Envelopes as envelopes;
+ghost use Rattle.imap_structure.specs.Fields as fields;
+ghost use Rattle.imap_structure.specs.Extensions as extensions;
+ghost use Rattle.imap_structure.specs.Bodies as bodies;
 
 /// Each rule has one answer, and appended bytes change neither a value nor a denial, and make what is lacking as much smaller.
-#[tactic(auto, using(imap_bytes::proofs::Stability::is_stable))]
+#[tactic(auto, using(imap_grammar::proofs::Stability::is_stable))]
 pub fn stable()
     ensures header_list { Stable sections.header_list }
     ensures section_msgtext { Stable sections.section_msgtext }

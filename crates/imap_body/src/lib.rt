@@ -1,22 +1,18 @@
-//! Bodies of messages: sections, envelopes, body structures with their levels, and part search.
+//! What a server tells of a message: attributes and sections; re-exports envelopes, body structures and part search.
 #![tactic(auto)]
 
 pub mod at;
 pub mod laws;
-mod maps;
-mod owned;
 pub mod readers;
-pub mod search;
-pub mod shapes;
-pub mod spans;
+pub mod spanned;
 mod types;
-mod values;
 
+pub use imap_shapes::{
+    Address, BodyContentCommon, BodyContentSinglePart, BodyExt1Part, BodyExtMPart, BodyExtension,
+    BodyFields, BodyParams, BodyStructParser, BodyStructure, ContentDisposition, ContentEncoding,
+    ContentType, Envelope, PartsError, search, shapes, spans,
+};
+pub use imap_structure::{MAX_BODY_DEPTH, MAX_EXTENSION_DEPTH};
 pub use readers::sections::{section, section_msgtext, section_part};
-pub use search::{BodyStructParser, PartsError};
-pub use types::bodies::{BodyContentCommon, BodyContentSinglePart, BodyStructure, ContentType};
-pub use types::envelopes::{Address, Envelope};
-pub use types::extensions::{BodyExt1Part, BodyExtMPart, BodyExtension, ContentDisposition};
-pub use types::fields::{BodyFields, BodyParams, ContentEncoding};
-pub use types::limits::{MAX_BODY_DEPTH, MAX_EXTENSION_DEPTH};
+pub use types::attributes::AttributeValue;
 pub use types::sections::{MessageSection, SectionPath};

@@ -1,12 +1,8 @@
 //! Readers of slices, each of the rule of its name.
 
-pub mod bodies;
-pub mod envelopes;
-pub mod extensions;
-pub mod fields;
 pub mod sections;
 
-pub use bodies::body_structure;
-pub use envelopes::{address, envelope};
-pub use extensions::body_extension;
-pub use fields::body_fields;
+pub use imap_structure::readers::{
+    address, bodies, body_extension, body_fields, body_structure, envelope, envelopes, extensions,
+    fields,
+};

@@ -1,8 +1,4 @@
-//! The public types: the shapes at texts of std, and sections.
+//! The public types of attributes and sections.
 
-pub mod bodies;
-pub mod envelopes;
-pub mod extensions;
-pub mod fields;
-pub mod limits;
+pub mod attributes;
 pub mod sections;

@@ -1,10 +1,10 @@
 -- A number in front of a colon is read once: it is a range where one goes on behind it, and else stands alone.
 use Rattle.std.proofs.Common.{◌≡◌, ◌≢◌, ℕ, List, Ok, Err, refl}
-use Rattle.imap_bytes.specs.declared.answer.Err.{Err as Fault}
-use Rattle.imap_bytes.specs.declared.answer.Err.TheVariants.{Incomplete, Error, Failure}
-use Rattle.imap_bytes.specs.Rule.{Rule, ◌▹◌}
-use Rattle.imap_bytes.specs.Step.{step}
-use Rattle.imap_bytes.specs.Tags.{tag}
+use Rattle.imap_grammar.specs.declared.answer.Err.{Err as Fault}
+use Rattle.imap_grammar.specs.declared.answer.Err.TheVariants.{Incomplete, Error, Failure}
+use Rattle.imap_grammar.specs.Rule.{Rule, ◌▹◌}
+use Rattle.imap_grammar.specs.Step.{step}
+use Rattle.imap_grammar.specs.Tags.{tag}
 use Rattle.imap_bytes.specs.Numbers.{number}
 use Rattle.imap_bytes.specs.Sets.{sequence_range, sequence_item}
 

@@ -1,23 +1,24 @@
 -- Numbers in front of words, behind blanks, and in lists, read back.
-use Rattle.std.proofs.Common.{◌≡◌, ℕ, ◌<◌, ◌^◌, ◌||◌, ◌&&◌, ◌==◌, Bool, true, false, not, List, [], ◌∷◌, ◌++◌, IsTrue, decimal, codes, sym, ◌∙◌, ap, subst, refl, append_assoc, arith, inr, map}
+use Rattle.std.proofs.Common.{◌≡◌, ℕ, ◌<◌, ◌^◌, ◌&&◌, ◌==◌, Bool, true, not, List, [], ◌∷◌, ◌++◌, decimal, codes, sym, ap, subst, refl, append_assoc, arith, inr}
 use Prim.Native.String.{String}
 use Rattle.std.proofs.lemmas.Bool.{false≢true}
 use Rattle.std.proofs.lemmas.Bool.Decides.{nat_tests}
 use Rattle.std.proofs.lemmas.List.{map-id}
 use Rattle.std.specs.Char.{to_ascii_lowercase, to_ascii_uppercase}
-use Rattle.imap_bytes.specs.Meaning.{Denies, differs, outside}
-use Rattle.imap_bytes.specs.Rule.{Rule, meaning, gives, many, opt, ◌▹◌, ◌◃◌, ◌⨾◌}
-use Rattle.imap_bytes.specs.Text.{Bytes}
-use Rattle.imap_bytes.specs.Classes.{is_digit, is_blank}
-use Rattle.imap_bytes.specs.Tags.{same_letter, word, sp, maybe_space, blanks1}
+use Rattle.imap_grammar.specs.Meaning.{Denies, differs, outside}
+use Rattle.imap_grammar.specs.Rule.{Rule, meaning, gives, many, ◌▹◌, ◌◃◌}
+use Rattle.imap_grammar.specs.Text.{Bytes}
+use Rattle.imap_grammar.specs.Classes.{is_digit, is_blank}
+use Rattle.imap_grammar.specs.Tags.{same_letter, word, sp, blanks1}
+use Rattle.imap_grammar.specs.Pieces.{Pieces, written, words, space, number_text, range_text, ranges_text, each, ◌then◌}
+use Rattle.imap_grammar.specs.ReadBack.{ReadsBack, Apart, Takes, Starts, Closes, as_is}
+use Rattle.imap_grammar.proofs.Yields.{Yields, either_yields, given_yields}
+use Rattle.imap_grammar.proofs.Reading.{test-has, reads-gives, reads-same, reads-before, reads-many, reads-after_where, reads-as, first_yields, denies-run1, denies-tag, denies-after, closes-in, ◌▹ʳ◌}
+use Rattle.imap_grammar.proofs.ReadingWords.{first-apart}
+use Rattle.imap_grammar.proofs.ReadingLists.{takes-text, takes-blanks}
 use Rattle.imap_bytes.specs.Numbers.{number, number_64}
 use Rattle.imap_bytes.specs.Sets.{single, sequence_item, sequence_set}
-use Rattle.imap_bytes.specs.Pieces.{Pieces, written, words, space, number_text, range_text, ranges_text, each, ◌then◌}
-use Rattle.imap_bytes.specs.ReadBack.{ReadsBack, Apart, Takes, Starts, Closes, closes, as_is}
-use Rattle.imap_bytes.proofs.Yields.{Yields, either_yields, given_yields}
-use Rattle.imap_bytes.proofs.Reading.{test-has, reads-gives, reads-same, reads-before, reads-many, reads-before_absent, reads-after_where, reads-as, first_yields, denies-run1, denies-tag, denies-after, closes-in, ◌▹ʳ◌}
-use Rattle.imap_bytes.proofs.ReadingWords.{first-apart}
-use Rattle.imap_bytes.proofs.ReadingTexts.{not_digit, number_on, number_first, reads-number, takes-text, takes-word, takes-blanks}
+use Rattle.imap_bytes.proofs.ReadingTexts.{not_digit, number_on, number_first, reads-number}
 use Rattle.imap_bytes.proofs.ReadingSets.{number_bound, range_bounds}
 use Rattle.std.proofs.lemmas.Bool.{ltb-true}
 

@@ -11,17 +11,17 @@ use lib.Utf8.{encode}
 use Rattle.bstr.specs.Utf8.{lossy_chars, continues}
 use Rattle.bstr.proofs.lemmas.PieceLemmas.{StartsClean}
 use Rattle.bstr.proofs.lemmas.LossyLemmas.{lossy_chars-utf8_lossy, lossy_chars-front}
-use Rattle.imap_bytes.specs.Classes.{is_quoted_char}
-use Rattle.imap_bytes.specs.Meaning.{Denies, is_word, begins, outside, Cuts, differs}
-use Rattle.imap_bytes.specs.Rule.{meaning, ◌◃◌}
-use Rattle.imap_bytes.specs.Text.{Bytes, Text, lent_text}
-use Rattle.imap_bytes.specs.Tags.{tag}
+use Rattle.imap_grammar.specs.Classes.{is_quoted_char}
+use Rattle.imap_grammar.specs.Meaning.{Denies, is_word, begins, outside, Cuts, differs}
+use Rattle.imap_grammar.specs.Rule.{meaning, ◌◃◌}
+use Rattle.imap_grammar.specs.Text.{Bytes, Text, lent_text}
+use Rattle.imap_grammar.specs.Tags.{tag}
+use Rattle.imap_grammar.specs.Pieces.{quoted_text}
+use Rattle.imap_grammar.specs.ReadBack.{ReadsBack, Any}
+use Rattle.imap_grammar.proofs.Reading.{raw_on, tag-on, after-has, after-on, before-has, before-on}
+use Rattle.imap_grammar.proofs.ReadingWords.{exact}
 use Rattle.imap_bytes.specs.Strings.{quoted_part, quoted_content, quoted}
 use Rattle.imap_bytes.specs.Texts.{quoted_utf8}
-use Rattle.imap_bytes.specs.Pieces.{quoted_text}
-use Rattle.imap_bytes.specs.ReadBack.{ReadsBack, Any}
-use Rattle.imap_bytes.proofs.Reading.{raw_on, tag-on, after-has, after-on, before-has, before-on}
-use Rattle.imap_bytes.proofs.ReadingWords.{exact}
 use Rattle.imap_bytes.proofs.ReadingTexts.{decoded_twice}
 use Rattle.imap_bytes.proofs.LossyTwice.{all-lossy, all_valid}
 use Rattle.imap_bytes.proofs.LossyParts.{lossy-append}

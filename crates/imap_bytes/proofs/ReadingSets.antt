@@ -3,21 +3,22 @@ use Rattle.std.proofs.Common.{◌≡◌, ℕ, ◌<◌, ◌^◌, ◌==◌, ◌||�
 use Rattle.std.proofs.lemmas.Bool.{false≢true, or_left, ltb-true}
 use Rattle.std.specs.List.{list_all}
 use Rattle.std.specs.Str.Lossy.{utf8_lossy}
-use Rattle.imap_bytes.specs.Meaning.{Denies, outside}
-use Rattle.imap_bytes.specs.Rule.{gives, meaning}
-use Rattle.imap_bytes.specs.Text.{Bytes, Text, lent_text}
-use Rattle.imap_bytes.specs.Classes.{is_digit, is_text_char, is_atom_char}
-use Rattle.imap_bytes.specs.Tags.{tag}
+use Rattle.imap_grammar.specs.Meaning.{Denies, outside}
+use Rattle.imap_grammar.specs.Rule.{gives, meaning}
+use Rattle.imap_grammar.specs.Text.{Bytes, Text, lent_text}
+use Rattle.imap_grammar.specs.Classes.{is_digit, is_text_char, is_atom_char}
+use Rattle.imap_grammar.specs.Tags.{tag}
+use Rattle.imap_grammar.specs.Pieces.{written, raw, plain, range_text, ranges_text}
+use Rattle.imap_grammar.specs.ReadBack.{ReadsBack, Starts, as_is}
+use Rattle.imap_grammar.proofs.Reading.{raw_on, test-has, reads-as, reads-test, reads-run1, reads-list1, reads-instead, denies-tag, starts}
+use Rattle.imap_grammar.proofs.ReadingLists.{takes-text}
 use Rattle.imap_bytes.specs.Numbers.{number}
 use Rattle.imap_bytes.specs.Strings.{atom}
-use Rattle.imap_bytes.specs.Texts.{text}
-use Rattle.imap_bytes.specs.Sets.{sequence_range, single, sequence_item, sequence_set}
-use Rattle.imap_bytes.specs.Pieces.{written, raw, plain, range_text, ranges_text}
-use Rattle.imap_bytes.specs.ReadBack.{ReadsBack, Starts, as_is}
 use Rattle.std.specs.Str.{is_utf8}
 use Rattle.std.proofs.lemmas.List.{map-id}
-use Rattle.imap_bytes.proofs.Reading.{raw_on, test-has, reads-as, reads-test, reads-run1, reads-list1, reads-instead, denies-tag, starts}
-use Rattle.imap_bytes.proofs.ReadingTexts.{not_digit, number_on, takes-text, decoded_twice}
+use Rattle.imap_bytes.specs.Texts.{text}
+use Rattle.imap_bytes.specs.Sets.{sequence_range, single, sequence_item, sequence_set}
+use Rattle.imap_bytes.proofs.ReadingTexts.{not_digit, number_on, decoded_twice}
 use Rattle.imap_bytes.proofs.LossyTwice.{all-lossy}
 
 pub number_bound : (m : Bytes) (n : ℕ) (rest : Bytes) → (meaning number).yields m n rest → n < 2 ^ 32

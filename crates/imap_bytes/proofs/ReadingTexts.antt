@@ -1,7 +1,6 @@
--- Numbers, strings, texts and lists read back.
-use Rattle.std.proofs.Common.{◌≡◌, ℕ, ◌<◌, ◌≤◌, ◌^◌, Bool, true, ◌==◌, [], ◌∷◌, ◌++◌, length, IsTrue, Option, None, Some, sym, subst, refl, inr, append_assoc, append-nil, arith, codes, decimal, ap₂, map, nat_lt, IsUtf8}
-use Prim.Native.String.{String}
-use Rattle.std.proofs.lemmas.Bool.{eq-eqb, and_from, lt-ltb, ltb-true}
+-- Numbers, strings and texts read back.
+use Rattle.std.proofs.Common.{◌≡◌, ℕ, ◌<◌, ◌≤◌, ◌^◌, Bool, true, [], ◌∷◌, ◌++◌, length, IsTrue, Option, None, Some, sym, subst, refl, inr, append_assoc, append-nil, arith, codes, decimal, ap₂, nat_lt, IsUtf8}
+use Rattle.std.proofs.lemmas.Bool.{and_from, lt-ltb, ltb-true}
 use Rattle.std.proofs.lemmas.Bool.Decides.{nat_tests}
 use Rattle.std.proofs.lemmas.Fmt.{decimal_is_IsNumeral}
 use Rattle.std.specs.List.{list_all}
@@ -9,19 +8,18 @@ use Rattle.std.specs.Option.{option_map}
 use Rattle.std.specs.Char.{digit_value}
 use Rattle.std.specs.Str.Parse.{AllDigits, IsNumeral, digits_value}
 use Rattle.std.proofs.lemmas.Str.{is_utf8-from_IsUtf8, utf8_lossy-IsUtf8}
-use Rattle.imap_bytes.specs.Meaning.{Denies, is_word, differs, outside}
-use Rattle.imap_bytes.specs.Rule.{Rule, run0, run1, gives, meaning}
-use Rattle.imap_bytes.specs.Text.{Bytes, Text, decoded, as_text, lent_text}
-use Rattle.imap_bytes.specs.Classes.{is_digit, is_blank}
-use Rattle.imap_bytes.specs.Tags.{same_letter, tag, word, blanks0, blanks1}
+use Rattle.imap_grammar.specs.Meaning.{Denies, differs, outside}
+use Rattle.imap_grammar.specs.Rule.{Rule, run1, gives, meaning}
+use Rattle.imap_grammar.specs.Text.{Bytes, Text, decoded, as_text, lent_text}
+use Rattle.imap_grammar.specs.Classes.{is_digit}
+use Rattle.imap_grammar.specs.Tags.{same_letter}
+use Rattle.imap_grammar.specs.Pieces.{Pieces, written, words, lit, literal_of, number_text, nstring_text, literal_text, ntext}
+use Rattle.imap_grammar.specs.ReadBack.{ReadsBack, Any, Starts, as_is}
+use Rattle.imap_grammar.proofs.Yields.{Yields, made_yields}
+use Rattle.imap_grammar.proofs.Reading.{raw_on, test-has, test-on, denies-after, denies-tag, takes-tag, reads-gives, reads-alt, reads-names, apart-gives}
 use Rattle.imap_bytes.specs.Numbers.{digits, number_below, number, number_64}
 use Rattle.imap_bytes.specs.Strings.{literal_header, literal, quoted, string, astring, nil, nil_or, nstring}
 use Rattle.imap_bytes.specs.Texts.{utf8, string_utf8, astring_utf8, nstring_utf8}
-use Rattle.imap_bytes.specs.Lists.{list_of, nonempty_list_of}
-use Rattle.imap_bytes.specs.Pieces.{Pieces, written, words, space, lit, literal_of, number_text, nstring_text, literal_text, ntext, list_text}
-use Rattle.imap_bytes.specs.ReadBack.{ReadsBack, Takes, Any, Starts, as_is}
-use Rattle.imap_bytes.proofs.Yields.{Yields, made_yields}
-use Rattle.imap_bytes.proofs.Reading.{raw_on, test-has, test-on, denies-after, denies-tag, takes-tag, takes-seq, reads-before, reads-gives, reads-alt, reads-list1, reads-list0, reads-names, apart-gives, takes-absent, ◌▹ʳ◌, Begins, begun}
 use Rattle.imap_bytes.proofs.LossyTwice.{IsUtf8-lossy}
 
 -- ---- numbers
@@ -159,48 +157,3 @@ reads-astring_utf8 = reads-utf8 astring astring_on
 pub reads-nstring_utf8 : ReadsBack nstring_utf8 (option_map lent_text) ntext Any
 unfolding nstring_utf8
 reads-nstring_utf8 = reads-nil_or refl reads-string_utf8 (λ x t g. refl) refl (λ x. refl)
-
--- ---- words and blanks
-
-pub takes-text : (k : String) → Takes (tag k) (words k) Any
-takes-text k = takes-tag ◌==◌ (codes k) (codes k) (agrees_itself (codes k))
-  where
-    agrees_itself : (k : Bytes) → is_word ◌==◌ k k ≡ true
-    agrees_itself [] = refl
-    agrees_itself (b ∷ bs) = and_from _ _ (eq-eqb b b refl) (agrees_itself bs)
-
--- a word as the canonical text has it
-pub takes-word : (k text : String) → is_word same_letter (codes k) (codes text) ≡ true → Takes (word k) (words text) Any
-takes-word k text h = takes-tag same_letter (codes k) (codes text) h
-
-pub takes-none : {F : Bytes → Type 0} (p : ℕ → Bool) → ((t : Bytes) → F t → Starts (outside p) t) → Takes (run0 p) [] F
-unfolding meaning
-takes-none p h = record { taken = λ f t g. ([], (refl, refl, h t g)) }
-
--- one space, where no blank follows
-pub takes-blanks : Takes blanks1 space (Starts (outside is_blank))
-unfolding meaning
-takes-blanks = record { taken = λ f t g. (32 ∷ [], ((refl, refl, g), omega arith)) }
-
-pub takes-blanks0 : Takes blanks0 space (Starts (outside is_blank))
-unfolding meaning
-takes-blanks0 = record { taken = λ f t g. (32 ∷ [], (refl, refl, g)) }
-
--- ---- lists in brackets
-
-module _ {A : Type 0} {a : Rule A} {l : A → A} {c : A → Pieces} {F : Bytes → Type 0} where
-  pub reads-list_of : ReadsBack a l c F → ((t : Bytes) → F (32 ∷ t)) → ((t : Bytes) → F (41 ∷ t)) → ((t : Bytes) → Denies (meaning a) (41 ∷ t)) → ReadsBack (list_of a) (map l) (list_text c) Any
-  reads-list_of h gap bracket none =
-      takes-text "(" ▹ʳ
-      reads-before
-      (reads-list0 {G = Begins 41} (takes-text " ") h (λ y t. tt) gap (begun _ bracket) (begun _ (λ t. denies-tag _ _ _ refl)) (begun _ none))
-      (takes-seq (takes-absent _ {F = Begins 41} (begun _ (λ t. denies-tag _ _ _ refl))) (takes-text ")") (λ t g. (t, refl)))
-      (λ t g. (t, refl))
-
-  pub reads-nonempty_list_of : ReadsBack a l c F → ((t : Bytes) → F (32 ∷ t)) → ((t : Bytes) → F (41 ∷ t)) → ReadsBack (nonempty_list_of a) (map l) (list_text c) Any
-  reads-nonempty_list_of h gap bracket =
-      takes-text "(" ▹ʳ
-      reads-before
-      (reads-list1 {G = Begins 41} (takes-text " ") h (λ y t. tt) gap (begun _ bracket) (begun _ (λ t. denies-tag _ _ _ refl)))
-      (takes-seq (takes-none {F = Begins 41} is_blank (begun _ (λ t. refl))) (takes-text ")") (λ t g. (t, refl)))
-      (λ t g. (t, refl))

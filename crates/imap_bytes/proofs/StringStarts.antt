@@ -2,13 +2,13 @@
 use Rattle.std.proofs.Common.{◌≡◌, ℕ, Bool, true, false, List, [], ◌∷◌, Option, Some, None, Ok, Err, refl, sym, inl, inr}
 use Rattle.std.specs.Prelude.{◌==◌, ◌||◌}
 use Rattle.std.proofs.lemmas.Bool.{or_cases, eqb-true, eqb-false, ne_eqb}
-use Rattle.imap_bytes.specs.declared.answer.Err.TheVariants.{Incomplete, Error, Failure}
-use Rattle.imap_bytes.specs.declared.answer.Needed.TheVariants.{Unknown}
-use Rattle.imap_bytes.specs.Ascii.{quote, open_brace}
-use Rattle.imap_bytes.specs.Meaning.{begins}
-use Rattle.imap_bytes.specs.Step.{Step, ◌>>=◌, step, and_then, or_else}
+use Rattle.imap_grammar.specs.declared.answer.Err.TheVariants.{Incomplete, Error, Failure}
+use Rattle.imap_grammar.specs.declared.answer.Needed.TheVariants.{Unknown}
+use Rattle.imap_grammar.specs.Ascii.{quote, open_brace}
+use Rattle.imap_grammar.specs.Meaning.{begins}
+use Rattle.imap_grammar.specs.Step.{Step, ◌>>=◌, step, and_then, or_else}
+use Rattle.imap_grammar.proofs.Starts.{denied, waited}
 use Rattle.imap_bytes.specs.Strings.{quoted, literal, literal_header, string, nil, nstring}
-use Rattle.imap_bytes.proofs.Starts.{denied, waited}
 
 denied_last : {A : Type 0} (s : Step A) → or_else s (Err Error) ≡ s
 denied_last (Ok x) = refl

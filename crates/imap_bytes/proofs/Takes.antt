@@ -1,10 +1,10 @@
 -- That a rule takes at least a byte wherever it yields: of each public rule that does.
 use Rattle.std.proofs.Common.{◌≡◌, true, refl}
+use Rattle.imap_grammar.proofs.Consumption.{consumes}
 use Rattle.imap_bytes.specs.Numbers.{number, number_64, digits}
 use Rattle.imap_bytes.specs.Sets.{sequence_range, sequence_item, sequence_set}
 use Rattle.imap_bytes.specs.Strings.{nil, quoted, literal, literal_header, string, astring, atom, nstring}
 use Rattle.imap_bytes.specs.Texts.{quoted_utf8, string_utf8, astring_utf8, nstring_utf8}
-use Rattle.imap_bytes.proofs.Consumption.{consumes}
 
 pub number_takes : consumes number ≡ true
 unfolding number digits

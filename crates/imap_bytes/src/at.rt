@@ -2,17 +2,16 @@
 //!
 //! Each reads m from p on as the reader of the same name reads a slice, and answers the position behind what it read in place of the rest. The condition of each is that p is at most m's length. Strings come as the span of their content, so that reading them takes no memory.
 
-pub mod lists;
 pub mod numbers;
 pub mod sets;
-pub mod span;
 pub mod strings;
-pub mod tags;
 pub mod texts;
 
-pub use lists::{opt_opt, paren_delimited, parenthesized_list, parenthesized_nonempty_list};
+pub use imap_grammar::at::{
+    Span, lists, opt_opt, paren_delimited, parenthesized_list, parenthesized_nonempty_list, span,
+    tags,
+};
 pub use numbers::{number, number_64};
 pub use sets::{sequence_range, sequence_set};
-pub use span::Span;
 pub use strings::{astring, atom, literal, nil, nstring, quoted, string};
 pub use texts::text;

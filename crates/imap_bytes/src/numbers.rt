@@ -1,17 +1,17 @@
 //! Numbers. None takes memory.
 
-ghost use Rattle.imap_bytes.specs.Answer.{Answers, Exactly};
-ghost use Rattle.imap_bytes.specs.Step.{step};
+ghost use Rattle.imap_grammar.specs.Answer.{Answers, Exactly};
+ghost use Rattle.imap_grammar.specs.Step.{step};
 ghost use Rattle.imap_bytes.specs.Numbers as numbers;
 
-use crate::answer::IResult;
 use crate::at;
-use crate::at::span::rest;
+use imap_grammar::IResult;
+use imap_grammar::at::span::rest;
 
 /// A number below 2^32, leading zeros allowed (RFC 3501, section 9: number).
 ///
 /// It is judged behind the byte that ends its digits: a larger one is `Error`, digits up to the end of the input wait.
-#[tactic(auto, using(crate::proofs::Agreement::exact_answered), unfolding(crate::specs::Numbers::number))]
+#[tactic(auto, using(imap_grammar::proofs::Agreement::exact_answered), unfolding(crate::specs::Numbers::number))]
 pub fn number(i: &[u8]) -> IResult<&[u8], u32>
     ensures steps { Exactly (λ x. x) result (step numbers.number i.now) }
     ensures answer { Answers numbers.number (λ x. x) i.now result }
@@ -21,7 +21,7 @@ pub fn number(i: &[u8]) -> IResult<&[u8], u32>
 }
 
 /// A number below 2^64, leading zeros allowed (RFC 4551, section 4: mod-sequence-value).
-#[tactic(auto, using(crate::proofs::Agreement::exact_answered), unfolding(crate::specs::Numbers::number_64))]
+#[tactic(auto, using(imap_grammar::proofs::Agreement::exact_answered), unfolding(crate::specs::Numbers::number_64))]
 pub fn number_64(i: &[u8]) -> IResult<&[u8], u64>
     ensures steps { Exactly (λ x. x) result (step numbers.number_64 i.now) }
     ensures answer { Answers numbers.number_64 (λ x. x) i.now result }

@@ -3,19 +3,19 @@
 ghost use Rattle.std.specs.Prelude.{◌≡◌};
 ghost use Rattle.std.specs.Option.{option_map};
 ghost use Rattle.std.specs.Str.{is_utf8};
-ghost use Rattle.imap_bytes.specs.Answer.{Answers, Exactly};
-ghost use Rattle.imap_bytes.specs.Step.{step};
-ghost use Rattle.imap_bytes.specs.Rule.{run0, run1, only};
-ghost use Rattle.imap_bytes.specs.Classes as classes;
+ghost use Rattle.imap_grammar.specs.Answer.{Answers, Exactly};
+ghost use Rattle.imap_grammar.specs.Step.{step};
+ghost use Rattle.imap_grammar.specs.Rule.{run0, run1, only};
+ghost use Rattle.imap_grammar.specs.Classes as classes;
 ghost use Rattle.imap_bytes.specs.Strings as strings;
 
-use crate::answer::IResult;
 use crate::at;
-use crate::at::span::{rest, sliced};
+use imap_grammar::IResult;
+use imap_grammar::at::span::{rest, sliced};
 use std::str;
 
 /// A quoted string: its raw content, backslashes and all (RFC 3501, section 9: quoted).
-#[tactic(auto, using(crate::proofs::Agreement::exact_answered), unfolding(crate::specs::Strings::quoted))]
+#[tactic(auto, using(imap_grammar::proofs::Agreement::exact_answered), unfolding(crate::specs::Strings::quoted))]
 pub fn quoted(i: &[u8]) -> IResult<&[u8], &[u8]>
     ensures steps { Exactly (λ x. x.now) result (step strings.quoted i.now) }
     ensures answer { Answers strings.quoted (λ x. x.now) i.now result }
@@ -26,7 +26,7 @@ pub fn quoted(i: &[u8]) -> IResult<&[u8], &[u8]>
 /// A literal: as many bytes as its header says, of any value (RFC 3501, section 4.3).
 ///
 /// Where fewer follow, `Needed::Size` is how many are missing.
-#[tactic(auto, using(crate::proofs::Agreement::exact_answered), unfolding(crate::specs::Strings::literal))]
+#[tactic(auto, using(imap_grammar::proofs::Agreement::exact_answered), unfolding(crate::specs::Strings::literal))]
 pub fn literal(i: &[u8]) -> IResult<&[u8], &[u8]>
     ensures steps { Exactly (λ x. x.now) result (step strings.literal i.now) }
     ensures answer { Answers strings.literal (λ x. x.now) i.now result }
@@ -35,7 +35,7 @@ pub fn literal(i: &[u8]) -> IResult<&[u8], &[u8]>
 }
 
 /// A string: quoted, or a literal (RFC 3501, section 9: string).
-#[tactic(auto, using(crate::proofs::Agreement::exact_answered), unfolding(crate::specs::Strings::string))]
+#[tactic(auto, using(imap_grammar::proofs::Agreement::exact_answered), unfolding(crate::specs::Strings::string))]
 pub fn string(i: &[u8]) -> IResult<&[u8], &[u8]>
     ensures steps { Exactly (λ x. x.now) result (step strings.string i.now) }
     ensures answer { Answers strings.string (λ x. x.now) i.now result }
@@ -51,7 +51,7 @@ pub fn astring_chars(i: &[u8]) -> IResult<&[u8], &[u8]>
 }
 
 /// Bare astring-chars, or a string (RFC 3501, section 9: astring).
-#[tactic(auto, using(crate::proofs::Agreement::exact_answered), unfolding(crate::specs::Strings::astring))]
+#[tactic(auto, using(imap_grammar::proofs::Agreement::exact_answered), unfolding(crate::specs::Strings::astring))]
 pub fn astring(i: &[u8]) -> IResult<&[u8], &[u8]>
     ensures steps { Exactly (λ x. x.now) result (step strings.astring i.now) }
     ensures answer { Answers strings.astring (λ x. x.now) i.now result }
@@ -60,7 +60,7 @@ pub fn astring(i: &[u8]) -> IResult<&[u8], &[u8]>
 }
 
 /// `NIL` in any case: the three bytes, whatever follows them (RFC 3501, section 9: nil).
-#[tactic(auto, using(crate::proofs::Agreement::exact_answered), unfolding(crate::specs::Strings::nil))]
+#[tactic(auto, using(imap_grammar::proofs::Agreement::exact_answered), unfolding(crate::specs::Strings::nil))]
 pub fn nil(i: &[u8]) -> IResult<&[u8], &[u8]>
     ensures steps { Exactly (λ x. x.now) result (step strings.nil i.now) }
     ensures answer { Answers strings.nil (λ x. x.now) i.now result }
@@ -69,7 +69,7 @@ pub fn nil(i: &[u8]) -> IResult<&[u8], &[u8]>
 }
 
 /// `NIL`, or a string (RFC 3501, section 9: nstring).
-#[tactic(auto, using(crate::proofs::Agreement::exact_answered), unfolding(crate::specs::Strings::nstring))]
+#[tactic(auto, using(imap_grammar::proofs::Agreement::exact_answered), unfolding(crate::specs::Strings::nstring))]
 pub fn nstring(i: &[u8]) -> IResult<&[u8], Option<&[u8]>>
     ensures steps { Exactly (λ x. option_map (λ y. y.now) x) result (step strings.nstring i.now) }
     ensures answer { Answers strings.nstring (λ x. option_map (λ y. y.now) x) i.now result }
@@ -106,7 +106,7 @@ pub fn atom_chars(i: &[u8]) -> IResult<&[u8], &[u8]>
 }
 
 /// An atom; bytes that are no UTF-8 are `Error` (RFC 3501, section 9: atom).
-#[tactic(auto, using(crate::proofs::Agreement::exact_answered), unfolding(crate::specs::Strings::atom))]
+#[tactic(auto, using(imap_grammar::proofs::Agreement::exact_answered), unfolding(crate::specs::Strings::atom))]
 pub fn atom(i: &[u8]) -> IResult<&[u8], &str>
     ensures steps { Exactly (λ x. x.now) result (step strings.atom i.now) }
     ensures answer { Answers strings.atom (λ x. x.now) i.now result }

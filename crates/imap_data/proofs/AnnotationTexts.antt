@@ -8,18 +8,20 @@ use Rattle.std.proofs.lemmas.Bool.{false≢true, and_parts, and_from, or_cases, 
 use Rattle.std.proofs.lemmas.Bool.Decides.{nat_tests}
 use Rattle.std.proofs.lemmas.Str.{utf8_lossy_empty}
 use Rattle.std.proofs.lemmas.List.{map-id}
-use Rattle.imap_bytes.specs.Meaning.{Denies}
-use Rattle.imap_bytes.specs.Rule.{meaning}
-use Rattle.imap_bytes.specs.Text.{Bytes, Text, as_text, lent_text}
+use Rattle.imap_grammar.specs.Meaning.{Denies}
+use Rattle.imap_grammar.specs.Rule.{meaning}
+use Rattle.imap_grammar.specs.Text.{Bytes, Text, as_text, lent_text}
+use Rattle.imap_grammar.specs.Pieces.{written, literal_of, literal_text, ntext, nstring_text}
+use Rattle.imap_grammar.specs.ReadBack.{ReadsBack, Spells, Keeps, Any, Closes, closes, as_is}
+use Rattle.imap_grammar.specs.Spelling.{spells_astring_text, spells_ntext, nil_or, spells_string_text}
+use Rattle.imap_grammar.proofs.Reading.{test-has, test-on, reads-gives, reads-same, reads-as, reads-follow, reads-list0, denials, ◌⨾ʳ◌, ◌▹ʳ◌, ◌◃ʳ◌}
+use Rattle.imap_grammar.proofs.ReadingLists.{takes-text, takes-word, reads-nonempty_list_of}
+use Rattle.imap_grammar.proofs.Spelling.{◌⨾ˢ◌, ◌▹ˢ◌, ◌◃ˢ◌, spells-gives, spells-wider, spells-test, spells-word, spells-tag, spells-list0, spells-nonempty_list_of}
 use Rattle.imap_bytes.specs.Strings.{astring, string, quoted, literal, literal_header}
-use Rattle.imap_bytes.specs.Pieces.{written, literal_of, literal_text, ntext, nstring_text}
-use Rattle.imap_bytes.specs.ReadBack.{ReadsBack, Spells, Keeps, Any, Closes, closes, as_is}
-use Rattle.imap_bytes.specs.Spelling.{spells_astring_text, spells_ntext, nil_or, spells_string_text}
-use Rattle.imap_bytes.proofs.Reading.{test-has, test-on, reads-gives, reads-same, reads-as, reads-follow, reads-list0, denials, ◌⨾ʳ◌, ◌▹ʳ◌, ◌◃ʳ◌}
-use Rattle.imap_bytes.proofs.ReadingTexts.{takes-text, takes-word, astring_on, decoded_twice, reads-nstring_utf8, reads-nonempty_list_of}
+use Rattle.imap_bytes.proofs.ReadingTexts.{astring_on, decoded_twice, reads-nstring_utf8}
 use Rattle.imap_bytes.proofs.ReadingQuoted.{lossy_ascii, reads-quoted_utf8}
 use Rattle.imap_bytes.proofs.ReadingCounts.{closes_space}
-use Rattle.imap_bytes.proofs.Spelling.{◌⨾ˢ◌, ◌▹ˢ◌, ◌◃ˢ◌, spells-gives, spells-wider, spells-test, spells-word, spells-tag, spells-list0, spells-nonempty_list_of, spells-astring, spells-utf8, spells-nstring_utf8, spells-quoted_utf8}
+use Rattle.imap_bytes.proofs.SpellingTexts.{spells-astring, spells-utf8, spells-nstring_utf8, spells-quoted_utf8}
 use Rattle.imap_data.specs.MailboxValues.{MetadataValue, lent_mailbox}
 use Rattle.imap_data.specs.Annotations.{is_component_byte, is_path_byte, first_line, is_path, has_component, behind, passes, is_comment, is_vendor, is_comment_or_vendor, is_private, is_admin, is_shared, is_entry_name, entry, entry_utf8, bytes_in, annotation_of, annotation, metadata_mailbox, annotations, solicited_of, metadata_solicited, entries, unsolicited_of, metadata_unsolicited}
 use Rattle.imap_data.specs.AnnotationTexts.{canonical_annotation, canonical_metadata, spells_annotation, spells_metadata}

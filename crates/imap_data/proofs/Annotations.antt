@@ -4,7 +4,7 @@ use Rattle.std.specs.Option.{option_map, MatchOption}
 use Rattle.std.specs.Bool.{if◌then◌else◌}
 use Rattle.std.specs.Borrow.{Bor}
 use Rattle.std.specs.Cmp.Lexicographic.{pointwise}
-use Rattle.imap_bytes.specs.Text.{Bytes}
+use Rattle.imap_grammar.specs.Text.{Bytes}
 use Rattle.imap_data.specs.Annotations.{behind}
 
 -- whether the bytes begin with the word

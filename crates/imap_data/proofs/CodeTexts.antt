@@ -1,12 +1,14 @@
 -- Response codes read back.
 use Rattle.std.proofs.Common.{None, Some, refl, codes, map}
 use Rattle.std.specs.Option.{option_map}
-use Rattle.imap_bytes.specs.Rule.{opt}
-use Rattle.imap_bytes.specs.Text.{Bytes, lent_text}
-use Rattle.imap_bytes.specs.ReadBack.{ReadsBack, Spells, Keeps, Any, EndsItem}
-use Rattle.imap_bytes.proofs.Reading.{first, reads-word, reads-gives, reads-opt, reads-follow, reads-seq, reads-before, apart_forms, denies-after, denies-tag, Begins, begun, ◌▹ʳ◌}
-use Rattle.imap_bytes.proofs.ReadingTexts.{takes-text, takes-word, reads-number, reads-number_64, reads-astring_utf8, reads-nonempty_list_of}
-use Rattle.imap_bytes.proofs.Spelling.{◌⨾ˢ◌, ◌▹ˢ◌, ◌◃ˢ◌, ◌orˢ◌, spells-gives, spells-names, spells-nothing, spells-word, spells-tag, spells-number, spells-number_64, spells-nonempty_list_of, spells-astring_utf8}
+use Rattle.imap_grammar.specs.Rule.{opt}
+use Rattle.imap_grammar.specs.Text.{Bytes, lent_text}
+use Rattle.imap_grammar.specs.ReadBack.{ReadsBack, Spells, Keeps, Any, EndsItem}
+use Rattle.imap_grammar.proofs.Reading.{first, reads-word, reads-gives, reads-opt, reads-follow, reads-seq, reads-before, apart_forms, denies-after, denies-tag, Begins, begun, ◌▹ʳ◌}
+use Rattle.imap_grammar.proofs.ReadingLists.{takes-text, takes-word, reads-nonempty_list_of}
+use Rattle.imap_grammar.proofs.Spelling.{◌⨾ˢ◌, ◌▹ˢ◌, ◌◃ˢ◌, ◌orˢ◌, spells-gives, spells-names, spells-nothing, spells-word, spells-tag, spells-nonempty_list_of}
+use Rattle.imap_bytes.proofs.ReadingTexts.{reads-number, reads-number_64, reads-astring_utf8}
+use Rattle.imap_bytes.proofs.SpellingTexts.{spells-number, spells-number_64, spells-astring_utf8}
 use Rattle.imap_items.specs.Capabilities.{capability_data}
 use Rattle.imap_items.proofs.FlagTexts.{reads_flag_list, flag_list_spells}
 use Rattle.imap_items.proofs.CapabilityTexts.{reads_offered, keeps_capability_data}

@@ -1,12 +1,12 @@
 -- Which alternatives answer, by the first byte.
 use Rattle.std.proofs.Common.{◌≡◌, ℕ, List, None, Err, refl}
 use Rattle.std.specs.Prelude.{slice_get}
-use Rattle.imap_bytes.specs.declared.answer.Err.TheVariants.{Incomplete}
-use Rattle.imap_bytes.specs.declared.answer.Needed.TheVariants.{Unknown}
-use Rattle.imap_bytes.specs.Rule.{never}
-use Rattle.imap_bytes.specs.Step.{step}
+use Rattle.imap_grammar.specs.declared.answer.Err.TheVariants.{Incomplete}
+use Rattle.imap_grammar.specs.declared.answer.Needed.TheVariants.{Unknown}
+use Rattle.imap_grammar.specs.Rule.{never}
+use Rattle.imap_grammar.specs.Step.{step}
+use Rattle.imap_grammar.proofs.Starts.{AtAny, AtDigit, AtOther, AtOtherThanDigits, waits_without, by_any, by_digit, by_other, by_other_than_digits}
 use Rattle.imap_bytes.specs.Numbers.{number, digits}
-use Rattle.imap_bytes.proofs.Starts.{AtAny, AtDigit, AtOther, AtOtherThanDigits, waits_without, by_any, by_digit, by_other, by_other_than_digits}
 use Rattle.imap_items.specs.Capabilities.{capability_data}
 use Rattle.imap_items.specs.Gmail.{gmail_label_list, gmail_msgid, gmail_thrid}
 use Rattle.imap_data.specs.Codes.{any_code, basic_code, uid_code, metadata_code, bad_charset, capabilities, permanent_flags, uid_validity, uid_next, unseen, highest_mod_seq, append_uid, copy_uid, long_entries, max_size, too_many, no_private, code_of_a, code_of_c, code_of_p, code_of_r, code_of_t, code_of_u}

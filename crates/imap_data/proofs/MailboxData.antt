@@ -2,8 +2,8 @@
 use Rattle.std.proofs.Common.{rules, ◌≡◌, ap, true, map}
 use Rattle.std.specs.Cmp.Lexicographic.{pointwise}
 use Rattle.std.proofs.lemmas.Bool.{and_parts, and_from}
-use Rattle.imap_bytes.specs.Equality.{Tells}
-use Rattle.imap_bytes.proofs.Seen.{texts_tell, text_tells, numbers_tell, items_tell, text_lists_tell, plain_lists_tell}
+use Rattle.imap_grammar.specs.Equality.{Tells}
+use Rattle.imap_grammar.proofs.Seen.{texts_tell, text_tells, numbers_tell, items_tell, text_lists_tell, plain_lists_tell}
 use Rattle.imap_data.specs.Counts.{item_content}
 use Rattle.imap_data.specs.MailboxValues.{Exists, Flags, Listed, Search, Sort, Recent, GmailLabels, GmailMsgId, GmailThrId, metadata_value, metadata_content, mailbox_content}
 use Rattle.imap_data.specs.declared.types.mailbox_data.MailboxDatum.{MailboxDatum}

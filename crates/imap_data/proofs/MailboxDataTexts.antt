@@ -1,18 +1,20 @@
 -- A mailbox's data read back.
 use Rattle.std.proofs.Common.{◌≡◌, ℕ, ◌∷◌, ◌++◌, true, refl, sym, subst, inl, inr, codes}
-use Rattle.imap_bytes.specs.Classes.{is_digit}
-use Rattle.imap_bytes.specs.Meaning.{Denies}
-use Rattle.imap_bytes.specs.Rule.{Rule, meaning, gives, ◌▹◌, ◌or◌}
-use Rattle.imap_bytes.specs.Text.{Bytes}
-use Rattle.imap_bytes.specs.Tags.{word, sp, same_letter}
+use Rattle.imap_grammar.specs.Classes.{is_digit}
+use Rattle.imap_grammar.specs.Meaning.{Denies}
+use Rattle.imap_grammar.specs.Rule.{Rule, meaning, gives, ◌▹◌, ◌or◌}
+use Rattle.imap_grammar.specs.Text.{Bytes}
+use Rattle.imap_grammar.specs.Tags.{word, sp, same_letter}
+use Rattle.imap_grammar.specs.Pieces.{written}
+use Rattle.imap_grammar.specs.ReadBack.{ReadsBack, Takes, Spells, Keeps, Apart, Any, Starts, Closes, EndsItem, ends_item, as_is}
+use Rattle.imap_grammar.specs.Pieces.{Pieces, Fits, list_text}
+use Rattle.imap_grammar.proofs.Reading.{first, first_instead, reads-gives, reads-follow, reads-as, reads-before_absent, apart-alt, apart_forms, denials, denies-gives, denies-after, denies-tag, gives-has, gives-on, after-has, after-on, tag-on, closes-in, ◌⨾ʳ◌, ◌▹ʳ◌}
+use Rattle.imap_grammar.proofs.ReadingLists.{takes-text, takes-word, reads-list_of}
+use Rattle.imap_grammar.proofs.Spelling.{◌⨾ˢ◌, ◌▹ˢ◌, ◌◃ˢ◌, ◌orˢ◌, spells-gives, spells-wider, spells-word, spells-tag, spells-many, spells-list_of, spells-maybe_space}
 use Rattle.imap_bytes.specs.Numbers.{digits, number}
-use Rattle.imap_bytes.specs.Pieces.{written}
-use Rattle.imap_bytes.specs.ReadBack.{ReadsBack, Takes, Spells, Keeps, Apart, Any, Starts, Closes, EndsItem, ends_item, as_is}
-use Rattle.imap_bytes.specs.Pieces.{Pieces, Fits, list_text}
-use Rattle.imap_bytes.proofs.Reading.{first, first_instead, reads-gives, reads-follow, reads-as, reads-before_absent, apart-alt, apart_forms, denials, denies-gives, denies-after, denies-tag, gives-has, gives-on, after-has, after-on, tag-on, closes-in, ◌⨾ʳ◌, ◌▹ʳ◌}
-use Rattle.imap_bytes.proofs.ReadingTexts.{not_digit, takes-text, takes-word, reads-number, reads-number_64, reads-list_of}
+use Rattle.imap_bytes.proofs.ReadingTexts.{not_digit, reads-number, reads-number_64}
 use Rattle.imap_bytes.proofs.ReadingCounts.{word_no_number, reads-counted, counted_apart, counted_other, closes_space, reads-spaced_numbers}
-use Rattle.imap_bytes.proofs.Spelling.{◌⨾ˢ◌, ◌▹ˢ◌, ◌◃ˢ◌, ◌orˢ◌, spells-gives, spells-wider, spells-word, spells-tag, spells-many, spells-number, spells-number_64, spells-list_of, spells-maybe_space}
+use Rattle.imap_bytes.proofs.SpellingTexts.{spells-number, spells-number_64}
 use Rattle.std.proofs.lemmas.List.{map-id}
 use Rattle.imap_items.specs.Gmail.{gmail_label_list, gmail_msgid, gmail_thrid}
 use Rattle.imap_items.proofs.FlagTexts.{reads_flag_list, flag_list_spells}

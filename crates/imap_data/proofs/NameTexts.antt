@@ -2,21 +2,22 @@
 use Rattle.std.proofs.Common.{◌≡◌, true, ◌∷◌, ◌++◌, None, Some, sym, ◌∙◌, ap, subst, refl, codes}
 use Rattle.std.specs.Option.{option_map}
 use Rattle.std.specs.Str.{is_utf8}
-use Rattle.imap_bytes.specs.Classes.{is_atom_char}
-use Rattle.imap_bytes.specs.Meaning.{Denies, differs, outside}
-use Rattle.imap_bytes.specs.Rule.{meaning, gives, nothing, tag_by, ◌▹◌}
-use Rattle.imap_bytes.specs.Text.{Bytes, lent_text}
-use Rattle.imap_bytes.specs.Tags.{same_letter}
+use Rattle.imap_grammar.specs.Classes.{is_atom_char}
+use Rattle.imap_grammar.specs.Meaning.{Denies, differs, outside}
+use Rattle.imap_grammar.specs.Rule.{meaning, gives, nothing, tag_by, ◌▹◌}
+use Rattle.imap_grammar.specs.Text.{Bytes, lent_text}
+use Rattle.imap_grammar.specs.Tags.{same_letter}
+use Rattle.imap_grammar.specs.Pieces.{written, raw}
+use Rattle.imap_grammar.specs.ReadBack.{ReadsBack, Spells, Apart, Any, Starts}
+use Rattle.imap_grammar.specs.Spelling.{nil_or, spells_quoted_text}
+use Rattle.imap_grammar.proofs.Reading.{raw_on, test-has, first, reads-word, reads-gives, reads-test, apart_forms, denials, denies-after, denies-tag, names-denied, tag-denied, ◌⨾ʳ◌, ◌▹ʳ◌}
+use Rattle.imap_grammar.proofs.ReadingWords.{has_cases, differs-again}
+use Rattle.imap_grammar.proofs.ReadingLists.{takes-text, reads-list_of}
+use Rattle.imap_grammar.proofs.Spelling.{◌⨾ˢ◌, ◌▹ˢ◌, ◌orˢ◌, spells-gives, spells-test, spells-names, spells-word, spells-tag, spells-taken, spells-list_of}
 use Rattle.imap_bytes.specs.Strings.{quoted, nil}
 use Rattle.imap_bytes.specs.Texts.{quoted_utf8}
-use Rattle.imap_bytes.specs.Pieces.{written, raw}
-use Rattle.imap_bytes.specs.ReadBack.{ReadsBack, Spells, Apart, Any, Starts}
-use Rattle.imap_bytes.specs.Spelling.{nil_or, spells_quoted_text}
-use Rattle.imap_bytes.proofs.Reading.{raw_on, test-has, first, reads-word, reads-gives, reads-test, apart_forms, denials, denies-after, denies-tag, names-denied, tag-denied, ◌⨾ʳ◌, ◌▹ʳ◌}
-use Rattle.imap_bytes.proofs.ReadingWords.{has_cases, differs-again}
-use Rattle.imap_bytes.proofs.ReadingTexts.{takes-text, reads-list_of}
 use Rattle.imap_bytes.proofs.ReadingQuoted.{reads-quoted_utf8}
-use Rattle.imap_bytes.proofs.Spelling.{◌⨾ˢ◌, ◌▹ˢ◌, ◌orˢ◌, spells-gives, spells-test, spells-names, spells-word, spells-tag, spells-taken, spells-list_of, spells-quoted_utf8}
+use Rattle.imap_bytes.proofs.SpellingTexts.{spells-quoted_utf8}
 use Rattle.imap_items.specs.Flags.{backslashed, backslashed_text}
 use Rattle.imap_items.proofs.FlagTexts.{backslashed-has, reads_backslashed}
 use Rattle.imap_items.proofs.MailboxTexts.{reads_mailbox, mailbox_spells}

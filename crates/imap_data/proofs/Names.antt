@@ -6,9 +6,9 @@ use Rattle.std.specs.Cow.{cow_str_bytes}
 use Rattle.std.specs.Cmp.Lexicographic.{pointwise}
 use Rattle.std.specs.declared.borrow.CowStr.{CowStr}
 use Rattle.std.proofs.lemmas.Bool.{and_parts, and_from}
-use Rattle.imap_bytes.specs.Equality.{Tells}
-use Rattle.imap_bytes.specs.Text.{text_of, lent_text}
-use Rattle.imap_bytes.proofs.Seen.{texts_tell, lists_tell, options_tell}
+use Rattle.imap_grammar.specs.Equality.{Tells}
+use Rattle.imap_grammar.specs.Text.{text_of, lent_text}
+use Rattle.imap_grammar.proofs.Seen.{texts_tell, lists_tell, options_tell}
 use Rattle.imap_data.specs.Names.{ListValue, attribute_value, lent_attribute, attribute_content, list_content}
 use Rattle.imap_data.specs.declared.types.names.MailboxListData.{MailboxListData}
 use Rattle.imap_data.specs.contracts.types.names.NameAttributePartialEq.TheImpl as attribute_eq

@@ -1,14 +1,11 @@
 -- That a rule takes at least a byte wherever it yields: of the items of lists.
 use Rattle.std.proofs.Common.{◌≡◌, true, refl}
-use Rattle.imap_bytes.proofs.Consumption.{consumes}
-use Rattle.imap_bytes.proofs.Takes.{astring_takes, astring_utf8_takes, string_utf8_takes}
+use Rattle.imap_grammar.proofs.Consumption.{consumes}
+use Rattle.imap_bytes.proofs.Takes.{astring_takes}
 use Rattle.imap_items.proofs.Takes.{backslashed_text_takes}
 use Rattle.imap_data.specs.Names.{name_attribute}
 use Rattle.imap_data.specs.Counts.{highest_mod_seq, messages, recent, uid_next, uid_validity, unseen, status_item, found_number}
 use Rattle.imap_data.specs.Annotations.{entry, entry_utf8, annotation}
-use Rattle.imap_data.specs.Quotas.{quota_resource_name, quota_resource, quota_root_name}
-use Rattle.imap_data.specs.Ids.{id_pair}
-use Rattle.imap_data.specs.Acls.{acl_entry}
 
 pub name_attribute_takes : consumes name_attribute ≡ true
 unfolding name_attribute
@@ -29,23 +26,3 @@ entry_utf8_takes = astring_takes
 pub annotation_takes : consumes annotation ≡ true
 unfolding annotation
 annotation_takes = rw entry_utf8_takes refl
-
-pub quota_resource_name_takes : consumes quota_resource_name ≡ true
-unfolding quota_resource_name
-quota_resource_name_takes = astring_utf8_takes
-
-pub quota_resource_takes : consumes quota_resource ≡ true
-unfolding quota_resource
-quota_resource_takes = rw quota_resource_name_takes refl
-
-pub quota_root_name_takes : consumes quota_root_name ≡ true
-unfolding quota_root_name
-quota_root_name_takes = refl
-
-pub id_pair_takes : consumes id_pair ≡ true
-unfolding id_pair
-id_pair_takes = rw string_utf8_takes refl
-
-pub acl_entry_takes : consumes acl_entry ≡ true
-unfolding acl_entry
-acl_entry_takes = rw astring_utf8_takes refl

@@ -1,9 +1,9 @@
 -- The text of annotations of mailboxes.
 use Rattle.std.specs.Prelude.{List}
-use Rattle.imap_bytes.specs.Text.{Text, as_text}
-use Rattle.imap_bytes.specs.Pieces.{Pieces, ◌then◌, words, space, lit, nstring_text, literal_text, quoted_text, separated, list_text}
-use Rattle.imap_bytes.specs.ReadBack.{Texts}
-use Rattle.imap_bytes.specs.Spelling.{exactly, in_any_case, ◌and◌, nil_or, with_between, spells_string_text, spells_astring_text, spells_quoted_text, spells_some_list}
+use Rattle.imap_grammar.specs.Text.{Text, as_text}
+use Rattle.imap_grammar.specs.Pieces.{Pieces, ◌then◌, words, space, lit, nstring_text, literal_text, quoted_text, separated, list_text}
+use Rattle.imap_grammar.specs.ReadBack.{Texts}
+use Rattle.imap_grammar.specs.Spelling.{exactly, in_any_case, ◌and◌, nil_or, with_between, spells_string_text, spells_astring_text, spells_quoted_text, spells_some_list}
 use Rattle.imap_data.specs.MailboxValues.{MetadataValue}
 
 -- an entry's name and its value

@@ -1,13 +1,13 @@
 -- Annotations of mailboxes (RFC 5464, section 5: entry, entry-value, metadata-resp).
 use Rattle.std.specs.Prelude.{ℕ, Bool, true, false, List, [], ◌∷◌, Option, None, Some, option_map, ◌==◌, ◌&&◌, ◌||◌, nat_lt, not, if◌then◌else◌, codes}
 use Rattle.std.specs.List.{list_all, take_while}
-use Rattle.imap_bytes.specs.Text.{Bytes, Text}
-use Rattle.imap_bytes.specs.Rule.{Rule, gives, test, list0, ◌⨾◌, ◌▹◌, ◌◃◌}
-use Rattle.imap_bytes.specs.Tags.{word, sp}
+use Rattle.imap_grammar.specs.Text.{Bytes, Text}
+use Rattle.imap_grammar.specs.Rule.{Rule, gives, test, list0, ◌⨾◌, ◌▹◌, ◌◃◌}
+use Rattle.imap_grammar.specs.Tags.{word, sp}
+use Rattle.imap_grammar.specs.declared.lists.Separator.TheVariants.{Space}
+use Rattle.imap_grammar.specs.Lists.{separator, nonempty_list_of}
 use Rattle.imap_bytes.specs.Strings.{astring}
 use Rattle.imap_bytes.specs.Texts.{utf8, quoted_utf8, nstring_utf8}
-use Rattle.imap_bytes.specs.declared.lists.Separator.TheVariants.{Space}
-use Rattle.imap_bytes.specs.Lists.{separator, nonempty_list_of}
 use Rattle.imap_data.specs.MailboxValues.{MailboxValue, MetadataValue, MetadataSolicited, MetadataUnsolicited}
 
 -- ---- entry names

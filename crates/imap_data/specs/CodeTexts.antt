@@ -1,9 +1,9 @@
 -- The text of a response code.
 use Rattle.std.specs.Prelude.{List, [], Option, None, Some}
-use Rattle.imap_bytes.specs.Text.{Text}
-use Rattle.imap_bytes.specs.Pieces.{Pieces, ◌then◌, words, space, number_text, literal_text, list_text}
-use Rattle.imap_bytes.specs.ReadBack.{Texts}
-use Rattle.imap_bytes.specs.Spelling.{this, exactly, in_any_case, ◌and◌, spells_number, spells_astring_text, spells_some_list}
+use Rattle.imap_grammar.specs.Text.{Text}
+use Rattle.imap_grammar.specs.Pieces.{Pieces, ◌then◌, words, space, number_text, literal_text, list_text}
+use Rattle.imap_grammar.specs.ReadBack.{Texts}
+use Rattle.imap_grammar.specs.Spelling.{this, exactly, in_any_case, ◌and◌, spells_number, spells_astring_text, spells_some_list}
 use Rattle.imap_items.specs.FlagTexts.{canonical_flag_list, spells_flag_list}
 use Rattle.imap_items.specs.CapabilityTexts.{canonical_each, spells_capability_data}
 use Rattle.imap_items.specs.UidSetTexts.{canonical_uid_set, spells_uid_set}

@@ -1,11 +1,11 @@
 -- Response codes (RFC 3501, RFC 4551 and RFC 5464: resp-text-code, in sections 9, 4 and 5; RFC 4315, section 4: resp-code-apnd, resp-code-copy).
 use Rattle.std.specs.Prelude.{ℕ, List, Option, option_map, map}
-use Rattle.imap_bytes.specs.Text.{Text, text_of, lent_text}
-use Rattle.imap_bytes.specs.Rule.{Rule, gives, opt, ◌⨾◌, ◌▹◌, ◌◃◌, ◌or◌}
-use Rattle.imap_bytes.specs.Tags.{tag, word, names, sp}
+use Rattle.imap_grammar.specs.Text.{Text, text_of, lent_text}
+use Rattle.imap_grammar.specs.Rule.{Rule, gives, opt, ◌⨾◌, ◌▹◌, ◌◃◌, ◌or◌}
+use Rattle.imap_grammar.specs.Tags.{tag, word, names, sp}
+use Rattle.imap_grammar.specs.Lists.{nonempty_list_of}
 use Rattle.imap_bytes.specs.Numbers.{number, number_64}
 use Rattle.imap_bytes.specs.Texts.{astring_utf8}
-use Rattle.imap_bytes.specs.Lists.{nonempty_list_of}
 use Rattle.imap_items.specs.Flags.{flag_list}
 use Rattle.imap_items.specs.Capabilities.{capability_data}
 use Rattle.imap_items.specs.UidSets.{MemberValue, uid_set, member_value, IsOrdered}

@@ -1,9 +1,9 @@
 -- Items of STATUS, and numbers that were found (RFC 3501, section 9: status-att-list, mailbox-data; RFC 4551, section 4: status-att-val; RFC 5256, section 5: sort-data).
 use Rattle.std.specs.Prelude.{ℕ, List}
-use Rattle.imap_bytes.specs.Rule.{Rule, gives, many, ◌▹◌, ◌◃◌, ◌or◌}
-use Rattle.imap_bytes.specs.Tags.{word, sp, maybe_space}
+use Rattle.imap_grammar.specs.Rule.{Rule, gives, many, ◌▹◌, ◌◃◌, ◌or◌}
+use Rattle.imap_grammar.specs.Tags.{word, sp, maybe_space}
+use Rattle.imap_grammar.specs.Lists.{list_of}
 use Rattle.imap_bytes.specs.Numbers.{number, number_64}
-use Rattle.imap_bytes.specs.Lists.{list_of}
 use Rattle.imap_data.specs.declared.types.counts.StatusAttribute.{StatusAttribute}
 use Rattle.imap_data.specs.declared.types.counts.StatusAttribute.TheVariants.{HighestModSeq, Messages, Recent, UidNext, UidValidity, Unseen}
 

@@ -4,15 +4,7 @@ pub mod Counts
 pub mod MailboxValues
 pub mod MailboxData
 pub mod Annotations
-pub mod Quotas
-pub mod Ids
-pub mod Vanishings
-pub mod Acls
 pub mod CodeTexts
 pub mod NameTexts
-pub mod QuotaTexts
-pub mod IdTexts
-pub mod VanishingTexts
 pub mod AnnotationTexts
 pub mod MailboxDataTexts
-pub mod AclTexts

@@ -1,8 +1,8 @@
 -- Data of a mailbox (RFC 3501, section 9: mailbox-data; RFC 5256, section 5: sort-data; X-GM-EXT-1).
 use Rattle.std.specs.Prelude.{List}
-use Rattle.imap_bytes.specs.Text.{Text}
-use Rattle.imap_bytes.specs.Rule.{Rule, gives, ◌⨾◌, ◌▹◌, ◌◃◌, ◌or◌}
-use Rattle.imap_bytes.specs.Tags.{word, sp}
+use Rattle.imap_grammar.specs.Text.{Text}
+use Rattle.imap_grammar.specs.Rule.{Rule, gives, ◌⨾◌, ◌▹◌, ◌◃◌, ◌or◌}
+use Rattle.imap_grammar.specs.Tags.{word, sp}
 use Rattle.imap_bytes.specs.Numbers.{number}
 use Rattle.imap_data.specs.declared.types.counts.StatusAttribute.{StatusAttribute}
 use Rattle.imap_items.specs.Flags.{flag_list}

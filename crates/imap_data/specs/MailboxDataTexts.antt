@@ -1,8 +1,8 @@
 -- The text of a mailbox's data.
 use Rattle.std.specs.Prelude.{ℕ, ◌⊎◌, List}
-use Rattle.imap_bytes.specs.Pieces.{Pieces, ◌then◌, words, space, number_text, each, list_text}
-use Rattle.imap_bytes.specs.ReadBack.{Texts}
-use Rattle.imap_bytes.specs.Spelling.{exactly, in_any_case, ◌and◌, maybe, each_of, spells_number, spells_list}
+use Rattle.imap_grammar.specs.Pieces.{Pieces, ◌then◌, words, space, number_text, each, list_text}
+use Rattle.imap_grammar.specs.ReadBack.{Texts}
+use Rattle.imap_grammar.specs.Spelling.{exactly, in_any_case, ◌and◌, maybe, each_of, spells_number, spells_list}
 use Rattle.imap_items.specs.FlagTexts.{canonical_flag_list, spells_flag_list}
 use Rattle.imap_items.specs.GmailTexts.{canonical_label_list, canonical_msgid, canonical_thrid, spells_label_list, spells_msgid, spells_thrid}
 use Rattle.imap_items.specs.MailboxTexts.{canonical_mailbox, spells_mailbox}

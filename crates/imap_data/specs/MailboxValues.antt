@@ -1,7 +1,7 @@
 -- The values of mailbox data and annotations: texts by their bytes, and whether they lie in the input.
 use Rattle.std.specs.Prelude.{ℕ, List, Option, option_map, map}
 use Rattle.std.specs.String.{string_bytes}
-use Rattle.imap_bytes.specs.Text.{Bytes, Text, text_of, lent_text}
+use Rattle.imap_grammar.specs.Text.{Bytes, Text, text_of, lent_text}
 use Rattle.imap_data.specs.Names.{ListValue, list_value, lent_list}
 use Rattle.imap_data.specs.declared.types.counts.StatusAttribute.{StatusAttribute}
 use Rattle.imap_data.specs.declared.types.annotations.Metadata.{Metadata}

@@ -1,9 +1,9 @@
 -- The text of LIST data.
 use Rattle.std.specs.Prelude.{Option, None, Some}
-use Rattle.imap_bytes.specs.Text.{Text}
-use Rattle.imap_bytes.specs.Pieces.{Pieces, ◌then◌, words, space, plain, quoted_text, list_text}
-use Rattle.imap_bytes.specs.ReadBack.{Texts}
-use Rattle.imap_bytes.specs.Spelling.{this, exactly, in_any_case, ◌and◌, spells_quoted_text, spells_list, nil_or}
+use Rattle.imap_grammar.specs.Text.{Text}
+use Rattle.imap_grammar.specs.Pieces.{Pieces, ◌then◌, words, space, plain, quoted_text, list_text}
+use Rattle.imap_grammar.specs.ReadBack.{Texts}
+use Rattle.imap_grammar.specs.Spelling.{this, exactly, in_any_case, ◌and◌, spells_quoted_text, spells_list, nil_or}
 use Rattle.imap_items.specs.MailboxTexts.{canonical_mailbox, spells_mailbox}
 use Rattle.imap_data.specs.Names.{NameAttributeValue, NoInferiors, NoSelect, Marked, Unmarked, All, Archive, Drafts, Flagged, Junk, Sent, Trash, Extension, ListValue}
 

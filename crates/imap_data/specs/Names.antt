@@ -1,11 +1,11 @@
 -- Attributes of mailbox names and the data of LIST (RFC 3501, section 9: mailbox-list, mbx-list-flags; RFC 6154, section 6: use-attr).
 use Rattle.std.specs.Prelude.{List, Option, None, Some, option_map, map}
-use Rattle.imap_bytes.specs.Text.{Bytes, Text, as_text, text_of, lent_text}
-use Rattle.imap_bytes.specs.Rule.{Rule, gives, nothing, ◌⨾◌, ◌▹◌, ◌or◌}
-use Rattle.imap_bytes.specs.Tags.{names, sp}
+use Rattle.imap_grammar.specs.Text.{Bytes, Text, as_text, text_of, lent_text}
+use Rattle.imap_grammar.specs.Rule.{Rule, gives, nothing, ◌⨾◌, ◌▹◌, ◌or◌}
+use Rattle.imap_grammar.specs.Tags.{names, sp}
+use Rattle.imap_grammar.specs.Lists.{list_of}
 use Rattle.imap_bytes.specs.Strings.{nil}
 use Rattle.imap_bytes.specs.Texts.{quoted_utf8}
-use Rattle.imap_bytes.specs.Lists.{list_of}
 use Rattle.imap_items.specs.Flags.{backslashed_text}
 use Rattle.imap_items.specs.Copies.{IsLent}
 use Rattle.imap_items.specs.Mailboxes.{mailbox}

@@ -1,8 +1,8 @@
 //! Laws of the rules and types of this crate, as contracts of functions that do nothing.
 
 ghost use Rattle.std.specs.Prelude.{ℕ, ◌≡◌};
-ghost use Rattle.imap_bytes.specs.Stable.{Stable};
-ghost use Rattle.imap_bytes.specs.Equality.{Tells, HashesAlike};
+ghost use Rattle.imap_grammar.specs.Stable.{Stable};
+ghost use Rattle.imap_grammar.specs.Equality.{Tells, HashesAlike};
 ghost use Rattle.imap_items.specs.Statuses as statuses;
 ghost use Rattle.imap_items.specs.Flags as flags;
 ghost use Rattle.imap_items.specs.Capabilities as capabilities;
@@ -19,19 +19,19 @@ ghost use Rattle.imap_data.specs.MailboxData as mailbox_data;
 ghost use Rattle.imap_data.specs.Names.{attribute_content, list_content};
 ghost use Rattle.imap_data.specs.Counts.{item_content};
 ghost use Rattle.imap_data.specs.MailboxValues.{metadata_content, mailbox_content};
-ghost use Rattle.imap_data.specs.Quotas as quotas;
-ghost use Rattle.imap_data.specs.Ids as ids;
-ghost use Rattle.imap_data.specs.Vanishings as vanishings;
-ghost use Rattle.imap_data.specs.Quotas.{quota_content, quota_resource_content, quota_resource_name_content, quota_root_content};
-ghost use Rattle.imap_data.specs.Ids.{id_content};
+ghost use Rattle.imap_extensions.specs.Quotas as quotas;
+ghost use Rattle.imap_extensions.specs.Ids as ids;
+ghost use Rattle.imap_extensions.specs.Vanishings as vanishings;
+ghost use Rattle.imap_extensions.specs.Quotas.{quota_content, quota_resource_content, quota_resource_name_content, quota_root_content};
+ghost use Rattle.imap_extensions.specs.Ids.{id_content};
 ghost use Rattle.imap_items.specs.Rights as rights;
 ghost use Rattle.imap_items.specs.Rights.{right_content};
-ghost use Rattle.imap_data.specs.Acls as acls;
-ghost use Rattle.imap_data.specs.Acls.{acl_entry_content, acl_content, list_rights_content, my_rights_content};
+ghost use Rattle.imap_extensions.specs.Acls as acls;
+ghost use Rattle.imap_extensions.specs.Acls.{acl_entry_content, acl_content, list_rights_content, my_rights_content};
 ghost use Rattle.imap_data.specs.Annotations as metadata;
 ghost use Rattle.std.specs.Prelude.{map, option_map};
-ghost use Rattle.imap_bytes.specs.Text.{lent_text};
-ghost use Rattle.imap_bytes.specs.ReadBack.{Keeps, Closes, EndsItem, as_is};
+ghost use Rattle.imap_grammar.specs.Text.{lent_text};
+ghost use Rattle.imap_grammar.specs.ReadBack.{Keeps, Closes, EndsItem, as_is};
 ghost use Rattle.imap_items.specs.Capabilities.{lent_capability};
 ghost use Rattle.imap_items.specs.StatusTexts.{canonical_status, spells_status};
 ghost use Rattle.imap_items.specs.FlagTexts.{canonical_flag, spells_flag, canonical_flag_list, spells_flag_list};
@@ -41,30 +41,30 @@ ghost use Rattle.imap_items.specs.UidSetTexts.{canonical_uid_set, spells_uid_set
 ghost use Rattle.imap_items.specs.MailboxTexts.{canonical_mailbox, spells_mailbox};
 ghost use Rattle.imap_data.specs.Codes.{lent_code};
 ghost use Rattle.imap_data.specs.MailboxValues.{lent_mailbox};
-ghost use Rattle.imap_data.specs.Quotas.{lent_quota, lent_quota_root};
-ghost use Rattle.imap_data.specs.Ids.{lent_id};
-ghost use Rattle.imap_data.specs.Acls.{lent_acl, lent_list_rights, lent_my_rights};
+ghost use Rattle.imap_extensions.specs.Quotas.{lent_quota, lent_quota_root};
+ghost use Rattle.imap_extensions.specs.Ids.{lent_id};
+ghost use Rattle.imap_extensions.specs.Acls.{lent_acl, lent_list_rights, lent_my_rights};
 ghost use Rattle.imap_data.specs.CodeTexts.{canonical_response_code, spells_response_code};
 ghost use Rattle.imap_data.specs.MailboxDataTexts.{canonical_datum, spells_datum};
-ghost use Rattle.imap_data.specs.QuotaTexts.{canonical_quota, spells_quota, canonical_quota_root, spells_quota_root};
-ghost use Rattle.imap_data.specs.IdTexts.{canonical_id, spells_id};
-ghost use Rattle.imap_data.specs.VanishingTexts.{canonical_vanished, spells_vanished};
-ghost use Rattle.imap_data.specs.AclTexts.{canonical_acl, spells_acl, canonical_list_rights, spells_list_rights, canonical_my_rights, spells_my_rights};
+ghost use Rattle.imap_extensions.specs.QuotaTexts.{canonical_quota, spells_quota, canonical_quota_root, spells_quota_root};
+ghost use Rattle.imap_extensions.specs.IdTexts.{canonical_id, spells_id};
+ghost use Rattle.imap_extensions.specs.VanishingTexts.{canonical_vanished, spells_vanished};
+ghost use Rattle.imap_extensions.specs.AclTexts.{canonical_acl, spells_acl, canonical_list_rights, spells_list_rights, canonical_my_rights, spells_my_rights};
 
-use crate::types::acls::{Acl, AclEntry, ListRights, MyRights};
 use crate::types::annotations::Metadata;
 use crate::types::codes::ResponseCode;
 use crate::types::counts::StatusAttribute;
-use crate::types::ids::IdMap;
 use crate::types::mailbox_data::MailboxDatum;
 use crate::types::names::{MailboxListData, NameAttribute};
-use crate::types::quotas::{Quota, QuotaResource, QuotaResourceName, QuotaRoot};
+use imap_extensions::{
+    Acl, AclEntry, IdMap, ListRights, MyRights, Quota, QuotaResource, QuotaResourceName, QuotaRoot,
+};
 pub use imap_items::laws::{cloning, conversions};
 use imap_items::{AclRight, Capability, Status, UidSetMember};
 use std::hash::Hash;
 
 /// Each rule has one answer, and appended bytes change neither a value nor a denial, and make what is lacking as much smaller.
-#[tactic(auto, using(imap_bytes::proofs::Stability::is_stable))]
+#[tactic(auto, using(imap_grammar::proofs::Stability::is_stable))]
 pub fn stable()
     ensures status { Stable statuses.status }
     ensures flag { Stable flags.flag }
@@ -135,7 +135,7 @@ pub fn hashing()
 
 /// What each rule takes spells the value that it yields. And a value that it yields on some bytes, it yields again on the value's canonical text, with all texts borrowed,
 /// and leaves exactly what follows: any bytes that begin with `)` or CR, and for statuses, response codes, flags and Gmail's items also with a space. A text too long for its length to be told as a literal is excepted.
-#[tactic(auto, using(imap_items::proofs::StatusTexts::keeps_status, imap_items::proofs::FlagTexts::keeps_flag, imap_items::proofs::FlagTexts::keeps_flag_perm, imap_items::proofs::FlagTexts::keeps_flag_list, imap_items::proofs::GmailTexts::keeps_label_list, imap_items::proofs::GmailTexts::keeps_msgid, imap_items::proofs::GmailTexts::keeps_thrid, imap_items::proofs::CapabilityTexts::keeps_capability_data, imap_items::proofs::CapabilityTexts::keeps_enabled_data, imap_items::proofs::UidSetTexts::keeps_uid_set, imap_items::proofs::MailboxTexts::keeps_mailbox, crate::proofs::CodeTexts::keeps_response_code, crate::proofs::MailboxDataTexts::keeps_mailbox_datum, crate::proofs::QuotaTexts::keeps_quota, crate::proofs::QuotaTexts::keeps_quota_root, crate::proofs::IdTexts::keeps_id, crate::proofs::VanishingTexts::keeps_vanished, crate::proofs::AnnotationTexts::keeps_solicited, crate::proofs::AnnotationTexts::keeps_unsolicited, crate::proofs::AclTexts::keeps_acl, crate::proofs::OptionalRights::keeps_list_rights, crate::proofs::AclTexts::keeps_my_rights))]
+#[tactic(auto, using(imap_items::proofs::StatusTexts::keeps_status, imap_items::proofs::FlagTexts::keeps_flag, imap_items::proofs::FlagTexts::keeps_flag_perm, imap_items::proofs::FlagTexts::keeps_flag_list, imap_items::proofs::GmailTexts::keeps_label_list, imap_items::proofs::GmailTexts::keeps_msgid, imap_items::proofs::GmailTexts::keeps_thrid, imap_items::proofs::CapabilityTexts::keeps_capability_data, imap_items::proofs::CapabilityTexts::keeps_enabled_data, imap_items::proofs::UidSetTexts::keeps_uid_set, imap_items::proofs::MailboxTexts::keeps_mailbox, crate::proofs::CodeTexts::keeps_response_code, crate::proofs::MailboxDataTexts::keeps_mailbox_datum, imap_extensions::proofs::QuotaTexts::keeps_quota, imap_extensions::proofs::QuotaTexts::keeps_quota_root, imap_extensions::proofs::IdTexts::keeps_id, imap_extensions::proofs::VanishingTexts::keeps_vanished, crate::proofs::AnnotationTexts::keeps_solicited, crate::proofs::AnnotationTexts::keeps_unsolicited, imap_extensions::proofs::AclTexts::keeps_acl, imap_extensions::proofs::OptionalRights::keeps_list_rights, imap_extensions::proofs::AclTexts::keeps_my_rights))]
 pub fn read_back()
     ensures status { Keeps statuses.status as_is canonical_status spells_status EndsItem }
     ensures flag { Keeps flags.flag as_is canonical_flag spells_flag EndsItem }

@@ -9,25 +9,20 @@ macro_rules! worded {
     }};
 }
 
-pub mod acls;
 pub mod annotations;
 pub mod codes;
 pub mod counts;
-pub mod ids;
 pub mod mailbox_data;
 pub mod names;
-pub mod quotas;
-pub mod vanishings;
 
-pub use acls::{acl, list_rights, my_rights};
 pub use annotations::{metadata_solicited, metadata_unsolicited};
 pub use codes::response_code;
-pub use ids::id;
+pub use imap_extensions::readers::{
+    acl, acls, id, ids, list_rights, my_rights, quota, quota_root, quotas, vanished, vanishings,
+};
 pub use imap_items::readers::{
     capabilities, capability_data, enabled_data, flag, flag_list, flag_perm, flags, gmail,
     gmail_label_list, gmail_msgid, gmail_thrid, mailbox, mailboxes, rights, status, statuses,
     uid_set, uid_sets,
 };
 pub use mailbox_data::mailbox_datum;
-pub use quotas::{quota, quota_root};
-pub use vanishings::vanished;

@@ -2,8 +2,8 @@
 use Rattle.std.proofs.Common.{◌≡◌, List, [], ◌∷◌, refl, ap, map, true}
 use Rattle.std.specs.Prelude.{◌||◌}
 use Rattle.std.specs.List.{list_any}
-use Rattle.imap_bytes.specs.Equality.{Tells}
-use Rattle.imap_bytes.proofs.Seen.{texts_tell}
+use Rattle.imap_grammar.specs.Equality.{Tells}
+use Rattle.imap_grammar.proofs.Seen.{texts_tell}
 use Rattle.imap_items.specs.Capabilities.{capability_value, capability_content, Auth, Atom}
 use Rattle.imap_items.specs.Capabilities.{is_revision}
 use Rattle.imap_items.specs.declared.types.capabilities.Capability.{Capability}

@@ -1,27 +1,27 @@
 -- Capabilities read back.
 use Rattle.std.proofs.Common.{◌≡◌, ℕ, Bool, true, false, ◌||◌, ◌==◌, List, [], ◌∷◌, ◌++◌, IsTrue, sym, ◌∙◌, ap, subst, refl, codes, append_assoc, map, inl, inr, cond}
-use Rattle.std.proofs.lemmas.Bool.{false≢true, both_ways}
+use Rattle.std.proofs.lemmas.Bool.{false≢true}
 use Rattle.std.proofs.lemmas.List.Elements.{All-head, All-tail}
 use Rattle.std.specs.List.{list_all, list_any, All}
-use Rattle.imap_bytes.specs.Classes.{is_atom_char}
-use Rattle.imap_bytes.specs.Meaning.{Denies, is_word, differs, outside}
-use Rattle.imap_bytes.specs.Rule.{Rule, meaning, gives, many, ◌▹◌}
-use Rattle.imap_bytes.specs.Text.{Bytes}
-use Rattle.imap_bytes.specs.Tags.{word, names, sp, same_letter}
+use Rattle.imap_grammar.specs.Classes.{is_atom_char}
+use Rattle.imap_grammar.specs.Meaning.{Denies, differs, outside}
+use Rattle.imap_grammar.specs.Rule.{Rule, meaning, ◌▹◌}
+use Rattle.imap_grammar.specs.Text.{Bytes}
+use Rattle.imap_grammar.specs.Tags.{word, names, sp, same_letter}
+use Rattle.imap_grammar.specs.Pieces.{written, words, ◌then◌}
+use Rattle.imap_grammar.specs.ReadBack.{ReadsBack, Spells, Keeps, Apart, Starts, Closes}
+use Rattle.imap_grammar.specs.Spelling.{this}
+use Rattle.imap_grammar.proofs.Yields.{Yields, right_yields, many_yield, made_yields}
+use Rattle.imap_grammar.proofs.Reading.{raw_on, run1-has, test-has, denies-after, denies-tag, reads-gives, reads-test, reads-word, reads-many, reads-where, first, apart-alt, apart_forms, names-denied, tag-denied, takes-tag, closes-in, ◌▹ʳ◌}
+use Rattle.imap_grammar.proofs.ReadingWords.{differs-again, word_in_class, same_run}
+use Rattle.imap_grammar.proofs.ReadingLists.{takes-text, takes-word}
+use Rattle.imap_grammar.proofs.Spelling.{◌▹ˢ◌, ◌orˢ◌, spells-gives, spells-test, spells-tested, spells-names, spells-word, spells-tag, spells-run, spells-many}
 use Rattle.imap_bytes.specs.Strings.{atom}
-use Rattle.imap_bytes.specs.Pieces.{written, raw, words, ◌then◌}
-use Rattle.imap_bytes.specs.ReadBack.{ReadsBack, Spells, Keeps, Apart, Starts, Closes, closes}
-use Rattle.imap_bytes.specs.Spelling.{this}
 use Rattle.imap_bytes.proofs.LossyTwice.{all-append}
-use Rattle.imap_bytes.proofs.Yields.{Yields, given_yields, right_yields, many_yield, made_yields}
-use Rattle.imap_bytes.proofs.Reading.{raw_on, run1-has, test-has, denies-after, denies-tag, reads-gives, reads-test, reads-word, reads-many, reads-where, first, apart-alt, apart_forms, names-denied, tag-denied, takes-tag, closes-in, starts, ◌▹ʳ◌}
-use Rattle.imap_bytes.proofs.ReadingWords.{differs-again, word_in_class, same_run}
-use Rattle.imap_bytes.proofs.ReadingTexts.{takes-text, takes-word}
 use Rattle.imap_bytes.proofs.ReadingSets.{reads-atom}
-use Rattle.imap_bytes.proofs.Spelling.{◌▹ˢ◌, ◌orˢ◌, spells-gives, spells-wider, spells-test, spells-tested, spells-names, spells-word, spells-tag, spells-run, spells-many}
 use Rattle.std.specs.Str.{is_utf8}
 use Rattle.imap_items.specs.Capabilities.{CapabilityValue, Imap4rev1, Auth, Atom, lent_capability, auth_of, atom_of, auth, name, capability, is_revision, spaced_capability, spaced_capabilities, capability_data, spaced_name, spaced_names, enabled_data}
-use Rattle.imap_items.specs.CapabilityTexts.{canonical_capability, canonical_each, canonical_capabilities, spells_capability, spells_capability_data, spells_enabled, spells_enabled_data}
+use Rattle.imap_items.specs.CapabilityTexts.{canonical_capability, canonical_each, canonical_capabilities, spells_capability, spells_capability_data, spells_enabled_data}
 
 abbrev pub AtomEnds : Bytes → Type 0
 AtomEnds = Starts (outside is_atom_char)

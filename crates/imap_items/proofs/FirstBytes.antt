@@ -1,11 +1,11 @@
 -- Which alternatives answer, by the first byte.
 use Rattle.std.proofs.Common.{◌≡◌, ℕ, List, None, Err, refl}
 use Rattle.std.specs.Prelude.{slice_get}
-use Rattle.imap_bytes.specs.declared.answer.Err.TheVariants.{Incomplete}
-use Rattle.imap_bytes.specs.declared.answer.Needed.TheVariants.{Unknown}
-use Rattle.imap_bytes.specs.Rule.{never}
-use Rattle.imap_bytes.specs.Step.{step}
-use Rattle.imap_bytes.proofs.Starts.{AtAny, AtOther, waits_without, by_any, by_other}
+use Rattle.imap_grammar.specs.declared.answer.Err.TheVariants.{Incomplete}
+use Rattle.imap_grammar.specs.declared.answer.Needed.TheVariants.{Unknown}
+use Rattle.imap_grammar.specs.Rule.{never}
+use Rattle.imap_grammar.specs.Step.{step}
+use Rattle.imap_grammar.proofs.Starts.{AtAny, AtOther, waits_without, by_any, by_other}
 use Rattle.imap_items.specs.Statuses.{status, ok_word, no_word, bad_or_bye, preauth_word}
 
 pub status_none : (m : List ℕ) → slice_get m 0 ≡ None → step status m ≡ Err (Incomplete Unknown)

@@ -1,22 +1,21 @@
 -- Flags read back.
-use Rattle.std.proofs.Common.{◌≡◌, ℕ, ◌<◌, ◌==◌, ◌&&◌, ◌||◌, Bool, true, false, not, List, [], ◌∷◌, ◌++◌, length, IsTrue, sym, ◌∙◌, ap, subst, refl, inl, inr, codes, map, arith}
+use Rattle.std.proofs.Common.{◌≡◌, ◌<◌, ◌==◌, ◌&&◌, true, false, not, [], ◌∷◌, ◌++◌, length, IsTrue, sym, ◌∙◌, ap, subst, refl, inl, inr, codes, map, arith}
 use Rattle.std.proofs.lemmas.Bool.{false≢true, and_parts, and_from, or_cases, or_left, or_right, eqb-true}
 use Rattle.std.proofs.lemmas.List.{append_cancel_right}
 use Rattle.std.specs.List.{list_all}
 use Rattle.std.specs.Str.{is_utf8}
-use Rattle.imap_bytes.specs.Classes.{is_atom_char, is_astring_char}
-use Rattle.imap_bytes.specs.Meaning.{Denies, differs, outside}
-use Rattle.imap_bytes.specs.Rule.{meaning, run1}
-use Rattle.imap_bytes.specs.Text.{Bytes, Text, as_text, lent_text}
-use Rattle.imap_bytes.specs.Tags.{tag, exactly_names}
-use Rattle.imap_bytes.specs.Pieces.{raw, plain}
-use Rattle.imap_bytes.specs.ReadBack.{ReadsBack, Spells, Keeps, Any, Starts, EndsItem, ends_item, as_is}
-use Rattle.imap_bytes.specs.Spelling.{this}
-use Rattle.imap_bytes.proofs.Reading.{raw_on, test-has, test-on, run1-has, first, reads-gives, reads-word, reads-follow, denies-after, denies-test, denies-raw, denies-seq, denies-tag, denials, ends_item-in, names-denied, tag-denied}
-use Rattle.imap_bytes.proofs.ReadingWords.{exact, apart_byte, run-apart}
-use Rattle.imap_bytes.proofs.ReadingTexts.{reads-list_of}
-use Rattle.imap_bytes.proofs.Yields.{Yields}
-use Rattle.imap_bytes.proofs.Spelling.{◌orˢ◌, spells-gives, spells-test, spells-names, spells-bytes, spells-taken, spells-run, spells-list_of}
+use Rattle.imap_grammar.specs.Classes.{is_atom_char, is_astring_char}
+use Rattle.imap_grammar.specs.Meaning.{differs, outside}
+use Rattle.imap_grammar.specs.Rule.{meaning, run1}
+use Rattle.imap_grammar.specs.Text.{Bytes, as_text, lent_text}
+use Rattle.imap_grammar.specs.Tags.{tag}
+use Rattle.imap_grammar.specs.Pieces.{raw, plain}
+use Rattle.imap_grammar.specs.ReadBack.{ReadsBack, Spells, Keeps, Any, Starts, EndsItem, ends_item, as_is}
+use Rattle.imap_grammar.proofs.Reading.{raw_on, test-has, test-on, run1-has, first, reads-gives, reads-word, reads-follow, denies-after, denies-tag, denials, ends_item-in, names-denied, tag-denied}
+use Rattle.imap_grammar.proofs.ReadingWords.{exact, apart_byte, run-apart}
+use Rattle.imap_grammar.proofs.ReadingLists.{reads-list_of}
+use Rattle.imap_grammar.proofs.Yields.{Yields}
+use Rattle.imap_grammar.proofs.Spelling.{◌orˢ◌, spells-gives, spells-test, spells-names, spells-bytes, spells-taken, spells-run, spells-list_of}
 use Rattle.imap_items.specs.Flags.{backslashed, backslashed_text, keyword, flag, flag_perm, flag_text, flag_list}
 use Rattle.imap_items.specs.FlagTexts.{canonical_flag, canonical_flag_list, spells_flag, spells_flag_list, is_flag_word, is_flag}
 

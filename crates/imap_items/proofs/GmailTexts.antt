@@ -1,17 +1,19 @@
 -- Gmail's items read back.
-use Rattle.std.proofs.Common.{◌≡◌, ℕ, Bool, true, false, List, ◌∷◌, ◌++◌, cond, sym, ◌∙◌, ap, subst, refl, inl, inr, codes, map}
+use Rattle.std.proofs.Common.{◌≡◌, Bool, true, false, ◌∷◌, ◌++◌, cond, sym, subst, refl, inl, inr, map}
 use Rattle.std.proofs.lemmas.Bool.{both_ways}
-use Rattle.imap_bytes.specs.Meaning.{Denies, outside}
-use Rattle.imap_bytes.specs.Rule.{meaning, gives}
-use Rattle.imap_bytes.specs.Text.{Bytes, Text, as_text, lent_text}
+use Rattle.imap_grammar.specs.Meaning.{Denies}
+use Rattle.imap_grammar.specs.Rule.{meaning}
+use Rattle.imap_grammar.specs.Text.{Bytes, Text, as_text, lent_text}
+use Rattle.imap_grammar.specs.Pieces.{written, plain, quoted_text}
+use Rattle.imap_grammar.specs.ReadBack.{ReadsBack, Spells, Keeps, Any, EndsItem, as_is}
+use Rattle.imap_grammar.proofs.Reading.{raw_on, reads-follow, denials, ends_item-in, ◌▹ʳ◌}
+use Rattle.imap_grammar.proofs.ReadingLists.{takes-word, reads-list_of}
+use Rattle.imap_grammar.proofs.Spelling.{◌▹ˢ◌, ◌orˢ◌, spells-gives, spells-wider, spells-where, spells-word, spells-list_of}
 use Rattle.imap_bytes.specs.Strings.{quoted}
 use Rattle.imap_bytes.specs.Texts.{quoted_utf8}
-use Rattle.imap_bytes.specs.Pieces.{written, plain, quoted_text, list_text}
-use Rattle.imap_bytes.specs.ReadBack.{ReadsBack, Spells, Keeps, Any, EndsItem, as_is}
-use Rattle.imap_bytes.proofs.Reading.{raw_on, reads-follow, denials, denies-gives, ends_item-in, ◌▹ʳ◌}
-use Rattle.imap_bytes.proofs.ReadingTexts.{not_digit, takes-word, reads-number_64, reads-list_of}
+use Rattle.imap_bytes.proofs.ReadingTexts.{not_digit, reads-number_64}
 use Rattle.imap_bytes.proofs.ReadingQuoted.{reads-quoted_utf8}
-use Rattle.imap_bytes.proofs.Spelling.{◌▹ˢ◌, ◌orˢ◌, spells-gives, spells-wider, spells-where, spells-word, spells-list_of, spells-number_64, spells-quoted_utf8}
+use Rattle.imap_bytes.proofs.SpellingTexts.{spells-number_64, spells-quoted_utf8}
 use Rattle.imap_items.specs.Flags.{flag, backslashed_text, backslashed, keyword}
 use Rattle.imap_items.specs.FlagTexts.{is_flag}
 use Rattle.imap_items.specs.Gmail.{gmail_label, gmail_labels, gmail_label_list, gmail_msgid, gmail_thrid}

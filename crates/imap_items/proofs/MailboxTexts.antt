@@ -2,18 +2,19 @@
 use Rattle.std.proofs.Common.{◌≡◌, Bool, true, false, ◌++◌, sym, ◌∙◌, ap, subst, refl, inl, inr, ◌⊎◌, codes, append-nil}
 use Rattle.std.proofs.lemmas.Bool.{cases_Bool, cond-true, cond-false}
 use lib.Utf8.{encode}
-use Rattle.imap_bytes.specs.Meaning.{is_word}
-use Rattle.imap_bytes.specs.Rule.{meaning}
-use Rattle.imap_bytes.specs.Text.{Bytes, Text, decoded, as_text, lent_text}
-use Rattle.imap_bytes.specs.Tags.{same_letter}
+use Rattle.imap_grammar.specs.Meaning.{is_word}
+use Rattle.imap_grammar.specs.Rule.{meaning}
+use Rattle.imap_grammar.specs.Text.{Bytes, Text, decoded, as_text, lent_text}
+use Rattle.imap_grammar.specs.Tags.{same_letter}
+use Rattle.imap_grammar.specs.Pieces.{literal_of}
+use Rattle.imap_grammar.specs.ReadBack.{ReadsBack, Spells, Keeps, Any, Closes}
+use Rattle.imap_grammar.specs.Spelling.{spells_astring_text}
+use Rattle.imap_grammar.proofs.Reading.{reads-follow}
+use Rattle.imap_grammar.proofs.Spelling.{spells-gives, spells-wider}
 use Rattle.imap_bytes.specs.Strings.{astring}
 use Rattle.imap_bytes.specs.Texts.{astring_utf8}
-use Rattle.imap_bytes.specs.Pieces.{written, literal_of}
-use Rattle.imap_bytes.specs.ReadBack.{ReadsBack, Spells, Keeps, Any, Closes}
-use Rattle.imap_bytes.specs.Spelling.{spells_astring_text}
-use Rattle.imap_bytes.proofs.Reading.{reads-follow}
 use Rattle.imap_bytes.proofs.ReadingTexts.{astring_on, decoded_utf8, decoded_twice}
-use Rattle.imap_bytes.proofs.Spelling.{spells-gives, spells-wider, spells-astring_utf8}
+use Rattle.imap_bytes.proofs.SpellingTexts.{spells-astring_utf8}
 use Rattle.imap_items.specs.Mailboxes.{mailbox_of, mailbox}
 use Rattle.imap_items.specs.MailboxTexts.{canonical_mailbox, spells_mailbox}
 

@@ -1,16 +1,15 @@
 -- Rights read back.
-use Rattle.std.proofs.Common.{◌≡◌, ℕ, List, [], ◌∷◌, sym, ◌∙◌, ap, ap₂, subst, refl, map, encode_utf8_all, chars, IsUtf8, rules}
+use Rattle.std.proofs.Common.{◌≡◌, ℕ, List, [], ◌∷◌, sym, ◌∙◌, ap, ap₂, refl, map, encode_utf8_all, chars, IsUtf8, rules}
 use Rattle.std.proofs.lemmas.Str.{encodes-chars}
-use Rattle.std.specs.Str.Lossy.{utf8_lossy}
-use Rattle.imap_bytes.specs.Text.{Bytes, Text}
+use Rattle.imap_grammar.specs.Text.{Bytes, Text}
+use Rattle.imap_grammar.specs.Pieces.{lit}
+use Rattle.imap_grammar.specs.ReadBack.{ReadsBack, Spells, Keeps, Any, Closes, as_is}
+use Rattle.imap_grammar.proofs.Yields.{Yields}
+use Rattle.imap_grammar.proofs.Reading.{reads-gives, reads-where, reads-follow}
+use Rattle.imap_grammar.proofs.Spelling.{spells-gives, spells-where}
 use Rattle.imap_bytes.specs.Texts.{astring_utf8}
-use Rattle.imap_bytes.specs.Pieces.{lit}
-use Rattle.imap_bytes.specs.ReadBack.{ReadsBack, Spells, Keeps, Any, Closes, as_is}
-use Rattle.imap_bytes.specs.Spelling.{spells_astring}
-use Rattle.imap_bytes.proofs.Yields.{Yields}
-use Rattle.imap_bytes.proofs.Reading.{reads-gives, reads-where, reads-follow}
 use Rattle.imap_bytes.proofs.ReadingTexts.{reads-astring_utf8, utf8_yields}
-use Rattle.imap_bytes.proofs.Spelling.{spells-gives, spells-where, spells-astring_utf8}
+use Rattle.imap_bytes.proofs.SpellingTexts.{spells-astring_utf8}
 use Rattle.imap_items.specs.Rights.{right_of, letter_of, rights_of, rights_in, rights}
 use Rattle.imap_items.specs.RightTexts.{letters_of, canonical_rights, spells_rights}
 

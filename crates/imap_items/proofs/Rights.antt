@@ -1,6 +1,6 @@
 -- What `==` tells of a right.
 use Rattle.std.proofs.Common.{rules}
-use Rattle.imap_bytes.specs.Equality.{Tells}
+use Rattle.imap_grammar.specs.Equality.{Tells}
 use Rattle.imap_items.specs.Rights.{right_content}
 use Rattle.imap_items.specs.contracts.types.rights.AclRightPartialEq.TheImpl as right_eq
 

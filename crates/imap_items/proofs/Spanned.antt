@@ -6,15 +6,15 @@ use Rattle.std.proofs.lemmas.Str.{IsUtf8-from_ascii, IsUtf8-from_is_utf8, is_utf
 use Rattle.std.proofs.lemmas.Str.Ascii.{IsAscii-from_all}
 use Rattle.std.proofs.lemmas.List.Elements.{All-nil, All-cons}
 use Rattle.std.specs.Str.{is_utf8}
-use Rattle.imap_bytes.specs.declared.at.span.Span.{Span}
-use Rattle.imap_bytes.specs.Positions.{between, named_in, Rests}
-use Rattle.imap_bytes.specs.Rule.{Rule, meaning, tag_by, raw, gives}
-use Rattle.imap_bytes.specs.Step.{Step, step}
-use Rattle.imap_bytes.specs.Text.{Bytes, as_text, decoded}
-use Rattle.imap_bytes.proofs.Agreement.{agrees}
-use Rattle.imap_bytes.proofs.Positions.{some_rests}
-use Rattle.imap_bytes.proofs.ReadingWords.{exact}
-use Rattle.imap_bytes.proofs.Yields.{Yields, either_yields, named_yields}
+use Rattle.imap_grammar.specs.declared.at.span.Span.{Span}
+use Rattle.imap_grammar.specs.Positions.{between, named_in, Rests}
+use Rattle.imap_grammar.specs.Rule.{Rule, meaning, tag_by, raw, gives}
+use Rattle.imap_grammar.specs.Step.{Step, step}
+use Rattle.imap_grammar.specs.Text.{Bytes, as_text, decoded}
+use Rattle.imap_grammar.proofs.Agreement.{agrees}
+use Rattle.imap_grammar.proofs.Positions.{some_rests}
+use Rattle.imap_grammar.proofs.ReadingWords.{exact}
+use Rattle.imap_grammar.proofs.Yields.{Yields, either_yields, named_yields}
 use Rattle.imap_items.specs.Flags.{flag, flag_perm}
 use Rattle.imap_items.specs.FlagTexts.{is_flag_word}
 use Rattle.imap_items.specs.Spanned.{text_in}

@@ -1,8 +1,8 @@
 -- Statuses read back.
 use Rattle.std.proofs.Common.{refl, codes}
-use Rattle.imap_bytes.specs.ReadBack.{ReadsBack, Spells, Keeps, Any, EndsItem, as_is}
-use Rattle.imap_bytes.proofs.Reading.{first, reads-word, reads-follow, apart_forms}
-use Rattle.imap_bytes.proofs.Spelling.{◌orˢ◌, spells-names, spells-word}
+use Rattle.imap_grammar.specs.ReadBack.{ReadsBack, Spells, Keeps, Any, EndsItem, as_is}
+use Rattle.imap_grammar.proofs.Reading.{first, reads-word, reads-follow, apart_forms}
+use Rattle.imap_grammar.proofs.Spelling.{◌orˢ◌, spells-names, spells-word}
 use Rattle.imap_items.specs.declared.types.statuses.Status.TheVariants.{Ok, No, Bad, PreAuth, Bye}
 use Rattle.imap_items.specs.Statuses.{status}
 use Rattle.imap_items.specs.StatusTexts.{canonical_status, spells_status}

@@ -1,6 +1,6 @@
 -- That a rule takes at least a byte wherever it yields: of each public rule that does, and of the items of lists.
 use Rattle.std.proofs.Common.{◌≡◌, true, refl}
-use Rattle.imap_bytes.proofs.Consumption.{consumes}
+use Rattle.imap_grammar.proofs.Consumption.{consumes}
 use Rattle.imap_bytes.proofs.Takes.{number_takes, sequence_range_takes, quoted_utf8_takes, astring_utf8_takes}
 use Rattle.imap_items.specs.Flags.{backslashed, backslashed_text, keyword, flag, flag_perm, flag_text}
 use Rattle.imap_items.specs.Gmail.{gmail_label}

@@ -1,19 +1,21 @@
 -- Sets of UIDs read back.
-use Rattle.std.proofs.Common.{◌≡◌, ℕ, ◌<◌, ◌≤◌, ◌^◌, min, max, ◌++◌, decimal, ap₂, ap, sym, ◌∙◌, subst, refl, inl, inr, arith, map}
+use Rattle.std.proofs.Common.{◌≡◌, ℕ, ◌<◌, ◌^◌, min, max, ◌++◌, decimal, ap₂, sym, subst, refl, inl, inr, arith}
 use Rattle.std.proofs.lemmas.Bool.{cases_lt}
 use Rattle.std.proofs.lemmas.List.{map-id}
-use Rattle.imap_bytes.specs.Meaning.{Denies, outside}
-use Rattle.imap_bytes.specs.Rule.{meaning, gives, ◌⨾◌, ◌▹◌}
-use Rattle.imap_bytes.specs.Text.{Bytes}
-use Rattle.imap_bytes.specs.Tags.{tag}
+use Rattle.imap_grammar.specs.Meaning.{Denies, outside}
+use Rattle.imap_grammar.specs.Rule.{meaning, gives}
+use Rattle.imap_grammar.specs.Text.{Bytes}
+use Rattle.imap_grammar.specs.Tags.{tag}
+use Rattle.imap_grammar.specs.Pieces.{written}
+use Rattle.imap_grammar.specs.ReadBack.{ReadsBack, Spells, Keeps, Apart, Starts, Closes, as_is}
+use Rattle.imap_grammar.proofs.Reading.{raw_on, reads-gives, reads-follow, reads-list1, reads-as, first, denies-gives, denies-after, closes-in}
+use Rattle.imap_grammar.proofs.ReadingLists.{takes-text}
+use Rattle.imap_grammar.proofs.Spelling.{◌orˢ◌, spells-gives, spells-wider, spells-list1, spells-tag}
 use Rattle.imap_bytes.specs.Numbers.{number}
 use Rattle.imap_bytes.specs.Sets.{sequence_range}
-use Rattle.imap_bytes.specs.Pieces.{written, number_text}
-use Rattle.imap_bytes.specs.ReadBack.{ReadsBack, Spells, Keeps, Apart, Starts, Closes, as_is}
-use Rattle.imap_bytes.proofs.Reading.{raw_on, reads-gives, reads-follow, reads-list1, reads-as, first, denies-gives, denies-after, closes-in}
-use Rattle.imap_bytes.proofs.ReadingTexts.{number_on, reads-number, takes-text}
+use Rattle.imap_bytes.proofs.ReadingTexts.{number_on, reads-number}
 use Rattle.imap_bytes.proofs.ReadingSets.{number_bound, range_on, range_bounds, in_set, in_range, range_digits, range_colon, set_range, set_comma}
-use Rattle.imap_bytes.proofs.Spelling.{◌orˢ◌, spells-gives, spells-wider, spells-list1, spells-tag, spells-number, spells-sequence_range}
+use Rattle.imap_bytes.proofs.SpellingTexts.{spells-number, spells-sequence_range}
 use Rattle.imap_items.specs.UidSets.{MemberValue, UidRange, Uid, range_of, uid_set_member, uid_set}
 use Rattle.imap_items.specs.UidSetTexts.{canonical_member, canonical_uid_set, spells_ends, spells_member, spells_uid_set}
 

@@ -5,15 +5,15 @@ use Rattle.std.specs.List.{All}
 use Rattle.std.proofs.lemmas.List.Elements.{All-nil, All-cons, All-head, All-tail}
 use Rattle.std.specs.Range.{range_inclusive_start, range_inclusive_end, range_inclusive_exhausted}
 use Rattle.std.specs.Global.{Vec}
-use Rattle.imap_bytes.specs.Equality.{Tells}
-use Rattle.imap_bytes.specs.Step.{step}
-use Rattle.imap_bytes.specs.Answer.{Returned, Gives}
-use Rattle.imap_bytes.proofs.Agreement.{reads}
+use Rattle.imap_grammar.specs.Equality.{Tells}
+use Rattle.imap_grammar.specs.Step.{step}
+use Rattle.imap_grammar.specs.Answer.{Returned, Gives}
+use Rattle.imap_grammar.proofs.Agreement.{reads}
 use Rattle.imap_items.specs.UidSets.{MemberValue, UidRange, Uid, Spent, member_value, range_value, range_of, IsOrdered, uid_set, uid_set_member}
 use Rattle.imap_items.specs.declared.types.uid_sets.UidSetMember.{UidSetMember}
 use Rattle.imap_items.specs.declared.types.uid_sets.UidSetMember.TheVariants as member
 use Rattle.imap_items.specs.contracts.types.uid_sets.UidSetMemberPartialEq.TheImpl as member_eq
-use Rattle.imap_bytes.proofs.Yields.{Yields, either_yields, made_yields, list_yields}
+use Rattle.imap_grammar.proofs.Yields.{Yields, either_yields, made_yields, list_yields}
 
 -- of a member's value: a spent range is not read at all
 abbrev pub IsOrderedValue : MemberValue → Type 0

@@ -1,9 +1,9 @@
 -- Capabilities (RFC 3501, section 9: capability-data, capability; RFC 5161, section 4: enable-data).
 use Rattle.std.specs.Prelude.{Bool, true, false, List}
 use Rattle.std.specs.List.{list_any}
-use Rattle.imap_bytes.specs.Text.{Bytes, as_text, Text, text_of, lent_text}
-use Rattle.imap_bytes.specs.Rule.{Rule, gives, many, test, ◌▹◌, ◌or◌}
-use Rattle.imap_bytes.specs.Tags.{word, names, sp}
+use Rattle.imap_grammar.specs.Text.{Bytes, as_text, Text, text_of, lent_text}
+use Rattle.imap_grammar.specs.Rule.{Rule, gives, many, test, ◌▹◌, ◌or◌}
+use Rattle.imap_grammar.specs.Tags.{word, names, sp}
 use Rattle.imap_bytes.specs.Strings.{atom}
 use Rattle.imap_items.specs.declared.types.capabilities.Capability.{Capability}
 use Rattle.imap_items.specs.declared.types.capabilities.Capability.TheVariants as kind

@@ -1,9 +1,9 @@
 -- The text of capabilities.
-use Rattle.std.specs.Prelude.{◌≡◌, true, false, List, cond}
+use Rattle.std.specs.Prelude.{◌≡◌, true, List, cond}
 use Rattle.std.specs.List.{list_any}
-use Rattle.imap_bytes.specs.Pieces.{Pieces, ◌then◌, words, space, plain, each}
-use Rattle.imap_bytes.specs.ReadBack.{Texts}
-use Rattle.imap_bytes.specs.Spelling.{this, exactly, in_any_case, ◌and◌, each_of}
+use Rattle.imap_grammar.specs.Pieces.{Pieces, ◌then◌, words, space, plain, each}
+use Rattle.imap_grammar.specs.ReadBack.{Texts}
+use Rattle.imap_grammar.specs.Spelling.{this, exactly, in_any_case, ◌and◌, each_of}
 use Rattle.imap_items.specs.Capabilities.{CapabilityValue, Imap4rev1, Auth, Atom, is_revision}
 
 abbrev pub canonical_capability : CapabilityValue → Pieces

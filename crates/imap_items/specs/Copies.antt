@@ -1,6 +1,6 @@
 -- Which copies of texts take no memory.
 use Rattle.std.specs.Prelude.{◌≡◌, true}
-use Rattle.imap_bytes.specs.Text.{Text}
+use Rattle.imap_grammar.specs.Text.{Text}
 
 -- it lies in the input
 abbrev pub IsLent : Text → Type 0

@@ -1,12 +1,12 @@
 -- The text of flags: each stands as it is.
-use Rattle.std.specs.Prelude.{ℕ, Bool, false, List, [], ◌∷◌, ◌==◌, ◌&&◌, ◌||◌}
+use Rattle.std.specs.Prelude.{Bool, false, List, [], ◌∷◌, ◌==◌, ◌&&◌, ◌||◌}
 use Rattle.std.specs.List.{list_all}
 use Rattle.std.specs.Str.{is_utf8}
-use Rattle.imap_bytes.specs.Classes.{is_atom_char, is_astring_char}
-use Rattle.imap_bytes.specs.Text.{Bytes, Text}
-use Rattle.imap_bytes.specs.Pieces.{Pieces, raw, plain, list_text}
-use Rattle.imap_bytes.specs.ReadBack.{Texts}
-use Rattle.imap_bytes.specs.Spelling.{this, spells_list}
+use Rattle.imap_grammar.specs.Classes.{is_atom_char, is_astring_char}
+use Rattle.imap_grammar.specs.Text.{Bytes, Text}
+use Rattle.imap_grammar.specs.Pieces.{Pieces, raw, plain, list_text}
+use Rattle.imap_grammar.specs.ReadBack.{Texts}
+use Rattle.imap_grammar.specs.Spelling.{this, spells_list}
 
 abbrev pub canonical_flag : Bytes → Pieces
 canonical_flag = raw

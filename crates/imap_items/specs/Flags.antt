@@ -1,11 +1,11 @@
 -- Flags (RFC 3501, section 9: flag, flag-extension, flag-keyword, flag-perm, flag-list). A flag's text has its backslash.
 use Rattle.std.specs.Prelude.{List, codes}
-use Rattle.imap_bytes.specs.Classes.{is_atom_char, is_astring_char}
-use Rattle.imap_bytes.specs.Text.{Bytes, Text, as_text}
-use Rattle.imap_bytes.specs.Rule.{Rule, run0, run1, raw, gives, ◌⨾◌, ◌or◌}
-use Rattle.imap_bytes.specs.Tags.{tag, exactly_names}
+use Rattle.imap_grammar.specs.Classes.{is_atom_char, is_astring_char}
+use Rattle.imap_grammar.specs.Text.{Bytes, Text, as_text}
+use Rattle.imap_grammar.specs.Rule.{Rule, run0, run1, raw, gives, ◌⨾◌, ◌or◌}
+use Rattle.imap_grammar.specs.Tags.{tag, exactly_names}
+use Rattle.imap_grammar.specs.Lists.{list_of}
 use Rattle.imap_bytes.specs.Strings.{in_utf8}
-use Rattle.imap_bytes.specs.Lists.{list_of}
 
 unfoldable pub backslashed : Rule Bytes
 backslashed = raw (tag "\\" ⨾ run0 is_atom_char)

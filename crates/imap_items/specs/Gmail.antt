@@ -1,11 +1,11 @@
 -- Gmail's items of a message: labels, message number, thread number (X-GM-EXT-1).
 use Rattle.std.specs.Prelude.{ℕ, List}
-use Rattle.imap_bytes.specs.Text.{Text, as_text}
-use Rattle.imap_bytes.specs.Rule.{Rule, gives, ◌▹◌, ◌or◌}
-use Rattle.imap_bytes.specs.Tags.{word}
+use Rattle.imap_grammar.specs.Text.{Text, as_text}
+use Rattle.imap_grammar.specs.Rule.{Rule, gives, ◌▹◌, ◌or◌}
+use Rattle.imap_grammar.specs.Tags.{word}
+use Rattle.imap_grammar.specs.Lists.{list_of}
 use Rattle.imap_bytes.specs.Numbers.{number_64}
 use Rattle.imap_bytes.specs.Texts.{quoted_utf8}
-use Rattle.imap_bytes.specs.Lists.{list_of}
 use Rattle.imap_items.specs.Flags.{flag}
 
 abbrev pub flag_label : Rule Text

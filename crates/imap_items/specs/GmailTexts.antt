@@ -1,9 +1,9 @@
 -- The text of Gmail's items.
 use Rattle.std.specs.Prelude.{ℕ, List, cond, IsTrue, ◌⊎◌}
-use Rattle.imap_bytes.specs.Text.{Text}
-use Rattle.imap_bytes.specs.Pieces.{Pieces, ◌then◌, words, number_text, plain, quoted_text, list_text}
-use Rattle.imap_bytes.specs.ReadBack.{Texts}
-use Rattle.imap_bytes.specs.Spelling.{this, in_any_case, ◌and◌, spells_number, spells_quoted_text, spells_list}
+use Rattle.imap_grammar.specs.Text.{Text}
+use Rattle.imap_grammar.specs.Pieces.{Pieces, ◌then◌, words, number_text, plain, quoted_text, list_text}
+use Rattle.imap_grammar.specs.ReadBack.{Texts}
+use Rattle.imap_grammar.specs.Spelling.{this, in_any_case, ◌and◌, spells_number, spells_quoted_text, spells_list}
 use Rattle.imap_items.specs.FlagTexts.{is_flag}
 
 -- a label stands as it is where it is a flag, and else in quotes

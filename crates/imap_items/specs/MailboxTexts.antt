@@ -1,11 +1,11 @@
 -- The text of a mailbox name.
 use Rattle.std.specs.Prelude.{◌≡◌, ◌⊎◌, IsTrue, codes}
-use Rattle.imap_bytes.specs.Meaning.{is_word}
-use Rattle.imap_bytes.specs.Tags.{same_letter}
-use Rattle.imap_bytes.specs.Text.{Text}
-use Rattle.imap_bytes.specs.Pieces.{Pieces, literal_text}
-use Rattle.imap_bytes.specs.ReadBack.{Texts}
-use Rattle.imap_bytes.specs.Spelling.{spells_astring_text}
+use Rattle.imap_grammar.specs.Meaning.{is_word}
+use Rattle.imap_grammar.specs.Tags.{same_letter}
+use Rattle.imap_grammar.specs.Text.{Text}
+use Rattle.imap_grammar.specs.Pieces.{Pieces, literal_text}
+use Rattle.imap_grammar.specs.ReadBack.{Texts}
+use Rattle.imap_grammar.specs.Spelling.{spells_astring_text}
 
 abbrev pub canonical_mailbox : Text → Pieces
 canonical_mailbox = literal_text

@@ -1,9 +1,9 @@
 -- Mailbox names (RFC 3501, section 9: mailbox).
 use Rattle.std.specs.Prelude.{cond, codes}
-use Rattle.imap_bytes.specs.Meaning.{is_word}
-use Rattle.imap_bytes.specs.Text.{Text, as_text}
-use Rattle.imap_bytes.specs.Rule.{Rule, gives}
-use Rattle.imap_bytes.specs.Tags.{same_letter}
+use Rattle.imap_grammar.specs.Meaning.{is_word}
+use Rattle.imap_grammar.specs.Text.{Text, as_text}
+use Rattle.imap_grammar.specs.Rule.{Rule, gives}
+use Rattle.imap_grammar.specs.Tags.{same_letter}
 use Rattle.imap_bytes.specs.Texts.{astring_utf8}
 
 -- INBOX in any case is INBOX

@@ -1,9 +1,9 @@
 -- The text of rights: their letters.
 use Rattle.std.specs.Prelude.{List, map, encode_utf8_all}
-use Rattle.imap_bytes.specs.Text.{Bytes, as_text}
-use Rattle.imap_bytes.specs.Pieces.{Pieces, lit}
-use Rattle.imap_bytes.specs.ReadBack.{Texts}
-use Rattle.imap_bytes.specs.Spelling.{spells_astring_text}
+use Rattle.imap_grammar.specs.Text.{Bytes, as_text}
+use Rattle.imap_grammar.specs.Pieces.{Pieces, lit}
+use Rattle.imap_grammar.specs.ReadBack.{Texts}
+use Rattle.imap_grammar.specs.Spelling.{spells_astring_text}
 use Rattle.imap_items.specs.declared.types.rights.AclRight.{AclRight}
 use Rattle.imap_items.specs.Rights.{letter_of}
 

@@ -2,8 +2,8 @@
 use Rattle.std.specs.Prelude.{ℕ, List, map, IsTrue, ◌==◌, if◌then◌else◌, codes}
 use Rattle.std.specs.List.{list_any}
 use Rattle.std.specs.Str.{chars}
-use Rattle.imap_bytes.specs.Text.{Bytes, Text}
-use Rattle.imap_bytes.specs.Rule.{Rule, gives}
+use Rattle.imap_grammar.specs.Text.{Bytes, Text}
+use Rattle.imap_grammar.specs.Rule.{Rule, gives}
 use Rattle.imap_bytes.specs.Texts.{astring_utf8}
 use Rattle.imap_items.specs.declared.types.rights.AclRight.{AclRight}
 use Rattle.imap_items.specs.declared.types.rights.AclRight.TheVariants.{Lookup, Read, Seen, Write, Insert, Post, CreateMailbox, DeleteMailbox, DeleteMessage, Expunge, Administer, Annotation, OldCreate, OldDelete, Custom}

@@ -1,8 +1,8 @@
 -- The texts that spans name in a message.
 use Rattle.std.specs.Prelude.{ℕ, List}
-use Rattle.imap_bytes.specs.declared.at.span.Span.{Span}
-use Rattle.imap_bytes.specs.Positions.{named_in}
-use Rattle.imap_bytes.specs.Text.{Text, decoded}
+use Rattle.imap_grammar.specs.declared.at.span.Span.{Span}
+use Rattle.imap_grammar.specs.Positions.{named_in}
+use Rattle.imap_grammar.specs.Text.{Text, decoded}
 
 -- the bytes decoded: those of a flag, which are UTF-8, as they are
 abbrev pub text_in : List ℕ → Span → Text

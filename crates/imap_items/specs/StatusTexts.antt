@@ -1,7 +1,7 @@
 -- The text of a status.
-use Rattle.imap_bytes.specs.Pieces.{Pieces, words}
-use Rattle.imap_bytes.specs.ReadBack.{Texts}
-use Rattle.imap_bytes.specs.Spelling.{in_any_case}
+use Rattle.imap_grammar.specs.Pieces.{Pieces, words}
+use Rattle.imap_grammar.specs.ReadBack.{Texts}
+use Rattle.imap_grammar.specs.Spelling.{in_any_case}
 use Rattle.imap_items.specs.declared.types.statuses.Status.{Status}
 use Rattle.imap_items.specs.declared.types.statuses.Status.TheVariants.{Ok, No, Bad, PreAuth, Bye}
 

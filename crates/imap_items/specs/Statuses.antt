@@ -1,6 +1,6 @@
 -- The status of a line (RFC 3501, section 9: resp-cond-state, resp-cond-auth, resp-cond-bye).
-use Rattle.imap_bytes.specs.Rule.{Rule, ◌or◌}
-use Rattle.imap_bytes.specs.Tags.{names}
+use Rattle.imap_grammar.specs.Rule.{Rule, ◌or◌}
+use Rattle.imap_grammar.specs.Tags.{names}
 use Rattle.imap_items.specs.declared.types.statuses.Status.{Status}
 use Rattle.imap_items.specs.declared.types.statuses.Status.TheVariants.{Ok, No, Bad, PreAuth, Bye}
 

@@ -1,8 +1,8 @@
 -- The text of a set of UIDs.
 use Rattle.std.specs.Prelude.{ℕ, ◌⊎◌, List}
-use Rattle.imap_bytes.specs.Pieces.{Pieces, words, number_text, range_text, separated}
-use Rattle.imap_bytes.specs.ReadBack.{Texts}
-use Rattle.imap_bytes.specs.Spelling.{exactly, ◌and◌, with_between, spells_number}
+use Rattle.imap_grammar.specs.Pieces.{Pieces, words, number_text, range_text, separated}
+use Rattle.imap_grammar.specs.ReadBack.{Texts}
+use Rattle.imap_grammar.specs.Spelling.{exactly, ◌and◌, with_between, spells_number}
 use Rattle.imap_items.specs.UidSets.{MemberValue, UidRange, Uid, Spent}
 
 abbrev pub canonical_member : MemberValue → Pieces

@@ -1,8 +1,8 @@
 -- Sets of UIDs (RFC 4315, section 4: uid-set, uid-range).
 use Rattle.std.specs.Prelude.{ℕ, min, max, ◌≤◌, Bool, true, false, List}
 use Rattle.std.specs.Range.{range_inclusive_start, range_inclusive_end, range_inclusive_exhausted}
-use Rattle.imap_bytes.specs.Rule.{Rule, gives, list1, ◌or◌}
-use Rattle.imap_bytes.specs.Tags.{tag}
+use Rattle.imap_grammar.specs.Rule.{Rule, gives, list1, ◌or◌}
+use Rattle.imap_grammar.specs.Tags.{tag}
 use Rattle.imap_bytes.specs.Numbers.{number}
 use Rattle.imap_bytes.specs.Sets.{sequence_range}
 use Rattle.imap_items.specs.declared.types.uid_sets.UidSetMember.{UidSetMember}

@@ -1,7 +1,7 @@
 //! Copies of texts. Each text of a copy is borrowed or owned as the one that it is a copy of.
 
 ghost use Rattle.std.specs.Prelude.{◌≡◌, map, IfOk, IsOk};
-ghost use Rattle.imap_bytes.specs.Text.{text_of};
+ghost use Rattle.imap_grammar.specs.Text.{text_of};
 ghost use Rattle.imap_items.specs.Copies.{IsLent};
 
 use std::alloc::AllocError;

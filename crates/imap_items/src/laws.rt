@@ -1,8 +1,8 @@
 //! Laws of the rules and types of this crate, as contracts of functions that do nothing.
 
 ghost use Rattle.std.specs.Prelude.{ℕ, ◌≡◌};
-ghost use Rattle.imap_bytes.specs.Stable.{Stable};
-ghost use Rattle.imap_bytes.specs.Equality.{Tells, HashesAlike};
+ghost use Rattle.imap_grammar.specs.Stable.{Stable};
+ghost use Rattle.imap_grammar.specs.Equality.{Tells, HashesAlike};
 ghost use Rattle.imap_items.specs.Statuses as statuses;
 ghost use Rattle.imap_items.specs.Flags as flags;
 ghost use Rattle.imap_items.specs.Capabilities as capabilities;
@@ -16,8 +16,8 @@ ghost use Rattle.imap_items.specs.declared.types.rights.AclRight.{AclRight as Ri
 ghost use Rattle.imap_items.specs.Rights as rights;
 ghost use Rattle.imap_items.specs.Rights.{right_of, letter_of, IsShadowed, right_content};
 ghost use Rattle.std.specs.Prelude.{map};
-ghost use Rattle.imap_bytes.specs.Text.{lent_text};
-ghost use Rattle.imap_bytes.specs.ReadBack.{Keeps, Closes, EndsItem, as_is};
+ghost use Rattle.imap_grammar.specs.Text.{lent_text};
+ghost use Rattle.imap_grammar.specs.ReadBack.{Keeps, Closes, EndsItem, as_is};
 ghost use Rattle.imap_items.specs.Capabilities.{lent_capability};
 ghost use Rattle.imap_items.specs.StatusTexts.{canonical_status, spells_status};
 ghost use Rattle.imap_items.specs.FlagTexts.{canonical_flag, spells_flag, canonical_flag_list, spells_flag_list};
@@ -34,7 +34,7 @@ use crate::types::uid_sets::UidSetMember;
 use std::hash::Hash;
 
 /// Each rule has one answer, and appended bytes change neither a value nor a denial, and make what is lacking as much smaller.
-#[tactic(auto, using(imap_bytes::proofs::Stability::is_stable))]
+#[tactic(auto, using(imap_grammar::proofs::Stability::is_stable))]
 pub fn stable()
     ensures status { Stable statuses.status }
     ensures backslashed_text { Stable flags.backslashed_text }

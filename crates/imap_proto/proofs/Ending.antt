@@ -2,12 +2,12 @@
 use Rattle.std.proofs.Common.{◌≡◌, ℕ, List, [], ◌∷◌, ◌++◌, Ok, Err, refl, sym, ap, ◌∙◌, append_assoc, inl, inr, true, false}
 use Rattle.std.specs.Prelude.{IfOk, ◌==◌}
 use Rattle.std.proofs.lemmas.Bool.{eqb-true, and_parts, false≢true}
-use Rattle.imap_bytes.specs.Meaning.{is_word}
-use Rattle.imap_bytes.specs.Rule.{Rule, meaning, ◌⨾◌, ◌▹◌, ◌◃◌}
-use Rattle.imap_bytes.specs.Step.{step}
-use Rattle.imap_bytes.specs.Answer.{Returned, Gives}
-use Rattle.imap_bytes.specs.Tags.{tag, sp, maybe_space, crlf}
-use Rattle.imap_bytes.proofs.Agreement.{agrees, shrinks}
+use Rattle.imap_grammar.specs.Meaning.{is_word}
+use Rattle.imap_grammar.specs.Rule.{Rule, meaning, ◌⨾◌, ◌▹◌, ◌◃◌}
+use Rattle.imap_grammar.specs.Step.{step}
+use Rattle.imap_grammar.specs.Answer.{Returned, Gives}
+use Rattle.imap_grammar.specs.Tags.{tag, sp, maybe_space, crlf}
+use Rattle.imap_grammar.proofs.Agreement.{agrees, shrinks}
 use Rattle.imap_items.specs.Statuses.{status}
 use Rattle.imap_proto.specs.Responses.{ResponseValue, EndsLine}
 use Rattle.imap_proto.specs.Outcomes.{outcome, spaced_outcome}

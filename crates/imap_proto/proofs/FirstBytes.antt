@@ -1,21 +1,21 @@
 -- Which alternatives answer, by the first byte.
 use Rattle.std.proofs.Common.{◌≡◌, ℕ, List, None, Err, refl}
 use Rattle.std.specs.Prelude.{slice_get}
-use Rattle.imap_bytes.specs.declared.answer.Err.TheVariants.{Incomplete}
-use Rattle.imap_bytes.specs.declared.answer.Needed.TheVariants.{Unknown}
-use Rattle.imap_bytes.specs.Rule.{never}
-use Rattle.imap_bytes.specs.Step.{step}
+use Rattle.imap_grammar.specs.declared.answer.Err.TheVariants.{Incomplete}
+use Rattle.imap_grammar.specs.declared.answer.Needed.TheVariants.{Unknown}
+use Rattle.imap_grammar.specs.Rule.{never}
+use Rattle.imap_grammar.specs.Step.{step}
+use Rattle.imap_grammar.proofs.Starts.{AtNone, AtAny, AtDigit, AtOther, AtOtherThanDigits, by_none, waits_without, by_any, by_digit, by_other, by_other_than_digits}
 use Rattle.imap_bytes.specs.Numbers.{number, digits}
-use Rattle.imap_bytes.proofs.Starts.{AtNone, AtAny, AtDigit, AtOther, AtOtherThanDigits, by_none, waits_without, by_any, by_digit, by_other, by_other_than_digits}
 use Rattle.imap_items.specs.Statuses.{status}
 use Rattle.imap_data.specs.MailboxData.{flags, exists, list, lsub, status as mailbox_status, recent, search, labels, msgid, thrid, sort, mailbox_datum}
 use Rattle.imap_items.specs.Gmail.{gmail_label_list, gmail_msgid, gmail_thrid}
 use Rattle.imap_items.specs.Capabilities.{capability_data, enabled_data}
 use Rattle.imap_data.specs.Annotations.{metadata_solicited, metadata_unsolicited, metadata_mailbox}
-use Rattle.imap_data.specs.Vanishings.{vanished}
-use Rattle.imap_data.specs.Quotas.{quota, quota_root}
-use Rattle.imap_data.specs.Ids.{id}
-use Rattle.imap_data.specs.Acls.{acl, list_rights, my_rights}
+use Rattle.imap_extensions.specs.Vanishings.{vanished}
+use Rattle.imap_extensions.specs.Quotas.{quota, quota_root}
+use Rattle.imap_extensions.specs.Ids.{id}
+use Rattle.imap_extensions.specs.Acls.{acl, list_rights, my_rights}
 use Rattle.imap_proto.specs.Lines.{continuation, data_line, request_tag, tagged, response, datum, state_datum, extension_datum, status_data, expunge, vanished_data, ended_datum, status_line, numbered_line, mailbox_line, list_line, capability_line, enabled_line, annotation_line, vanished_line, quota_line, id_line, acl_line}
 
 -- ---- responses

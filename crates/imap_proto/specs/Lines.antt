@@ -1,9 +1,9 @@
 -- Lines of a server (RFC 3501, section 9: response, continue-req, response-data, response-tagged).
 use Rattle.std.specs.Prelude.{ℕ, Bool, List, ◌==◌, ◌&&◌, not}
-use Rattle.imap_bytes.specs.Classes.{is_astring_char}
-use Rattle.imap_bytes.specs.Text.{Bytes}
-use Rattle.imap_bytes.specs.Rule.{Rule, run0, run1, gives, ◌⨾◌, ◌▹◌, ◌◃◌, ◌or◌}
-use Rattle.imap_bytes.specs.Tags.{tag, word, sp, maybe_space, crlf}
+use Rattle.imap_grammar.specs.Classes.{is_astring_char}
+use Rattle.imap_grammar.specs.Text.{Bytes}
+use Rattle.imap_grammar.specs.Rule.{Rule, run0, run1, gives, ◌⨾◌, ◌▹◌, ◌◃◌, ◌or◌}
+use Rattle.imap_grammar.specs.Tags.{tag, word, sp, maybe_space, crlf}
 use Rattle.imap_bytes.specs.Numbers.{number}
 use Rattle.imap_bytes.specs.Strings.{in_utf8}
 use Rattle.imap_items.specs.declared.types.statuses.Status.{Status}
@@ -11,10 +11,10 @@ use Rattle.imap_items.specs.Statuses.{status}
 use Rattle.imap_items.specs.Capabilities.{capability_data, enabled_data}
 use Rattle.imap_data.specs.MailboxData.{mailbox_datum, exists, recent}
 use Rattle.imap_data.specs.Annotations.{metadata_solicited, metadata_unsolicited}
-use Rattle.imap_data.specs.Vanishings.{vanished}
-use Rattle.imap_data.specs.Quotas.{quota, quota_root}
-use Rattle.imap_data.specs.Ids.{id}
-use Rattle.imap_data.specs.Acls.{acl, list_rights, my_rights}
+use Rattle.imap_extensions.specs.Vanishings.{vanished}
+use Rattle.imap_extensions.specs.Quotas.{quota, quota_root}
+use Rattle.imap_extensions.specs.Ids.{id}
+use Rattle.imap_extensions.specs.Acls.{acl, list_rights, my_rights}
 use Rattle.imap_proto.specs.Responses.{OutcomeValue, ResponseValue, Capabilities, Continue, Done, Data, Expunge, Vanished, MailboxData, Quota, QuotaRoot, Id, Acl, ListRights, MyRights}
 use Rattle.imap_proto.specs.Outcomes.{outcome, spaced_outcome}
 

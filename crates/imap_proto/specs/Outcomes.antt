@@ -1,8 +1,8 @@
 -- What a status line says besides its status (RFC 3501, section 7.1 and section 9: resp-text).
 use Rattle.std.specs.Prelude.{[], ◌∷◌, Option, None, Some, drop, chars, encode_utf8_all}
-use Rattle.imap_bytes.specs.Text.{Bytes, Text}
-use Rattle.imap_bytes.specs.Rule.{Rule, gives, opt, otherwise, ◌⨾◌, ◌▹◌}
-use Rattle.imap_bytes.specs.Tags.{sp}
+use Rattle.imap_grammar.specs.Text.{Bytes, Text}
+use Rattle.imap_grammar.specs.Rule.{Rule, gives, opt, otherwise, ◌⨾◌, ◌▹◌}
+use Rattle.imap_grammar.specs.Tags.{sp}
 use Rattle.imap_bytes.specs.Texts.{text}
 use Rattle.imap_data.specs.Codes.{CodeValue}
 use Rattle.imap_data.specs.Codes.{response_code}

@@ -1,15 +1,15 @@
 -- Responses as values: texts by their bytes, and whether they lie in the input.
 use Rattle.std.specs.Prelude.{◌≡◌, ℕ, Bool, List, ◌∷◌, ◌++◌, Option, option_map, map}
 use Rattle.std.specs.String.{string_bytes}
-use Rattle.imap_bytes.specs.Text.{Bytes, Text, text_of, lent_text}
+use Rattle.imap_grammar.specs.Text.{Bytes, Text, text_of, lent_text}
 use Rattle.imap_bytes.specs.Sets.{ends}
 use Rattle.imap_items.specs.declared.types.statuses.Status.{Status}
 use Rattle.imap_data.specs.Codes.{CodeValue, code_value, lent_code}
 use Rattle.imap_items.specs.Capabilities.{CapabilityValue, capability_value, lent_capability}
 use Rattle.imap_data.specs.MailboxValues.{MailboxValue, mailbox_value, lent_mailbox}
-use Rattle.imap_data.specs.Quotas.{QuotaValue, QuotaRootValue, quota_value, quota_root_value, lent_quota, lent_quota_root}
-use Rattle.imap_data.specs.Ids.{IdValue, id_value, lent_id}
-use Rattle.imap_data.specs.Acls.{AclValue, ListRightsValue, MyRightsValue, acl_value, list_rights_value, my_rights_value, lent_acl, lent_list_rights, lent_my_rights}
+use Rattle.imap_extensions.specs.Quotas.{QuotaValue, QuotaRootValue, quota_value, quota_root_value, lent_quota, lent_quota_root}
+use Rattle.imap_extensions.specs.Ids.{IdValue, id_value, lent_id}
+use Rattle.imap_extensions.specs.Acls.{AclValue, ListRightsValue, MyRightsValue, acl_value, list_rights_value, my_rights_value, lent_acl, lent_list_rights, lent_my_rights}
 use Rattle.imap_proto.specs.declared.outcome.Outcome.{Outcome}
 use Rattle.imap_proto.specs.declared.response.Response.{Response}
 use Rattle.imap_proto.specs.declared.response.Response.TheVariants as code

@@ -1,10 +1,10 @@
 //! Lines: continuations, untagged data and tagged statuses.
 
 ghost use Rattle.std.specs.Prelude.{◌≡◌, ◌<◌, length, position, IfSome};
-ghost use Rattle.imap_bytes.specs.Answer.{Exactly, Gives};
-ghost use Rattle.imap_bytes.specs.Step.{step};
-ghost use Rattle.imap_bytes.specs.Meaning.{outside};
-ghost use Rattle.imap_bytes.specs.Rule.{run1};
+ghost use Rattle.imap_grammar.specs.Answer.{Exactly, Gives};
+ghost use Rattle.imap_grammar.specs.Step.{step};
+ghost use Rattle.imap_grammar.specs.Meaning.{outside};
+ghost use Rattle.imap_grammar.specs.Rule.{run1};
 ghost use Rattle.imap_proto.specs.Responses.{response_value};
 ghost use Rattle.imap_proto.specs.Lines as rule;
 

@@ -1,9 +1,9 @@
 //! Outcomes: what a status line says besides its status.
 
 ghost use Rattle.std.specs.Prelude.{◌≡◌, option_map, string_bytes};
-ghost use Rattle.imap_bytes.specs.Answer.{Gives};
-ghost use Rattle.imap_bytes.specs.Step.{step};
-ghost use Rattle.imap_bytes.specs.Text.{text_of};
+ghost use Rattle.imap_grammar.specs.Answer.{Gives};
+ghost use Rattle.imap_grammar.specs.Step.{step};
+ghost use Rattle.imap_grammar.specs.Text.{text_of};
 ghost use Rattle.imap_proto.specs.Responses.{outcome_value};
 ghost use Rattle.imap_proto.specs.Outcomes as outcomes;
 ghost use Rattle.imap_proto.specs.Outcomes.{after_first};

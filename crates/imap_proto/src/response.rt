@@ -1,8 +1,8 @@
 //! Responses.
 
 ghost use Rattle.std.specs.Prelude.{◌≡◌, string_bytes, IfOk};
-ghost use Rattle.imap_bytes.specs.Answer.{Answers, Gives};
-ghost use Rattle.imap_bytes.specs.Step.{step};
+ghost use Rattle.imap_grammar.specs.Answer.{Answers, Gives};
+ghost use Rattle.imap_grammar.specs.Step.{step};
 ghost use Rattle.imap_proto.specs.Responses.{response_value, EndsLine};
 ghost use Rattle.imap_proto.specs.Lines as rule;
 
@@ -78,7 +78,7 @@ impl<'a> Response<'a> {
     /// `Error`: no bytes behind these make a response. `Incomplete`: more bytes are needed. `Failure`: memory ran out,
     /// and nothing else. Texts borrow from the message exactly where their bytes are UTF-8, but for the keys of an ID map:
     /// of two equal keys either one may be kept. The message is only read.
-    #[tactic(auto, using(imap_bytes::proofs::Agreement::answered, crate::proofs::Ending::line_ends))]
+    #[tactic(auto, using(imap_grammar::proofs::Agreement::answered, crate::proofs::Ending::line_ends))]
     pub fn parse(alloc: Global, msg: &'a [u8]) -> ParseResult<'a>
         ensures steps { Gives response_value result (step rule.response msg.now) }
         ensures answer { Answers rule.response response_value msg.now result }

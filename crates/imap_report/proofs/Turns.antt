@@ -3,11 +3,11 @@ use Rattle.std.proofs.Common.{◌≡◌, ℕ, zero, suc, ◌-◌, ◌<◌, List,
 use Rattle.std.specs.Prelude.{codes, OnErr}
 use Rattle.std.specs.Io.KnownBytes.{Appends, Consumes}
 use Rattle.std.proofs.lemmas.List.{length-append, append-nil}
-use Rattle.imap_bytes.specs.declared.answer.Err.TheVariants.{Incomplete, Error, Failure}
-use Rattle.imap_bytes.specs.declared.answer.Needed.{Needed}
-use Rattle.imap_bytes.specs.Rule.{meaning}
-use Rattle.imap_bytes.specs.Step.{Step, step}
-use Rattle.imap_bytes.proofs.Agreement.{agrees}
+use Rattle.imap_grammar.specs.declared.answer.Err.TheVariants.{Incomplete, Error, Failure}
+use Rattle.imap_grammar.specs.declared.answer.Needed.{Needed}
+use Rattle.imap_grammar.specs.Rule.{meaning}
+use Rattle.imap_grammar.specs.Step.{Step, step}
+use Rattle.imap_grammar.proofs.Agreement.{agrees}
 use Rattle.imap_proto.specs.Responses.{ResponseValue, EndsLine}
 use Rattle.imap_proto.specs.Lines.{response}
 use Rattle.imap_proto.proofs.Ending.{response_ends}

@@ -3,8 +3,8 @@ use Rattle.std.specs.Prelude.{◌≡◌, ◌≢◌, ℕ, ◌-◌, ◌<◌, ◌�
 use Rattle.std.specs.Io.KnownBytes.{Appends, Consumes, IsAtEnd}
 use Rattle.imap_report.specs.Devices.{AppendsFront}
 use Rattle.std.specs.Fmt.{decimal}
-use Rattle.imap_bytes.specs.Rule.{meaning}
-use Rattle.imap_bytes.specs.Meaning.{Denies}
+use Rattle.imap_grammar.specs.Rule.{meaning}
+use Rattle.imap_grammar.specs.Meaning.{Denies}
 use Rattle.imap_proto.specs.Responses.{ResponseValue, Capabilities, Continue, Done, Data, Expunge, Vanished, MailboxData, Quota, QuotaRoot, Id, Acl, ListRights, MyRights}
 use Rattle.imap_proto.specs.Lines.{response}
 use Rattle.std.specs.String.{string_bytes}

@@ -1,9 +1,9 @@
 //! Lists and brackets over a reader that is passed, by its name and by a closure: each reader here has the clause that
 //! a caller gets from the clause of the reader that it passes.
 
-ghost use Rattle.imap_bytes.specs.Answer.{Exactly, Gives};
-ghost use Rattle.imap_bytes.specs.Step.{step};
-ghost use Rattle.imap_bytes.specs.Lists.{delimited, list_of, nonempty_list_of};
+ghost use Rattle.imap_grammar.specs.Answer.{Exactly, Gives};
+ghost use Rattle.imap_grammar.specs.Step.{step};
+ghost use Rattle.imap_grammar.specs.Lists.{delimited, list_of, nonempty_list_of};
 ghost use Rattle.imap_bytes.specs.Numbers as rules;
 
 use crate::answers::{Rows, says};

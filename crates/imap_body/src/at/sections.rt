@@ -2,27 +2,28 @@
 
 ghost use Rattle.std.specs.Prelude.{◌≤◌, length, drop};
 ghost use Rattle.std.specs.Option.{option_map};
-ghost use Rattle.imap_bytes.specs.Positions.{ExactlyAt, GivesAt, Ahead, named_in};
-ghost use Rattle.imap_bytes.specs.Step.{step};
-ghost use Rattle.imap_bytes.specs.Rule.{opt, otherwise, ◌▹◌};
+ghost use Rattle.imap_grammar.specs.Positions.{ExactlyAt, GivesAt, Ahead, named_in};
+ghost use Rattle.imap_grammar.specs.Step.{step};
+ghost use Rattle.imap_grammar.specs.Rule.{opt, otherwise, ◌▹◌};
+ghost use Rattle.imap_grammar.specs.Tags as tags;
 ghost use Rattle.imap_bytes.specs.Strings as strings;
 ghost use Rattle.imap_bytes.specs.Numbers as numbers;
-ghost use Rattle.imap_bytes.specs.Tags as tags;
 ghost use Rattle.imap_body.specs.Sections as sections;
-ghost use Rattle.imap_body.specs.Envelopes.{spaced};
+ghost use Rattle.imap_structure.specs.Envelopes.{spaced};
 ghost use Rattle.imap_body.specs.SectionValues.{path_value};
 ghost use Rattle.imap_body.specs.declared.types.sections.MessageSection.TheVariants as what;
 
-use crate::at::lists::list_of_one;
-use crate::spans::Span;
 use crate::types::sections::{MessageSection, SectionPath};
 use imap_bytes::at::numbers::number;
 use imap_bytes::at::strings::astring;
 use imap_bytes::at::tags::{maybe_space, tag, word};
 use imap_bytes::{Err, first};
+use imap_shapes::spans::Span;
+use imap_structure::at::Reached;
+use imap_structure::at::lists::list_of_one;
 use std::alloc::Global;
 
-fn spaced_name(m: &[u8], p: usize) -> Result<(usize, Span), Err>
+fn spaced_name(m: &[u8], p: usize) -> Reached<Span>
     requires { p ≤ length m.now }
     ensures steps { ExactlyAt (λ x. named_in m.now x) m.now result (step (spaced strings.astring) (drop p m.now)) }
     ensures ahead { Ahead m.now p result }
@@ -31,7 +32,7 @@ fn spaced_name(m: &[u8], p: usize) -> Result<(usize, Span), Err>
     astring(m, p)
 }
 
-fn next_name(m: &[u8], p: usize) -> Result<(usize, Option<Span>), Err>
+fn next_name(m: &[u8], p: usize) -> Reached<Option<Span>>
     requires { p ≤ length m.now }
     ensures steps { ExactlyAt (λ x. option_map (λ y. named_in m.now y) x) m.now result (step (opt (spaced strings.astring)) (drop p m.now)) }
     ensures ahead { Ahead m.now p result }
@@ -45,7 +46,7 @@ fn next_name(m: &[u8], p: usize) -> Result<(usize, Option<Span>), Err>
 
 // Names of header fields, read and dropped.
 #[tactic(auto, unfolding(crate::specs::Sections::header_names))]
-fn header_names(m: &[u8], p: usize) -> Result<(usize, ()), Err>
+fn header_names(m: &[u8], p: usize) -> Reached<()>
     requires { p ≤ length m.now }
     ensures steps { ExactlyAt (λ x. tt) m.now result (step sections.header_names (drop p m.now)) }
     ensures ahead { Ahead m.now p result }
@@ -60,7 +61,7 @@ fn header_names(m: &[u8], p: usize) -> Result<(usize, ()), Err>
     }
 }
 
-fn maybe_header_names(m: &[u8], p: usize) -> Result<(usize, ()), Err>
+fn maybe_header_names(m: &[u8], p: usize) -> Reached<()>
     requires { p ≤ length m.now }
     ensures steps { ExactlyAt (λ x. tt) m.now result (step (otherwise sections.header_names tt) (drop p m.now)) }
     ensures ahead { Ahead m.now p result }
@@ -72,7 +73,7 @@ fn maybe_header_names(m: &[u8], p: usize) -> Result<(usize, ()), Err>
 }
 
 #[tactic(auto, unfolding(crate::specs::Sections::header_list))]
-fn header_list(m: &[u8], p: usize) -> Result<(usize, ()), Err>
+fn header_list(m: &[u8], p: usize) -> Reached<()>
     requires { p ≤ length m.now }
     ensures steps { ExactlyAt (λ x. tt) m.now result (step sections.header_list (drop p m.now)) }
     ensures ahead { Ahead m.now p result }
@@ -85,7 +86,7 @@ fn header_list(m: &[u8], p: usize) -> Result<(usize, ()), Err>
 }
 
 #[tactic(auto, unfolding(crate::specs::Sections::fields_word))]
-fn fields_word(m: &[u8], p: usize) -> Result<(usize, Span), Err>
+fn fields_word(m: &[u8], p: usize) -> Reached<Span>
     requires { p ≤ length m.now }
     ensures steps { ExactlyAt (λ x. named_in m.now x) m.now result (step sections.fields_word (drop p m.now)) }
     ensures ahead { Ahead m.now p result }
@@ -94,7 +95,7 @@ fn fields_word(m: &[u8], p: usize) -> Result<(usize, Span), Err>
 }
 
 #[tactic(auto, unfolding(crate::specs::Sections::not_word))]
-fn maybe_not(m: &[u8], p: usize) -> Result<(usize, Option<Span>), Err>
+fn maybe_not(m: &[u8], p: usize) -> Reached<Option<Span>>
     requires { p ≤ length m.now }
     ensures steps { ExactlyAt (λ x. option_map (λ y. named_in m.now y) x) m.now result (step (opt sections.not_word) (drop p m.now)) }
     ensures ahead { Ahead m.now p result }
@@ -107,7 +108,7 @@ fn maybe_not(m: &[u8], p: usize) -> Result<(usize, Option<Span>), Err>
 }
 
 #[tactic(auto, unfolding(crate::specs::Sections::header_fields))]
-fn header_fields(m: &[u8], p: usize) -> Result<(usize, MessageSection), Err>
+fn header_fields(m: &[u8], p: usize) -> Reached<MessageSection>
     requires { p ≤ length m.now }
     ensures steps { ExactlyAt (λ x. x) m.now result (step sections.header_fields (drop p m.now)) }
     ensures ahead { Ahead m.now p result }
@@ -119,7 +120,7 @@ fn header_fields(m: &[u8], p: usize) -> Result<(usize, MessageSection), Err>
     Ok((p, MessageSection::Header))
 }
 
-fn header(m: &[u8], p: usize) -> Result<(usize, MessageSection), Err>
+fn header(m: &[u8], p: usize) -> Reached<MessageSection>
     requires { p ≤ length m.now }
     ensures steps { ExactlyAt (λ x. x) m.now result (step (tags.names "HEADER" what.Header) (drop p m.now)) }
     ensures ahead { Ahead m.now p result }
@@ -128,7 +129,7 @@ fn header(m: &[u8], p: usize) -> Result<(usize, MessageSection), Err>
     Ok((p, MessageSection::Header))
 }
 
-fn text(m: &[u8], p: usize) -> Result<(usize, MessageSection), Err>
+fn text(m: &[u8], p: usize) -> Reached<MessageSection>
     requires { p ≤ length m.now }
     ensures steps { ExactlyAt (λ x. x) m.now result (step (tags.names "TEXT" what.Text) (drop p m.now)) }
     ensures ahead { Ahead m.now p result }
@@ -137,7 +138,7 @@ fn text(m: &[u8], p: usize) -> Result<(usize, MessageSection), Err>
     Ok((p, MessageSection::Text))
 }
 
-fn mime(m: &[u8], p: usize) -> Result<(usize, MessageSection), Err>
+fn mime(m: &[u8], p: usize) -> Reached<MessageSection>
     requires { p ≤ length m.now }
     ensures steps { ExactlyAt (λ x. x) m.now result (step (tags.names "MIME" what.Mime) (drop p m.now)) }
     ensures ahead { Ahead m.now p result }
@@ -148,7 +149,7 @@ fn mime(m: &[u8], p: usize) -> Result<(usize, MessageSection), Err>
 
 /// What of a message is meant (RFC 3501, section 9: section-msgtext). No memory: names of header fields are read and dropped.
 #[tactic(auto, unfolding(crate::specs::Sections::section_msgtext))]
-pub fn section_msgtext(m: &[u8], p: usize) -> Result<(usize, MessageSection), Err>
+pub fn section_msgtext(m: &[u8], p: usize) -> Reached<MessageSection>
     requires { p ≤ length m.now }
     ensures steps { ExactlyAt (λ x. x) m.now result (step sections.section_msgtext (drop p m.now)) }
     ensures ahead { Ahead m.now p result }
@@ -160,7 +161,7 @@ pub fn section_msgtext(m: &[u8], p: usize) -> Result<(usize, MessageSection), Er
 
 /// What of a part is meant (RFC 3501, section 9: section-text). No memory.
 #[tactic(auto, unfolding(crate::specs::Sections::section_text))]
-pub fn section_text(m: &[u8], p: usize) -> Result<(usize, MessageSection), Err>
+pub fn section_text(m: &[u8], p: usize) -> Reached<MessageSection>
     requires { p ≤ length m.now }
     ensures steps { ExactlyAt (λ x. x) m.now result (step sections.section_text (drop p m.now)) }
     ensures ahead { Ahead m.now p result }
@@ -169,7 +170,7 @@ pub fn section_text(m: &[u8], p: usize) -> Result<(usize, MessageSection), Err>
     mime(m, p)
 }
 
-fn dotted_number(m: &[u8], p: usize) -> Result<(usize, u32), Err>
+fn dotted_number(m: &[u8], p: usize) -> Reached<u32>
     requires { p ≤ length m.now }
     ensures steps { ExactlyAt (λ x. x) m.now result (step (tags.tag "." ▹ numbers.number) (drop p m.now)) }
     ensures ahead { Ahead m.now p result }
@@ -178,7 +179,7 @@ fn dotted_number(m: &[u8], p: usize) -> Result<(usize, u32), Err>
     number(m, p)
 }
 
-fn next_number(m: &[u8], p: usize) -> Result<(usize, Option<u32>), Err>
+fn next_number(m: &[u8], p: usize) -> Reached<Option<u32>>
     requires { p ≤ length m.now }
     ensures steps { ExactlyAt (λ x. option_map (λ n. n) x) m.now result (step (opt (tags.tag "." ▹ numbers.number)) (drop p m.now)) }
     ensures ahead { Ahead m.now p result }
@@ -192,7 +193,7 @@ fn next_number(m: &[u8], p: usize) -> Result<(usize, Option<u32>), Err>
 
 /// The path of a part (RFC 3501, section 9: section-part).
 #[tactic(auto, unfolding(crate::specs::Sections::section_part))]
-pub fn section_part(alloc: Global, m: &[u8], p: usize) -> Result<(usize, Vec<u32>), Err>
+pub fn section_part(alloc: Global, m: &[u8], p: usize) -> Reached<Vec<u32>>
     requires { p ≤ length m.now }
     ensures steps { GivesAt (λ x. x.items) m.now result (step sections.section_part (drop p m.now)) }
     ensures ahead { Ahead m.now p result }
@@ -212,7 +213,7 @@ pub fn section_part(alloc: Global, m: &[u8], p: usize) -> Result<(usize, Vec<u32
 }
 
 #[tactic(auto, unfolding(crate::specs::Sections::part_text))]
-fn part_text(m: &[u8], p: usize) -> Result<(usize, MessageSection), Err>
+fn part_text(m: &[u8], p: usize) -> Reached<MessageSection>
     requires { p ≤ length m.now }
     ensures steps { ExactlyAt (λ x. x) m.now result (step sections.part_text (drop p m.now)) }
     ensures ahead { Ahead m.now p result }
@@ -221,7 +222,7 @@ fn part_text(m: &[u8], p: usize) -> Result<(usize, MessageSection), Err>
     section_text(m, p)
 }
 
-fn maybe_part_text(m: &[u8], p: usize) -> Result<(usize, Option<MessageSection>), Err>
+fn maybe_part_text(m: &[u8], p: usize) -> Reached<Option<MessageSection>>
     requires { p ≤ length m.now }
     ensures steps { ExactlyAt (λ x. x) m.now result (step (opt sections.part_text) (drop p m.now)) }
     ensures ahead { Ahead m.now p result }
@@ -234,7 +235,7 @@ fn maybe_part_text(m: &[u8], p: usize) -> Result<(usize, Option<MessageSection>)
 }
 
 #[tactic(auto, unfolding(crate::specs::Sections::part_path))]
-fn part_path(alloc: Global, m: &[u8], p: usize) -> Result<(usize, SectionPath), Err>
+fn part_path(alloc: Global, m: &[u8], p: usize) -> Reached<SectionPath>
     requires { p ≤ length m.now }
     ensures steps { GivesAt (λ x. path_value x) m.now result (step sections.part_path (drop p m.now)) }
     ensures ahead { Ahead m.now p result }
@@ -246,7 +247,7 @@ fn part_path(alloc: Global, m: &[u8], p: usize) -> Result<(usize, SectionPath), 
 
 /// What of a message is meant, or of which part (RFC 3501, section 9: section-spec).
 #[tactic(auto, unfolding(crate::specs::Sections::section_spec))]
-pub fn section_spec(alloc: Global, m: &[u8], p: usize) -> Result<(usize, SectionPath), Err>
+pub fn section_spec(alloc: Global, m: &[u8], p: usize) -> Reached<SectionPath>
     requires { p ≤ length m.now }
     ensures steps { GivesAt (λ x. path_value x) m.now result (step sections.section_spec (drop p m.now)) }
     ensures ahead { Ahead m.now p result }
@@ -258,7 +259,7 @@ pub fn section_spec(alloc: Global, m: &[u8], p: usize) -> Result<(usize, Section
     }
 }
 
-fn maybe_spec(alloc: Global, m: &[u8], p: usize) -> Result<(usize, Option<SectionPath>), Err>
+fn maybe_spec(alloc: Global, m: &[u8], p: usize) -> Reached<Option<SectionPath>>
     requires { p ≤ length m.now }
     ensures steps { GivesAt (λ x. option_map path_value x) m.now result (step (opt sections.section_spec) (drop p m.now)) }
     ensures ahead { Ahead m.now p result }
@@ -272,7 +273,7 @@ fn maybe_spec(alloc: Global, m: &[u8], p: usize) -> Result<(usize, Option<Sectio
 
 /// A section in brackets, maybe an empty one (RFC 3501, section 9: section).
 #[tactic(auto, unfolding(crate::specs::Sections::section))]
-pub fn section(alloc: Global, m: &[u8], p: usize) -> Result<(usize, Option<SectionPath>), Err>
+pub fn section(alloc: Global, m: &[u8], p: usize) -> Reached<Option<SectionPath>>
     requires { p ≤ length m.now }
     ensures steps { GivesAt (λ x. option_map path_value x) m.now result (step sections.section (drop p m.now)) }
     ensures ahead { Ahead m.now p result }

@@ -1,8 +1,8 @@
 //! Sections.
 
 ghost use Rattle.std.specs.Option.{option_map};
-ghost use Rattle.imap_bytes.specs.Answer.{Answers, Exactly, Gives};
-ghost use Rattle.imap_bytes.specs.Step.{step};
+ghost use Rattle.imap_grammar.specs.Answer.{Answers, Exactly, Gives};
+ghost use Rattle.imap_grammar.specs.Step.{step};
 ghost use Rattle.imap_body.specs.Sections as sections;
 ghost use Rattle.imap_body.specs.SectionValues.{path_value};
 
@@ -15,7 +15,7 @@ use std::alloc::Global;
 /// The path of a part: numbers by dots (RFC 3501, section 9: section-part, zero allowed).
 ///
 /// It takes memory for the path.
-#[tactic(auto, using(imap_bytes::proofs::Agreement::answered))]
+#[tactic(auto, using(imap_grammar::proofs::Agreement::answered))]
 pub fn section_part(alloc: Global, i: &[u8]) -> IResult<&[u8], Vec<u32>>
     ensures steps { Gives (λ x. x.items) result (step sections.section_part i.now) }
     ensures answer { Answers sections.section_part (λ x. x.items) i.now result }
@@ -27,7 +27,7 @@ pub fn section_part(alloc: Global, i: &[u8]) -> IResult<&[u8], Vec<u32>>
 /// `HEADER`, `HEADER.FIELDS` or `HEADER.FIELDS.NOT` with names of header fields, or `TEXT` (RFC 3501, section 9: section-msgtext).
 ///
 /// It takes no memory: the names are read and dropped. Where the names are denied, `HEADER` alone is read.
-#[tactic(auto, using(imap_bytes::proofs::Agreement::exact_answered))]
+#[tactic(auto, using(imap_grammar::proofs::Agreement::exact_answered))]
 pub fn section_msgtext(i: &[u8]) -> IResult<&[u8], MessageSection>
     ensures steps { Exactly (λ x. x) result (step sections.section_msgtext i.now) }
     ensures answer { Answers sections.section_msgtext (λ x. x) i.now result }
@@ -39,7 +39,7 @@ pub fn section_msgtext(i: &[u8]) -> IResult<&[u8], MessageSection>
 /// A section in brackets, `None` where they are empty (RFC 3501, section 9: section).
 ///
 /// It takes memory for the path of a part.
-#[tactic(auto, using(imap_bytes::proofs::Agreement::answered))]
+#[tactic(auto, using(imap_grammar::proofs::Agreement::answered))]
 pub fn section(alloc: Global, i: &[u8]) -> IResult<&[u8], Option<SectionPath>>
     ensures steps { Gives (λ x. option_map path_value x) result (step sections.section i.now) }
     ensures answer { Answers sections.section (λ x. option_map path_value x) i.now result }
@@ -50,7 +50,7 @@ pub fn section(alloc: Global, i: &[u8]) -> IResult<&[u8], Option<SectionPath>>
 
 impl MessageSection {
     /// What `section_msgtext` reads, or `MIME` (RFC 3501, section 9: section-text). It takes no memory.
-    #[tactic(auto, using(imap_bytes::proofs::Agreement::exact_answered))]
+    #[tactic(auto, using(imap_grammar::proofs::Agreement::exact_answered))]
     pub fn parse(i: &[u8]) -> IResult<&[u8], MessageSection>
         ensures steps { Exactly (λ x. x) result (step sections.section_text i.now) }
         ensures answer { Answers sections.section_text (λ x. x) i.now result }
@@ -64,7 +64,7 @@ impl SectionPath {
     /// What of a message is meant, or of which part (RFC 3501, section 9: section-spec).
     ///
     /// It takes memory for the path of a part.
-    #[tactic(auto, using(imap_bytes::proofs::Agreement::answered))]
+    #[tactic(auto, using(imap_grammar::proofs::Agreement::answered))]
     pub fn parse(alloc: Global, i: &[u8]) -> IResult<&[u8], SectionPath>
         ensures steps { Gives (λ x. path_value x) result (step sections.section_spec i.now) }
         ensures answer { Answers sections.section_spec (λ x. path_value x) i.now result }

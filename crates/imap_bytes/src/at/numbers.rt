@@ -1,15 +1,15 @@
 //! Numbers at a position. None takes memory.
 
 ghost use Rattle.std.specs.Prelude.{◌≡◌, ◌≤◌, ◌<◌, ◌+◌, ◌*◌, ◌-◌, ◌^◌, ℕ, length, drop, nat_lt, IfSome, IsTrue};
-ghost use Rattle.imap_bytes.specs.Positions.{AnswersAt, ExactlyAt, Ahead};
-ghost use Rattle.imap_bytes.specs.Step.{step};
-ghost use Rattle.imap_bytes.specs.Rule.{only};
-ghost use Rattle.imap_bytes.specs.Classes as classes;
+ghost use Rattle.imap_grammar.specs.Positions.{AnswersAt, ExactlyAt, Ahead};
+ghost use Rattle.imap_grammar.specs.Step.{step};
+ghost use Rattle.imap_grammar.specs.Rule.{only};
+ghost use Rattle.imap_grammar.specs.Classes as classes;
 ghost use Rattle.imap_bytes.specs.Numbers as numbers;
 ghost use Rattle.imap_bytes.specs.Numbers.{InFront};
 
-use crate::answer::{Err, Needed};
-use crate::classes::is_digit;
+use imap_grammar::classes::is_digit;
+use imap_grammar::{Err, Needed};
 
 // The number with one more digit, if 64 bits hold it.
 fn with_digit(number: Option<u64>, digit: u8) -> Option<u64>
@@ -40,7 +40,7 @@ fn digits_in_front(i: &[u8]) -> Option<(usize, Option<u64>)>
 /// A number below 2^64, leading zeros allowed (RFC 4551, section 4: mod-sequence-value).
 ///
 /// It is judged behind the byte that ends its digits: a larger one is `Error`, digits up to the end of the message wait.
-#[tactic(auto, using(crate::proofs::Agreement::exact_answered_at))]
+#[tactic(auto, using(imap_grammar::proofs::Agreement::exact_answered_at))]
 pub fn number_64(m: &[u8], p: usize) -> Result<(usize, u64), Err>
     requires { p ≤ length m.now }
     ensures steps { ExactlyAt (λ x. x) m.now result (step numbers.number_64 (drop p m.now)) }
@@ -63,7 +63,7 @@ pub fn number_64(m: &[u8], p: usize) -> Result<(usize, u64), Err>
 }
 
 /// A number below 2^32, leading zeros allowed (RFC 3501, section 9: number). It is judged as `number_64` is.
-#[tactic(auto, using(crate::proofs::Agreement::exact_answered_at))]
+#[tactic(auto, using(imap_grammar::proofs::Agreement::exact_answered_at))]
 pub fn number(m: &[u8], p: usize) -> Result<(usize, u32), Err>
     requires { p ≤ length m.now }
     ensures steps { ExactlyAt (λ x. x) m.now result (step numbers.number (drop p m.now)) }

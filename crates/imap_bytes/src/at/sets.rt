@@ -1,24 +1,24 @@
 //! Sequence sets at a position.
 
 ghost use Rattle.std.specs.Prelude.{◌≤◌, length, drop, map};
-ghost use Rattle.imap_bytes.specs.Positions.{AnswersAt, ExactlyAt, GivesAt, Ahead};
-ghost use Rattle.imap_bytes.specs.Step.{step};
-ghost use Rattle.imap_bytes.specs.Rule.{◌▹◌};
+ghost use Rattle.imap_grammar.specs.Positions.{AnswersAt, ExactlyAt, GivesAt, Ahead};
+ghost use Rattle.imap_grammar.specs.Step.{step};
+ghost use Rattle.imap_grammar.specs.Rule.{◌▹◌};
+ghost use Rattle.imap_grammar.specs.Tags as tags;
 ghost use Rattle.imap_bytes.specs.Numbers as numbers;
-ghost use Rattle.imap_bytes.specs.Tags as tags;
 ghost use Rattle.imap_bytes.specs.Sets as sets;
 ghost use Rattle.imap_bytes.specs.Sets.{ends};
 
-use crate::answer::Err;
-use crate::at::lists::separated;
 use crate::at::numbers::number;
-use crate::at::tags::tag;
-use crate::lists::{Separator, tried};
+use imap_grammar::Err;
+use imap_grammar::at::lists::separated;
+use imap_grammar::at::tags::tag;
+use imap_grammar::lists::{Separator, tried};
 use std::alloc::Global;
 use std::ops::RangeInclusive;
 
 /// Two numbers with a colon between, their order kept. No memory (RFC 3501, section 9: seq-range).
-#[tactic(auto, using(crate::proofs::Agreement::exact_answered_at), unfolding(crate::specs::Sets::sequence_range))]
+#[tactic(auto, using(imap_grammar::proofs::Agreement::exact_answered_at), unfolding(crate::specs::Sets::sequence_range))]
 pub fn sequence_range(m: &[u8], p: usize) -> Result<(usize, RangeInclusive<u32>), Err>
     requires { p ≤ length m.now }
     ensures steps { ExactlyAt (λ x. ends x) m.now result (step sets.sequence_range (drop p m.now)) }

@@ -1,22 +1,21 @@
 //! Strings at a position, as spans of their content. None takes memory.
 
 ghost use Rattle.std.specs.Prelude.{◌≡◌, ◌==◌, ◌||◌, ◌≤◌, ◌<◌, length, drop, position, IfOk, IfSome};
-ghost use Rattle.imap_bytes.specs.Positions.{AnswersAt, ExactlyAt, Ahead, Inside, Lies, RestsOn, maybe_in, named_in};
-ghost use Rattle.imap_bytes.specs.Step.{step, take_step};
-ghost use Rattle.imap_bytes.specs.Meaning.{begins, outside};
-ghost use Rattle.imap_bytes.specs.Rule.{run0, run1, opt};
-ghost use Rattle.imap_bytes.specs.Ascii.{quote, open_brace};
-ghost use Rattle.imap_bytes.specs.Classes as classes;
+ghost use Rattle.imap_grammar.specs.Positions.{AnswersAt, ExactlyAt, Ahead, Inside, Lies, RestsOn, maybe_in, named_in};
+ghost use Rattle.imap_grammar.specs.Step.{step, take_step};
+ghost use Rattle.imap_grammar.specs.Meaning.{begins, outside};
+ghost use Rattle.imap_grammar.specs.Rule.{run0, run1, opt};
+ghost use Rattle.imap_grammar.specs.Ascii.{quote, open_brace};
+ghost use Rattle.imap_grammar.specs.Classes as classes;
 ghost use Rattle.imap_bytes.specs.Strings as strings;
 
-use crate::answer::{Err, Needed};
 use crate::at::numbers::number;
-use crate::at::span::Span;
-use crate::at::tags::{cut0, cut1, tag, word};
-use crate::classes::{is_astring_char, is_atom_char, is_quoted_char};
-use crate::first;
-use crate::lists::tried;
 use crate::strings::as_utf8;
+use imap_grammar::at::span::Span;
+use imap_grammar::at::tags::{cut0, cut1, tag, word};
+use imap_grammar::classes::{is_astring_char, is_atom_char, is_quoted_char};
+use imap_grammar::lists::tried;
+use imap_grammar::{Err, Needed, first};
 
 fn plain_end(i: &[u8]) -> Option<usize>
     ensures at { result ≡ position (outside classes.is_quoted_char) i.now }
@@ -73,7 +72,7 @@ fn quoted_content(m: &[u8], p: usize) -> Result<(usize, Span), Err>
 }
 
 /// A quoted string: its raw content, backslashes and all (RFC 3501, section 9: quoted).
-#[tactic(auto, using(crate::proofs::Agreement::exact_answered_at), unfolding(crate::specs::Strings::quoted))]
+#[tactic(auto, using(imap_grammar::proofs::Agreement::exact_answered_at), unfolding(crate::specs::Strings::quoted))]
 pub fn quoted(m: &[u8], p: usize) -> Result<(usize, Span), Err>
     requires { p ≤ length m.now }
     ensures steps { ExactlyAt (λ x. named_in m.now x) m.now result (step strings.quoted (drop p m.now)) }
@@ -100,7 +99,7 @@ fn literal_header(m: &[u8], p: usize) -> Result<(usize, u32), Err>
 }
 
 // So many bytes, of any value.
-#[tactic(auto, using(crate::proofs::Positions::stepped), unfolding(crate::specs::Step::take_step))]
+#[tactic(auto, using(imap_grammar::proofs::Positions::stepped), unfolding(imap_grammar::specs::Step::take_step))]
 fn counted(count: usize, m: &[u8], p: usize) -> Result<(usize, Span), Err>
     requires { p ≤ length m.now }
     ensures steps { ExactlyAt (λ x. named_in m.now x) m.now result (take_step count (drop p m.now)) }
@@ -117,7 +116,7 @@ fn counted(count: usize, m: &[u8], p: usize) -> Result<(usize, Span), Err>
 /// A literal: as many bytes as its header says, of any value (RFC 3501, section 4.3).
 ///
 /// Where fewer follow, `Needed::Size` is how many are missing.
-#[tactic(auto, using(crate::proofs::Agreement::exact_answered_at), unfolding(crate::specs::Strings::literal))]
+#[tactic(auto, using(imap_grammar::proofs::Agreement::exact_answered_at), unfolding(crate::specs::Strings::literal))]
 pub fn literal(m: &[u8], p: usize) -> Result<(usize, Span), Err>
     requires { p ≤ length m.now }
     ensures steps { ExactlyAt (λ x. named_in m.now x) m.now result (step strings.literal (drop p m.now)) }
@@ -141,7 +140,7 @@ fn opens_quoted(m: &[u8], p: usize) -> bool
 }
 
 /// A string: quoted, or a literal (RFC 3501, section 9: string).
-#[tactic(auto, using(crate::proofs::Agreement::exact_answered_at), unfolding(crate::specs::Strings::string))]
+#[tactic(auto, using(imap_grammar::proofs::Agreement::exact_answered_at), unfolding(crate::specs::Strings::string))]
 pub fn string(m: &[u8], p: usize) -> Result<(usize, Span), Err>
     requires { p ≤ length m.now }
     ensures steps { ExactlyAt (λ x. named_in m.now x) m.now result (step strings.string (drop p m.now)) }
@@ -173,7 +172,7 @@ pub fn astring_chars(m: &[u8], p: usize) -> Result<(usize, Span), Err>
 }
 
 /// Bare astring-chars, or a string (RFC 3501, section 9: astring).
-#[tactic(auto, using(crate::proofs::Agreement::exact_answered_at), unfolding(crate::specs::Strings::astring))]
+#[tactic(auto, using(imap_grammar::proofs::Agreement::exact_answered_at), unfolding(crate::specs::Strings::astring))]
 pub fn astring(m: &[u8], p: usize) -> Result<(usize, Span), Err>
     requires { p ≤ length m.now }
     ensures steps { ExactlyAt (λ x. named_in m.now x) m.now result (step strings.astring (drop p m.now)) }
@@ -185,7 +184,7 @@ pub fn astring(m: &[u8], p: usize) -> Result<(usize, Span), Err>
 }
 
 /// `NIL` in any case: the three bytes, whatever follows them (RFC 3501, section 9: nil).
-#[tactic(auto, using(crate::proofs::Agreement::exact_answered_at), unfolding(crate::specs::Strings::nil))]
+#[tactic(auto, using(imap_grammar::proofs::Agreement::exact_answered_at), unfolding(crate::specs::Strings::nil))]
 pub fn nil(m: &[u8], p: usize) -> Result<(usize, Span), Err>
     requires { p ≤ length m.now }
     ensures steps { ExactlyAt (λ x. named_in m.now x) m.now result (step strings.nil (drop p m.now)) }
@@ -208,7 +207,7 @@ fn opens_string(m: &[u8], p: usize) -> bool
 }
 
 /// `NIL`, or a string (RFC 3501, section 9: nstring).
-#[tactic(auto, using(crate::proofs::Agreement::exact_answered_at), unfolding(crate::specs::Strings::nstring))]
+#[tactic(auto, using(imap_grammar::proofs::Agreement::exact_answered_at), unfolding(crate::specs::Strings::nstring))]
 pub fn nstring(m: &[u8], p: usize) -> Result<(usize, Option<Span>), Err>
     requires { p ≤ length m.now }
     ensures steps { ExactlyAt (λ x. maybe_in m.now x) m.now result (step strings.nstring (drop p m.now)) }
@@ -252,7 +251,7 @@ pub fn atom_chars(m: &[u8], p: usize) -> Result<(usize, Span), Err>
 }
 
 // An atom, as its span and as its text.
-#[tactic(auto, using(crate::proofs::Positions::kept_self), unfolding(crate::specs::Strings::atom))]
+#[tactic(auto, using(imap_grammar::proofs::Positions::kept_self), unfolding(crate::specs::Strings::atom))]
 pub(crate) fn atom_text(m: &[u8], p: usize) -> Result<(usize, (Span, &str)), Err>
     requires { p ≤ length m.now }
     ensures span { ExactlyAt (λ x. named_in m.now x.0) m.now result (step strings.atom (drop p m.now)) }
@@ -267,7 +266,7 @@ pub(crate) fn atom_text(m: &[u8], p: usize) -> Result<(usize, (Span, &str)), Err
 }
 
 /// An atom; bytes that are no UTF-8 are `Error` (RFC 3501, section 9: atom).
-#[tactic(auto, using(crate::proofs::Agreement::exact_answered_at))]
+#[tactic(auto, using(imap_grammar::proofs::Agreement::exact_answered_at))]
 pub fn atom(m: &[u8], p: usize) -> Result<(usize, Span), Err>
     requires { p ≤ length m.now }
     ensures steps { ExactlyAt (λ x. named_in m.now x) m.now result (step strings.atom (drop p m.now)) }

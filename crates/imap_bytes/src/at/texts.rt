@@ -1,18 +1,18 @@
 //! The text of a line at a position. It takes no memory.
 
 ghost use Rattle.std.specs.Prelude.{◌≡◌, ◌≤◌, ◌<◌, length, drop, position, IfSome};
-ghost use Rattle.imap_bytes.specs.Positions.{AnswersAt, ExactlyAt, Inside, named_in};
-ghost use Rattle.imap_bytes.specs.Step.{step};
-ghost use Rattle.imap_bytes.specs.Meaning.{outside};
-ghost use Rattle.imap_bytes.specs.Rule.{run0};
-ghost use Rattle.imap_bytes.specs.Text.{decoded};
-ghost use Rattle.imap_bytes.specs.Classes as classes;
+ghost use Rattle.imap_grammar.specs.Positions.{AnswersAt, ExactlyAt, Inside, named_in};
+ghost use Rattle.imap_grammar.specs.Step.{step};
+ghost use Rattle.imap_grammar.specs.Meaning.{outside};
+ghost use Rattle.imap_grammar.specs.Rule.{run0};
+ghost use Rattle.imap_grammar.specs.Text.{decoded};
+ghost use Rattle.imap_grammar.specs.Classes as classes;
 ghost use Rattle.imap_bytes.specs.Texts as texts;
 
-use crate::answer::Err;
-use crate::at::span::Span;
-use crate::at::tags::cut0;
-use crate::classes::is_text_char;
+use imap_grammar::Err;
+use imap_grammar::at::span::Span;
+use imap_grammar::at::tags::cut0;
+use imap_grammar::classes::is_text_char;
 
 fn text_end(i: &[u8]) -> Option<usize>
     ensures at { result ≡ position (outside classes.is_text_char) i.now }
@@ -32,7 +32,7 @@ pub fn text_chars(m: &[u8], p: usize) -> Result<(usize, Span), Err>
 }
 
 /// Text-chars up to the first other byte, maybe none, as the span of the text (RFC 3501, section 9: text).
-#[tactic(auto, using(crate::proofs::Agreement::exact_answered_at), unfolding(crate::specs::Texts::text))]
+#[tactic(auto, using(imap_grammar::proofs::Agreement::exact_answered_at), unfolding(crate::specs::Texts::text))]
 pub fn text(m: &[u8], p: usize) -> Result<(usize, Span), Err>
     requires { p ≤ length m.now }
     ensures steps { ExactlyAt (λ x. decoded (named_in m.now x)) m.now result (step texts.text (drop p m.now)) }

@@ -3,9 +3,9 @@
 ghost use Rattle.std.specs.Prelude.{◌≡◌, map, option_map, take_while, IfOk};
 ghost use Rattle.std.specs.List.{list_all};
 ghost use Rattle.std.specs.String.{string_bytes};
-ghost use Rattle.imap_bytes.specs.Answer.{Answers, Exactly, Gives};
-ghost use Rattle.imap_bytes.specs.Step.{step};
-ghost use Rattle.imap_bytes.specs.Text.{text_of};
+ghost use Rattle.imap_grammar.specs.Answer.{Answers, Exactly, Gives};
+ghost use Rattle.imap_grammar.specs.Step.{step};
+ghost use Rattle.imap_grammar.specs.Text.{text_of};
 ghost use Rattle.imap_data.specs.MailboxValues.{metadata_value, mailbox_value};
 ghost use Rattle.imap_data.specs.Annotations as rules;
 
@@ -193,7 +193,7 @@ fn annotations(alloc: Global, i: &[u8]) -> IResult<&[u8], Vec<Metadata>>
 /// Annotations with their values, at least one: METADATA as a response to GETMETADATA (RFC 5464, section 4.4.1).
 ///
 /// It takes memory for each entry and value.
-#[tactic(auto, using(imap_bytes::proofs::Agreement::answered), unfolding(crate::specs::Annotations::metadata_solicited))]
+#[tactic(auto, using(imap_grammar::proofs::Agreement::answered), unfolding(crate::specs::Annotations::metadata_solicited))]
 pub fn metadata_solicited(alloc: Global, i: &[u8]) -> IResult<&[u8], MailboxDatum<'_>>
     ensures steps { Gives (λ x. mailbox_value x) result (step rules.metadata_solicited i.now) }
     ensures answer { Answers rules.metadata_solicited (λ x. mailbox_value x) i.now result }
@@ -215,7 +215,7 @@ fn entries(alloc: Global, i: &[u8]) -> IResult<&[u8], Vec<CowStr<'_>>>
 /// Entries that changed, maybe none: METADATA that the server sends by itself (RFC 5464, section 4.4.2).
 ///
 /// It takes memory for the list, and for texts that are no UTF-8.
-#[tactic(auto, using(imap_bytes::proofs::Agreement::answered), unfolding(crate::specs::Annotations::metadata_unsolicited))]
+#[tactic(auto, using(imap_grammar::proofs::Agreement::answered), unfolding(crate::specs::Annotations::metadata_unsolicited))]
 pub fn metadata_unsolicited(alloc: Global, i: &[u8]) -> IResult<&[u8], MailboxDatum<'_>>
     ensures steps { Gives (λ x. mailbox_value x) result (step rules.metadata_unsolicited i.now) }
     ensures answer { Answers rules.metadata_unsolicited (λ x. mailbox_value x) i.now result }

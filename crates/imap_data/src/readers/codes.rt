@@ -1,9 +1,9 @@
 //! Response codes.
 
 ghost use Rattle.std.specs.Prelude.{map, IfOk};
-ghost use Rattle.imap_bytes.specs.Answer.{Answers, Exactly, Gives};
-ghost use Rattle.imap_bytes.specs.Step.{step};
-ghost use Rattle.imap_bytes.specs.Text.{text_of};
+ghost use Rattle.imap_grammar.specs.Answer.{Answers, Exactly, Gives};
+ghost use Rattle.imap_grammar.specs.Step.{step};
+ghost use Rattle.imap_grammar.specs.Text.{text_of};
 ghost use Rattle.imap_data.specs.Codes as codes;
 ghost use Rattle.imap_data.specs.Codes.{code_value, HasOrderedUids};
 
@@ -230,7 +230,7 @@ fn any_code(alloc: Global, i: &[u8]) -> IResult<&[u8], ResponseCode<'_>>
 /// A code in brackets (RFC 3501, section 9: resp-text-code; RFC 4551, RFC 4315, RFC 5464).
 ///
 /// Each range of its UIDs starts not above its end. It takes memory for lists, and for texts that are no UTF-8.
-#[tactic(auto, using(imap_bytes::proofs::Agreement::answered), unfolding(crate::specs::Codes::response_code))]
+#[tactic(auto, using(imap_grammar::proofs::Agreement::answered), unfolding(crate::specs::Codes::response_code))]
 pub fn response_code(alloc: Global, i: &[u8]) -> IResult<&[u8], ResponseCode<'_>>
     ensures steps { Gives (λ x. code_value x) result (step codes.response_code i.now) }
     ensures answer { Answers codes.response_code (λ x. code_value x) i.now result }

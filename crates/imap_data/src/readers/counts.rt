@@ -1,8 +1,8 @@
 //! Items of STATUS, and numbers that were found.
 
-ghost use Rattle.imap_bytes.specs.Answer.{Exactly, Gives};
-ghost use Rattle.imap_bytes.specs.Step.{step};
-ghost use Rattle.imap_bytes.specs.Rule.{many};
+ghost use Rattle.imap_grammar.specs.Answer.{Exactly, Gives};
+ghost use Rattle.imap_grammar.specs.Step.{step};
+ghost use Rattle.imap_grammar.specs.Rule.{many};
 ghost use Rattle.imap_data.specs.Counts as counts;
 
 use crate::types::counts::StatusAttribute;

@@ -1,7 +1,7 @@
 //! Data of a mailbox.
 
-ghost use Rattle.imap_bytes.specs.Answer.{Answers, Exactly, Gives};
-ghost use Rattle.imap_bytes.specs.Step.{step};
+ghost use Rattle.imap_grammar.specs.Answer.{Answers, Exactly, Gives};
+ghost use Rattle.imap_grammar.specs.Step.{step};
 ghost use Rattle.imap_data.specs.MailboxData as rules;
 ghost use Rattle.imap_data.specs.MailboxValues.{mailbox_value};
 
@@ -142,7 +142,7 @@ fn datum(alloc: Global, i: &[u8]) -> IResult<&[u8], MailboxDatum<'_>>
 /// (RFC 3501, section 9: mailbox-data; RFC 5256, section 4; Gmail's X-GM-EXT-1).
 ///
 /// Its lists take memory, and texts only for bytes that are no UTF-8.
-#[tactic(auto, using(imap_bytes::proofs::Agreement::answered))]
+#[tactic(auto, using(imap_grammar::proofs::Agreement::answered))]
 pub fn mailbox_datum(alloc: Global, i: &[u8]) -> IResult<&[u8], MailboxDatum<'_>>
     ensures steps { Gives (λ x. mailbox_value x) result (step rules.mailbox_datum i.now) }
     ensures answer { Answers rules.mailbox_datum (λ x. mailbox_value x) i.now result }

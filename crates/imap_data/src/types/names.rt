@@ -2,7 +2,7 @@
 
 ghost use Rattle.std.specs.Prelude.{◌≡◌, IfOk, IsOk, map};
 ghost use Rattle.std.specs.Option.{option_map};
-ghost use Rattle.imap_bytes.specs.Text.{text_of};
+ghost use Rattle.imap_grammar.specs.Text.{text_of};
 ghost use Rattle.imap_data.specs.Names.{attribute_value, list_value, IsLentAttribute};
 
 use imap_items::copies::copied_text;

@@ -1,9 +1,9 @@
 //! Flags at a position, as spans of their texts.
 
 ghost use Rattle.std.specs.Prelude.{◌≤◌, length, drop, codes, map};
-ghost use Rattle.imap_bytes.specs.Positions.{AnswersAt, ExactlyAt, GivesAt, Ahead, Inside, RestsOn, named_in};
-ghost use Rattle.imap_bytes.specs.Step.{step};
-ghost use Rattle.imap_bytes.specs.Tags.{exactly_names};
+ghost use Rattle.imap_grammar.specs.Positions.{AnswersAt, ExactlyAt, GivesAt, Ahead, Inside, RestsOn, named_in};
+ghost use Rattle.imap_grammar.specs.Step.{step};
+ghost use Rattle.imap_grammar.specs.Tags.{exactly_names};
 ghost use Rattle.imap_items.specs.Flags as flags;
 ghost use Rattle.imap_items.specs.Spanned.{text_in};
 
@@ -26,7 +26,7 @@ fn backslashed(m: &[u8], p: usize) -> Result<(usize, Span), Err>
     Ok((q, Span { start: p, end: q }))
 }
 
-#[tactic(auto, using(imap_bytes::proofs::Positions::kept_self), unfolding(crate::specs::Flags::backslashed_text))]
+#[tactic(auto, using(imap_grammar::proofs::Positions::kept_self), unfolding(crate::specs::Flags::backslashed_text))]
 fn backslashed_text(m: &[u8], p: usize) -> Result<(usize, Span), Err>
     requires { p ≤ length m.now }
     ensures steps { ExactlyAt (λ x. named_in m.now x) m.now result (step flags.backslashed_text (drop p m.now)) }
@@ -39,7 +39,7 @@ fn backslashed_text(m: &[u8], p: usize) -> Result<(usize, Span), Err>
     }
 }
 
-#[tactic(auto, using(imap_bytes::proofs::Positions::kept_self), unfolding(crate::specs::Flags::keyword))]
+#[tactic(auto, using(imap_grammar::proofs::Positions::kept_self), unfolding(crate::specs::Flags::keyword))]
 fn keyword(m: &[u8], p: usize) -> Result<(usize, Span), Err>
     requires { p ≤ length m.now }
     ensures steps { ExactlyAt (λ x. named_in m.now x) m.now result (step flags.keyword (drop p m.now)) }

@@ -1,8 +1,8 @@
 //! Gmail's labels at a position, as spans of their texts.
 
 ghost use Rattle.std.specs.Prelude.{◌≤◌, length, drop, map};
-ghost use Rattle.imap_bytes.specs.Positions.{AnswersAt, ExactlyAt, GivesAt, Ahead, Inside, RestsOn};
-ghost use Rattle.imap_bytes.specs.Step.{step};
+ghost use Rattle.imap_grammar.specs.Positions.{AnswersAt, ExactlyAt, GivesAt, Ahead, Inside, RestsOn};
+ghost use Rattle.imap_grammar.specs.Step.{step};
 ghost use Rattle.imap_bytes.specs.Texts as texts;
 ghost use Rattle.imap_items.specs.Gmail as rules;
 ghost use Rattle.imap_items.specs.Spanned.{text_in};
@@ -77,7 +77,7 @@ fn labels(alloc: Global, m: &[u8], p: usize) -> Result<(usize, Vec<Span>), Err>
 /// `X-GM-LABELS` and the labels of a message in parentheses, maybe none, each as the span of a flag's text or of a quoted string's raw content (Gmail's X-GM-EXT-1).
 ///
 /// It takes memory for the list, and for no text.
-#[tactic(auto, using(imap_bytes::proofs::Agreement::answered_at))]
+#[tactic(auto, using(imap_grammar::proofs::Agreement::answered_at))]
 pub fn gmail_label_list(alloc: Global, m: &[u8], p: usize) -> Result<(usize, Vec<Span>), Err>
     requires { p ≤ length m.now }
     ensures steps { GivesAt (λ x. map (text_in m.now) x.items) m.now result (step rules.gmail_label_list (drop p m.now)) }

@@ -2,8 +2,8 @@
 
 ghost use Rattle.std.specs.Prelude.{◌≡◌, map};
 ghost use Rattle.std.specs.List.{list_any};
-ghost use Rattle.imap_bytes.specs.Answer.{Answers, Exactly, Gives};
-ghost use Rattle.imap_bytes.specs.Step.{step};
+ghost use Rattle.imap_grammar.specs.Answer.{Answers, Exactly, Gives};
+ghost use Rattle.imap_grammar.specs.Step.{step};
 ghost use Rattle.imap_items.specs.Capabilities as capabilities;
 ghost use Rattle.imap_items.specs.Capabilities.{capability_value};
 
@@ -96,7 +96,7 @@ fn with_revision(alloc: Global, i: &[u8]) -> IResult<&[u8], Vec<Capability<'_>>>
 /// `CAPABILITY` and capabilities (RFC 3501, section 9: capability-data).
 ///
 /// They are `Error` where none is `IMAP4rev1`.
-#[tactic(auto, using(imap_bytes::proofs::Agreement::answered))]
+#[tactic(auto, using(imap_grammar::proofs::Agreement::answered))]
 pub fn capability_data(alloc: Global, i: &[u8]) -> IResult<&[u8], Vec<Capability<'_>>>
     ensures steps { Gives (λ x. map capability_value x.items) result (step capabilities.capability_data i.now) }
     ensures answer { Answers capabilities.capability_data (λ x. map capability_value x.items) i.now result }
@@ -105,7 +105,7 @@ pub fn capability_data(alloc: Global, i: &[u8]) -> IResult<&[u8], Vec<Capability
 }
 
 /// `ENABLED` and the names of capabilities, each as it stands, maybe none (RFC 5161, section 4: enable-data).
-#[tactic(auto, using(imap_bytes::proofs::Agreement::answered), unfolding(crate::specs::Capabilities::enabled_data))]
+#[tactic(auto, using(imap_grammar::proofs::Agreement::answered), unfolding(crate::specs::Capabilities::enabled_data))]
 pub fn enabled_data(alloc: Global, i: &[u8]) -> IResult<&[u8], Vec<Capability<'_>>>
     ensures steps { Gives (λ x. map capability_value x.items) result (step capabilities.enabled_data i.now) }
     ensures answer { Answers capabilities.enabled_data (λ x. map capability_value x.items) i.now result }

@@ -1,10 +1,10 @@
 //! Flags.
 
 ghost use Rattle.std.specs.Prelude.{codes, map};
-ghost use Rattle.imap_bytes.specs.Answer.{Answers, Exactly, Gives};
-ghost use Rattle.imap_bytes.specs.Step.{step};
-ghost use Rattle.imap_bytes.specs.Tags.{exactly_names};
-ghost use Rattle.imap_bytes.specs.Text.{text_of};
+ghost use Rattle.imap_grammar.specs.Answer.{Answers, Exactly, Gives};
+ghost use Rattle.imap_grammar.specs.Step.{step};
+ghost use Rattle.imap_grammar.specs.Tags.{exactly_names};
+ghost use Rattle.imap_grammar.specs.Text.{text_of};
 ghost use Rattle.imap_items.specs.Flags as flags;
 
 use imap_bytes::strings::{as_utf8, astring_chars, atom_chars0};
@@ -25,7 +25,7 @@ fn backslashed(i: &[u8]) -> IResult<&[u8], &[u8]>
 /// A backslash and atom-chars, maybe none, as text (RFC 3501, section 9: flag-extension). No memory.
 ///
 /// Bytes that are no UTF-8 are `Error`.
-#[tactic(auto, using(imap_bytes::proofs::Agreement::exact_answered), unfolding(crate::specs::Flags::backslashed_text))]
+#[tactic(auto, using(imap_grammar::proofs::Agreement::exact_answered), unfolding(crate::specs::Flags::backslashed_text))]
 pub fn backslashed_text(i: &[u8]) -> IResult<&[u8], &str>
     ensures steps { Exactly (λ x. x.now) result (step flags.backslashed_text i.now) }
     ensures answer { Answers flags.backslashed_text (λ x. x.now) i.now result }
@@ -51,7 +51,7 @@ fn keyword(i: &[u8]) -> IResult<&[u8], &str>
 /// A flag: a backslash and atom-chars, or astring-chars (RFC 3501, section 9: flag, with the crate's leniences). No memory.
 ///
 /// Bytes that are no UTF-8 are `Error`.
-#[tactic(auto, using(imap_bytes::proofs::Agreement::exact_answered), unfolding(crate::specs::Flags::flag))]
+#[tactic(auto, using(imap_grammar::proofs::Agreement::exact_answered), unfolding(crate::specs::Flags::flag))]
 pub fn flag(i: &[u8]) -> IResult<&[u8], &str>
     ensures steps { Exactly (λ x. x.now) result (step flags.flag i.now) }
     ensures answer { Answers flags.flag (λ x. x.now) i.now result }
@@ -68,7 +68,7 @@ fn star(i: &[u8]) -> IResult<&[u8], &str>
 }
 
 /// `\*`, or a flag (RFC 3501, section 9: flag-perm). No memory.
-#[tactic(auto, using(imap_bytes::proofs::Agreement::exact_answered), unfolding(crate::specs::Flags::flag_perm))]
+#[tactic(auto, using(imap_grammar::proofs::Agreement::exact_answered), unfolding(crate::specs::Flags::flag_perm))]
 pub fn flag_perm(i: &[u8]) -> IResult<&[u8], &str>
     ensures steps { Exactly (λ x. x.now) result (step flags.flag_perm i.now) }
     ensures answer { Answers flags.flag_perm (λ x. x.now) i.now result }
@@ -78,7 +78,7 @@ pub fn flag_perm(i: &[u8]) -> IResult<&[u8], &str>
 }
 
 /// A flag of a list, as text that lies in the input. No memory.
-#[tactic(auto, using(imap_bytes::proofs::Agreement::exact_answered), unfolding(crate::specs::Flags::flag_text))]
+#[tactic(auto, using(imap_grammar::proofs::Agreement::exact_answered), unfolding(crate::specs::Flags::flag_text))]
 pub fn flag_text(i: &[u8]) -> IResult<&[u8], CowStr<'_>>
     ensures steps { Exactly (λ x. text_of x) result (step flags.flag_text i.now) }
     ensures answer { Answers flags.flag_text (λ x. text_of x) i.now result }

@@ -1,9 +1,9 @@
 //! Gmail's items of a message.
 
 ghost use Rattle.std.specs.Prelude.{map};
-ghost use Rattle.imap_bytes.specs.Answer.{Answers, Exactly, Gives};
-ghost use Rattle.imap_bytes.specs.Step.{step};
-ghost use Rattle.imap_bytes.specs.Text.{text_of};
+ghost use Rattle.imap_grammar.specs.Answer.{Answers, Exactly, Gives};
+ghost use Rattle.imap_grammar.specs.Step.{step};
+ghost use Rattle.imap_grammar.specs.Text.{text_of};
 ghost use Rattle.imap_items.specs.Gmail as rules;
 
 use super::flags::flag;
@@ -47,7 +47,7 @@ fn labels(alloc: Global, i: &[u8]) -> IResult<&[u8], Vec<CowStr<'_>>>
 }
 
 /// `X-GM-LABELS` and the labels of a message in parentheses, maybe none (Gmail's X-GM-EXT-1).
-#[tactic(auto, using(imap_bytes::proofs::Agreement::answered))]
+#[tactic(auto, using(imap_grammar::proofs::Agreement::answered))]
 pub fn gmail_label_list(alloc: Global, i: &[u8]) -> IResult<&[u8], Vec<CowStr<'_>>>
     ensures steps { Gives (λ x. map text_of x.items) result (step rules.gmail_label_list i.now) }
     ensures answer { Answers rules.gmail_label_list (λ x. map text_of x.items) i.now result }
@@ -64,7 +64,7 @@ fn msgid(i: &[u8]) -> IResult<&[u8], u64>
 }
 
 /// `X-GM-MSGID` and the number of a message (Gmail's X-GM-EXT-1). No memory.
-#[tactic(auto, using(imap_bytes::proofs::Agreement::exact_answered))]
+#[tactic(auto, using(imap_grammar::proofs::Agreement::exact_answered))]
 pub fn gmail_msgid(i: &[u8]) -> IResult<&[u8], u64>
     ensures steps { Exactly (λ x. x) result (step rules.gmail_msgid i.now) }
     ensures answer { Answers rules.gmail_msgid (λ x. x) i.now result }
@@ -81,7 +81,7 @@ fn thrid(i: &[u8]) -> IResult<&[u8], u64>
 }
 
 /// `X-GM-THRID` and the number of a thread (Gmail's X-GM-EXT-1). No memory.
-#[tactic(auto, using(imap_bytes::proofs::Agreement::exact_answered))]
+#[tactic(auto, using(imap_grammar::proofs::Agreement::exact_answered))]
 pub fn gmail_thrid(i: &[u8]) -> IResult<&[u8], u64>
     ensures steps { Exactly (λ x. x) result (step rules.gmail_thrid i.now) }
     ensures answer { Answers rules.gmail_thrid (λ x. x) i.now result }

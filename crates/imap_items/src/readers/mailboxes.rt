@@ -1,11 +1,11 @@
 //! Mailbox names.
 
 ghost use Rattle.std.specs.Prelude.{◌≡◌, codes};
-ghost use Rattle.imap_bytes.specs.Answer.{Answers, Gives};
-ghost use Rattle.imap_bytes.specs.Step.{step};
-ghost use Rattle.imap_bytes.specs.Meaning.{is_word};
-ghost use Rattle.imap_bytes.specs.Tags.{same_letter};
-ghost use Rattle.imap_bytes.specs.Text.{text_of};
+ghost use Rattle.imap_grammar.specs.Answer.{Answers, Gives};
+ghost use Rattle.imap_grammar.specs.Step.{step};
+ghost use Rattle.imap_grammar.specs.Meaning.{is_word};
+ghost use Rattle.imap_grammar.specs.Tags.{same_letter};
+ghost use Rattle.imap_grammar.specs.Text.{text_of};
 ghost use Rattle.imap_bytes.specs.Texts.{astring_utf8 as astring_rule, FailsForOwned, is_owned};
 ghost use Rattle.imap_items.specs.Mailboxes as mailboxes;
 ghost use Rattle.imap_items.specs.Mailboxes.{mailbox_of};
@@ -33,7 +33,7 @@ fn mailbox_name(name: CowStr<'_>) -> CowStr<'_>
 /// A mailbox's name: an astring as text, and `INBOX` for INBOX in any case (RFC 3501, section 5.1).
 ///
 /// It takes memory only for bytes that are no UTF-8.
-#[tactic(auto, using(imap_bytes::proofs::Agreement::answered), unfolding(crate::specs::Mailboxes::mailbox))]
+#[tactic(auto, using(imap_grammar::proofs::Agreement::answered), unfolding(crate::specs::Mailboxes::mailbox))]
 pub fn mailbox(alloc: Global, i: &[u8]) -> IResult<&[u8], CowStr<'_>>
     ensures steps { Gives (λ x. text_of x) result (step mailboxes.mailbox i.now) }
     ensures answer { Answers mailboxes.mailbox (λ x. text_of x) i.now result }

@@ -2,9 +2,9 @@
 
 ghost use Rattle.std.specs.Prelude.{◌≡◌, map, IfOk};
 ghost use Rattle.std.specs.List.{All};
-ghost use Rattle.imap_bytes.specs.Answer.{Answers, Exactly, Gives};
-ghost use Rattle.imap_bytes.specs.Step.{step};
-ghost use Rattle.imap_bytes.specs.Rule.{gives};
+ghost use Rattle.imap_grammar.specs.Answer.{Answers, Exactly, Gives};
+ghost use Rattle.imap_grammar.specs.Step.{step};
+ghost use Rattle.imap_grammar.specs.Rule.{gives};
 ghost use Rattle.imap_bytes.specs.Sets.{sequence_range as sequence_range_rule, ends};
 ghost use Rattle.imap_items.specs.UidSets as sets;
 ghost use Rattle.imap_items.specs.UidSets.{member_value, range_of, IsOrdered};

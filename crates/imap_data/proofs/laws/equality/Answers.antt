@@ -1,8 +1,8 @@
 use Rattle.imap_data.proofs.MailboxData.{data_tell}
 use Rattle.imap_data.proofs.Names.{list_tells}
-use Rattle.imap_data.proofs.Ids.{tables_tell}
-use Rattle.imap_data.proofs.Quotas.{quotas_tell, roots_tell}
-use Rattle.imap_data.proofs.Acls.{entry_tells, acl_tells, list_rights_tell, my_rights_tell}
+use Rattle.imap_extensions.proofs.Ids.{tables_tell}
+use Rattle.imap_extensions.proofs.Quotas.{quotas_tell, roots_tell}
+use Rattle.imap_extensions.proofs.Acls.{entry_tells, acl_tells, list_rights_tell, my_rights_tell}
 use Rattle.imap_data.proofs.laws.equality.Goals as goal
 
 pub returns-clause-list_data : goal.returns-clause-list_data

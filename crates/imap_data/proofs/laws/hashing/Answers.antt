@@ -1,4 +1,4 @@
-use Rattle.imap_data.proofs.Quotas.{quotas_alike, roots_alike}
+use Rattle.imap_extensions.proofs.Quotas.{quotas_alike, roots_alike}
 use Rattle.imap_data.proofs.laws.hashing.Goals as goal
 
 pub returns-clause-quota : goal.returns-clause-quota

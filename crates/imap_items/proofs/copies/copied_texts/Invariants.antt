@@ -1,5 +1,5 @@
 use Rattle.std.proofs.Common.{◌≡◌, map, take}
-use Rattle.imap_bytes.specs.Text.{text_of}
+use Rattle.imap_grammar.specs.Text.{text_of}
 use Rattle.imap_items.proofs.copies.copied_texts.Given as goal
 
 abbrev pub invariant-loop-text : goal.invariant-loop-text

@@ -2,7 +2,7 @@ use Rattle.std.proofs.Common.{sym, ◌∙◌, ap, ◌≡◌, ℕ, List, length, 
 use Rattle.std.proofs.lemmas.Bool.{eqb-true, eqb-false}
 use Rattle.imap_proto.specs.Lines.{response}
 use Rattle.imap_proto.specs.Responses.{response_value}
-use Rattle.imap_bytes.proofs.Agreement.{agrees}
+use Rattle.imap_grammar.proofs.Agreement.{agrees}
 use Rattle.imap_report.specs.Report.{line}
 use Rattle.imap_report.proofs.Turns.{shorter, denied_report, waiting_report, end_report}
 use Rattle.imap_report.proofs.telling.next_turn.Goals as goal

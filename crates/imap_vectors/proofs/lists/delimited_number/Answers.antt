@@ -1,8 +1,8 @@
 use Rattle.std.proofs.Common.{subst}
-use Rattle.imap_bytes.specs.Answer.{Exactly}
+use Rattle.imap_grammar.specs.Answer.{Exactly}
+use Rattle.imap_grammar.specs.Step.{step}
+use Rattle.imap_grammar.proofs.Callers.{delimited_exactly}
 use Rattle.imap_bytes.specs.Numbers.{number}
-use Rattle.imap_bytes.specs.Step.{step}
-use Rattle.imap_bytes.proofs.Callers.{delimited_exactly}
 use Rattle.imap_vectors.proofs.lists.delimited_number.Goals as goal
 
 pub returns : goal.returns

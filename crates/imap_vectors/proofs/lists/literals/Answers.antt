@@ -1,6 +1,6 @@
 use Rattle.std.proofs.Common.{rules, refl}
+use Rattle.imap_grammar.proofs.Under.{kept_shortens, exactly_at}
 use Rattle.imap_bytes.specs.Strings.{literal, literal_header}
-use Rattle.imap_bytes.proofs.Under.{kept_shortens, exactly_at}
 use Rattle.imap_vectors.proofs.lists.literals.Goals as goal
 
 pub parenthesized_list-requires : goal.parenthesized_list-requires

@@ -1,8 +1,8 @@
 use Rattle.std.proofs.Common.{rules, refl}
+use Rattle.imap_grammar.proofs.Under.{kept_shortens, exactly_at}
+use Rattle.imap_grammar.proofs.Callers.{listed}
+use Rattle.imap_grammar.proofs.Plain.{plain}
 use Rattle.imap_bytes.specs.Numbers.{number, digits}
-use Rattle.imap_bytes.proofs.Under.{kept_shortens, exactly_at}
-use Rattle.imap_bytes.proofs.Callers.{listed}
-use Rattle.imap_bytes.proofs.Plain.{plain}
 use Rattle.imap_vectors.proofs.lists.numbers_by_closure.Goals as goal
 
 pub parenthesized_list-requires : goal.parenthesized_list-requires

@@ -1,8 +1,8 @@
 use Rattle.std.proofs.Common.{rules, refl}
+use Rattle.imap_grammar.proofs.Under.{kept_shortens, exactly_at}
+use Rattle.imap_grammar.proofs.Callers.{nonempty_listed}
+use Rattle.imap_grammar.proofs.Plain.{plain}
 use Rattle.imap_bytes.specs.Numbers.{number, digits}
-use Rattle.imap_bytes.proofs.Under.{kept_shortens, exactly_at}
-use Rattle.imap_bytes.proofs.Callers.{nonempty_listed}
-use Rattle.imap_bytes.proofs.Plain.{plain}
 use Rattle.imap_vectors.proofs.lists.some_numbers.Goals as goal
 
 pub parenthesized_nonempty_list-requires : goal.parenthesized_nonempty_list-requires

@@ -1,11 +1,11 @@
 use Rattle.std.proofs.Common.{drop, length, List, ◌≤◌, ◌-◌}
-use Rattle.imap_bytes.specs.Rule.{list1}
-use Rattle.imap_bytes.specs.Step.{step}
-use Rattle.imap_bytes.specs.Tags.{sp}
-use Rattle.imap_bytes.specs.Text.{Bytes}
+use Rattle.imap_grammar.specs.Rule.{list1}
+use Rattle.imap_grammar.specs.Step.{step}
+use Rattle.imap_grammar.specs.Tags.{sp}
+use Rattle.imap_grammar.specs.Text.{Bytes}
 use Rattle.imap_bytes.specs.Strings.{astring}
-use Rattle.imap_body.specs.Envelopes.{spaced}
-use Rattle.imap_body.proofs.Gathering.{Gathered}
+use Rattle.imap_structure.specs.Envelopes.{spaced}
+use Rattle.imap_structure.proofs.Gathering.{Gathered}
 use Rattle.imap_body.proofs.at.sections.header_names.Given as goal
 
 abbrev pub invariant-names : goal.invariant-names

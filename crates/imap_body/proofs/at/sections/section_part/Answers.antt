@@ -1,11 +1,11 @@
 use Rattle.std.proofs.Common.{refl, arith, ◌<◌}
 use Rattle.std.proofs.lemmas.Result.{err_from_is_err_and}
-use Rattle.imap_bytes.specs.Rule.{◌▹◌}
-use Rattle.imap_bytes.specs.Tags.{tag}
+use Rattle.imap_grammar.specs.Rule.{◌▹◌}
+use Rattle.imap_grammar.specs.Tags.{tag}
+use Rattle.imap_grammar.proofs.Agreement.{stops}
 use Rattle.imap_bytes.specs.Numbers.{number}
-use Rattle.imap_bytes.proofs.Agreement.{stops}
 use Rattle.imap_body.specs.Sections.{section_part}
-use Rattle.imap_body.proofs.Gathering.{first, next_one, all, stopped, onward}
+use Rattle.imap_structure.proofs.Gathering.{first, next_one, all, stopped, onward}
 use Rattle.imap_body.proofs.at.sections.section_part.Goals as goal
 
 pub numbers-init : goal.numbers-init

@@ -1,9 +1,9 @@
 use Rattle.std.proofs.Common.{drop, length, ◌≤◌, ◌-◌}
-use Rattle.imap_bytes.specs.Rule.{list1, ◌▹◌}
-use Rattle.imap_bytes.specs.Step.{step}
-use Rattle.imap_bytes.specs.Tags.{tag}
+use Rattle.imap_grammar.specs.Rule.{list1, ◌▹◌}
+use Rattle.imap_grammar.specs.Step.{step}
+use Rattle.imap_grammar.specs.Tags.{tag}
 use Rattle.imap_bytes.specs.Numbers.{number}
-use Rattle.imap_body.proofs.Gathering.{Gathered}
+use Rattle.imap_structure.proofs.Gathering.{Gathered}
 use Rattle.imap_body.proofs.at.sections.section_part.Given as goal
 
 abbrev pub invariant-numbers : goal.invariant-numbers

@@ -1,8 +1,8 @@
 use Rattle.std.proofs.Common.{◌≡◌, ◌^◌, true, take, get_or, sym, ap, ◌∙◌, arith}
 use Rattle.std.specs.Prelude.{nat_lt}
 use Rattle.std.specs.Str.Parse.{digits_value}
-use Rattle.imap_bytes.specs.Classes.{is_digit}
-use Rattle.imap_bytes.specs.Rule.{only}
+use Rattle.imap_grammar.specs.Classes.{is_digit}
+use Rattle.imap_grammar.specs.Rule.{only}
 use Rattle.imap_bytes.proofs.Digits.{next_value, all_more}
 use Rattle.imap_bytes.proofs.at.numbers.digits_in_front.Goals as goal
 

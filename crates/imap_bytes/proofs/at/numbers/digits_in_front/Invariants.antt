@@ -2,8 +2,8 @@ use Rattle.std.proofs.Common.{◌≡◌, ◌^◌, take, true}
 use Rattle.std.specs.Prelude.{nat_lt}
 use Rattle.std.specs.List.{list_all}
 use Rattle.std.specs.Str.Parse.{digits_value}
-use Rattle.imap_bytes.specs.Classes.{is_digit}
-use Rattle.imap_bytes.specs.Rule.{only}
+use Rattle.imap_grammar.specs.Classes.{is_digit}
+use Rattle.imap_grammar.specs.Rule.{only}
 use Rattle.imap_bytes.proofs.at.numbers.digits_in_front.Given as goal
 
 abbrev pub invariant-loop-d : goal.invariant-loop-d

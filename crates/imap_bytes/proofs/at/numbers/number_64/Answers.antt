@@ -1,8 +1,8 @@
+use Rattle.imap_grammar.specs.Step.{step}
+use Rattle.imap_grammar.proofs.Agreement.{exact_answered_at}
+use Rattle.imap_grammar.proofs.Positions.{found_further}
 use Rattle.imap_bytes.specs.Numbers.{number_64}
-use Rattle.imap_bytes.specs.Step.{step}
-use Rattle.imap_bytes.proofs.Agreement.{exact_answered_at}
 use Rattle.imap_bytes.proofs.Digits.{number_waits, no_number, number_read, number_none}
-use Rattle.imap_bytes.proofs.Positions.{found_further}
 use Rattle.imap_bytes.proofs.at.numbers.number_64.Goals as goal
 
 pub returns-then-count-eq0-clause-steps : goal.returns-then-count-eq0-clause-steps

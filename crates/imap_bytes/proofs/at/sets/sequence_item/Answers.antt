@@ -1,6 +1,6 @@
 use Rattle.std.proofs.Common.{drop, sym, ◌∙◌}
 use Rattle.std.proofs.lemmas.Result.{err_from_is_err_and}
-use Rattle.imap_bytes.proofs.Joins.{tried_some, tried_none, tried_fault}
+use Rattle.imap_grammar.proofs.Joins.{tried_some, tried_none, tried_fault}
 use Rattle.imap_bytes.proofs.Ranges.{item_fault, item_range, item_alone, item_stops}
 use Rattle.imap_bytes.proofs.at.sets.sequence_item.Goals as goal
 

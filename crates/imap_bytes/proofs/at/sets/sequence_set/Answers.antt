@@ -1,9 +1,9 @@
 use Rattle.std.proofs.Common.{refl}
-use Rattle.imap_bytes.specs.declared.lists.Separator.TheVariants.{Comma}
+use Rattle.imap_grammar.specs.declared.lists.Separator.TheVariants.{Comma}
+use Rattle.imap_grammar.proofs.Agreement.{answered_at}
+use Rattle.imap_grammar.proofs.PositionUnder.{separated_at, advances_at, exact_at}
 use Rattle.imap_bytes.specs.Numbers.{number, digits}
 use Rattle.imap_bytes.specs.Sets.{ends, sequence_set, sequence_item, sequence_range}
-use Rattle.imap_bytes.proofs.Agreement.{answered_at}
-use Rattle.imap_bytes.proofs.PositionUnder.{separated_at, advances_at, exact_at}
 use Rattle.imap_bytes.proofs.at.sets.sequence_set.Goals as goal
 
 pub separated-requires-clause-advances : goal.separated-requires-clause-advances

@@ -1,5 +1,5 @@
 use Rattle.std.proofs.Common.{drop, sym, ◌∙◌}
-use Rattle.imap_bytes.proofs.Agreement.{exact_answered_at}
+use Rattle.imap_grammar.proofs.Agreement.{exact_answered_at}
 use Rattle.imap_bytes.proofs.StringStarts.{string_quoted, string_literal}
 use Rattle.imap_bytes.proofs.at.strings.string.Goals as goal
 

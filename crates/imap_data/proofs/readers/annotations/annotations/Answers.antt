@@ -1,6 +1,6 @@
 use Rattle.std.proofs.Common.{rules, refl}
-use Rattle.imap_bytes.proofs.Under.{kept_shortens, kept_at}
-use Rattle.imap_bytes.proofs.Callers.{nonempty_listed}
+use Rattle.imap_grammar.proofs.Under.{kept_shortens, kept_at}
+use Rattle.imap_grammar.proofs.Callers.{nonempty_listed}
 use Rattle.imap_data.proofs.Takes.{annotation_takes}
 use Rattle.imap_data.specs.MailboxValues.{metadata_value}
 use Rattle.imap_data.specs.Annotations.{annotation, annotations}

@@ -1,8 +1,8 @@
 use Rattle.std.proofs.Common.{rules, refl}
-use Rattle.imap_bytes.specs.declared.lists.Separator.TheVariants.{Space}
-use Rattle.imap_bytes.specs.Text.{text_of}
-use Rattle.imap_bytes.proofs.Under.{kept_shortens, kept_at}
-use Rattle.imap_bytes.proofs.Callers.{maybe_separated_read}
+use Rattle.imap_grammar.specs.declared.lists.Separator.TheVariants.{Space}
+use Rattle.imap_grammar.specs.Text.{text_of}
+use Rattle.imap_grammar.proofs.Under.{kept_shortens, kept_at}
+use Rattle.imap_grammar.proofs.Callers.{maybe_separated_read}
 use Rattle.imap_data.proofs.Takes.{entry_utf8_takes}
 use Rattle.imap_data.specs.Annotations.{entry_utf8, entries}
 use Rattle.imap_data.proofs.readers.annotations.entries.Goals as goal

@@ -1,8 +1,8 @@
 use Rattle.std.proofs.Common.{rules, refl}
-use Rattle.imap_bytes.specs.Text.{text_of}
+use Rattle.imap_grammar.specs.Text.{text_of}
+use Rattle.imap_grammar.proofs.Under.{kept_shortens, kept_at}
+use Rattle.imap_grammar.proofs.Callers.{nonempty_listed}
 use Rattle.imap_bytes.specs.Texts.{astring_utf8}
-use Rattle.imap_bytes.proofs.Under.{kept_shortens, kept_at}
-use Rattle.imap_bytes.proofs.Callers.{nonempty_listed}
 use Rattle.imap_bytes.proofs.Takes.{astring_utf8_takes}
 use Rattle.imap_data.proofs.readers.codes.charset_list.Goals as goal
 

@@ -1,9 +1,9 @@
 use Rattle.std.proofs.Common.{rules, refl}
-use Rattle.imap_bytes.proofs.Under.{kept_shortens, exactly_at}
+use Rattle.imap_grammar.proofs.Under.{kept_shortens, exactly_at}
 use Rattle.imap_data.specs.Counts.{found_number}
-use Rattle.imap_bytes.proofs.Callers.{many_read}
+use Rattle.imap_grammar.proofs.Callers.{many_read}
 use Rattle.imap_data.proofs.Takes.{found_number_takes}
-use Rattle.imap_bytes.proofs.Plain.{plain}
+use Rattle.imap_grammar.proofs.Plain.{plain}
 use Rattle.imap_data.proofs.readers.counts.spaced_numbers.Goals as goal
 
 pub repeated-requires : goal.repeated-requires

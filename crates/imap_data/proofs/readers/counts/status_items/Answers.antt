@@ -1,9 +1,9 @@
 use Rattle.std.proofs.Common.{rules, refl}
-use Rattle.imap_bytes.proofs.Under.{kept_shortens, exactly_at}
-use Rattle.imap_bytes.proofs.Callers.{listed}
+use Rattle.imap_grammar.proofs.Under.{kept_shortens, exactly_at}
+use Rattle.imap_grammar.proofs.Callers.{listed}
 use Rattle.imap_data.proofs.Takes.{status_item_takes}
 use Rattle.imap_data.specs.Counts.{status_item, status_items}
-use Rattle.imap_bytes.proofs.Plain.{plain}
+use Rattle.imap_grammar.proofs.Plain.{plain}
 use Rattle.imap_data.proofs.readers.counts.status_items.Goals as goal
 
 pub parenthesized_list-requires : goal.parenthesized_list-requires

@@ -1,6 +1,6 @@
 use Rattle.std.proofs.Common.{rules, refl}
-use Rattle.imap_bytes.proofs.Under.{kept_shortens, exactly_at}
-use Rattle.imap_bytes.proofs.Callers.{listed}
+use Rattle.imap_grammar.proofs.Under.{kept_shortens, exactly_at}
+use Rattle.imap_grammar.proofs.Callers.{listed}
 use Rattle.imap_data.proofs.Takes.{name_attribute_takes}
 use Rattle.imap_data.specs.Names.{name_attribute, name_attributes}
 use Rattle.imap_data.specs.Names.{attribute_value}

@@ -1,8 +1,8 @@
 use Rattle.std.proofs.Common.{refl, arith}
-use Rattle.imap_bytes.specs.Positions.{named_in}
-use Rattle.imap_bytes.specs.Classes.{is_atom_char}
-use Rattle.imap_bytes.specs.Rule.{run0, ◌⨾◌}
-use Rattle.imap_bytes.specs.Tags.{tag}
+use Rattle.imap_grammar.specs.Positions.{named_in}
+use Rattle.imap_grammar.specs.Classes.{is_atom_char}
+use Rattle.imap_grammar.specs.Rule.{run0, ◌⨾◌}
+use Rattle.imap_grammar.specs.Tags.{tag}
 use Rattle.imap_items.specs.Flags.{backslashed}
 use Rattle.imap_items.proofs.Spanned.{raw_between}
 use Rattle.imap_items.proofs.at.flags.backslashed.Goals as goal

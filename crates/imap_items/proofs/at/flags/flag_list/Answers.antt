@@ -1,6 +1,6 @@
-use Rattle.imap_bytes.proofs.Agreement.{answered_at}
-use Rattle.imap_bytes.proofs.PositionUnder.{listed_at, advances_at, exact_at}
-use Rattle.imap_bytes.proofs.PositionRests.{listed_rests}
+use Rattle.imap_grammar.proofs.Agreement.{answered_at}
+use Rattle.imap_grammar.proofs.PositionUnder.{listed_at, advances_at, exact_at}
+use Rattle.imap_grammar.proofs.PositionRests.{listed_rests}
 use Rattle.imap_items.specs.Flags.{flag_text, flag_list}
 use Rattle.imap_items.specs.Spanned.{text_in}
 use Rattle.imap_items.proofs.Takes.{flag_text_takes}

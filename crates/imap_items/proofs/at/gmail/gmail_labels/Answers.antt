@@ -1,5 +1,5 @@
-use Rattle.imap_bytes.proofs.PositionUnder.{listed_at, advances_at, exact_at}
-use Rattle.imap_bytes.proofs.PositionRests.{listed_rests}
+use Rattle.imap_grammar.proofs.PositionUnder.{listed_at, advances_at, exact_at}
+use Rattle.imap_grammar.proofs.PositionRests.{listed_rests}
 use Rattle.imap_items.specs.Gmail.{gmail_label, gmail_labels}
 use Rattle.imap_items.specs.Spanned.{text_in}
 use Rattle.imap_items.proofs.Takes.{gmail_label_takes}

@@ -1,6 +1,6 @@
 use Rattle.std.proofs.Common.{rules, refl}
-use Rattle.imap_bytes.proofs.Under.{kept_shortens, exactly_at}
-use Rattle.imap_bytes.proofs.Callers.{many_read}
+use Rattle.imap_grammar.proofs.Under.{kept_shortens, exactly_at}
+use Rattle.imap_grammar.proofs.Callers.{many_read}
 use Rattle.imap_items.proofs.Takes.{spaced_capability_takes}
 use Rattle.imap_items.specs.Capabilities.{capability_value}
 use Rattle.imap_items.specs.Capabilities.{spaced_capability}

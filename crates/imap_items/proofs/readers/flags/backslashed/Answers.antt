@@ -1,8 +1,8 @@
 use Rattle.std.proofs.Common.{arith}
-use Rattle.imap_bytes.specs.Classes.{is_atom_char}
-use Rattle.imap_bytes.specs.Rule.{run0}
-use Rattle.imap_bytes.specs.Tags.{tag}
-use Rattle.imap_bytes.proofs.Consumption.{not_more}
+use Rattle.imap_grammar.specs.Classes.{is_atom_char}
+use Rattle.imap_grammar.specs.Rule.{run0}
+use Rattle.imap_grammar.specs.Tags.{tag}
+use Rattle.imap_grammar.proofs.Consumption.{not_more}
 use Rattle.imap_items.proofs.readers.flags.backslashed.Goals as goal
 
 pub taken-requires : goal.taken-requires

@@ -1,8 +1,8 @@
 use Rattle.std.proofs.Common.{rules, refl}
-use Rattle.imap_bytes.specs.Text.{text_of}
-use Rattle.imap_bytes.proofs.Agreement.{answered}
-use Rattle.imap_bytes.proofs.Under.{kept_shortens, exactly_at}
-use Rattle.imap_bytes.proofs.Callers.{listed}
+use Rattle.imap_grammar.specs.Text.{text_of}
+use Rattle.imap_grammar.proofs.Agreement.{answered}
+use Rattle.imap_grammar.proofs.Under.{kept_shortens, exactly_at}
+use Rattle.imap_grammar.proofs.Callers.{listed}
 use Rattle.imap_items.proofs.Takes.{flag_text_takes}
 use Rattle.imap_items.specs.Flags.{flag_text, flag_list}
 use Rattle.imap_items.proofs.readers.flags.flag_list.Goals as goal

@@ -1,7 +1,7 @@
 use Rattle.std.proofs.Common.{rules, refl}
-use Rattle.imap_bytes.specs.Text.{text_of}
-use Rattle.imap_bytes.proofs.Under.{kept_shortens, kept_at}
-use Rattle.imap_bytes.proofs.Callers.{listed}
+use Rattle.imap_grammar.specs.Text.{text_of}
+use Rattle.imap_grammar.proofs.Under.{kept_shortens, kept_at}
+use Rattle.imap_grammar.proofs.Callers.{listed}
 use Rattle.imap_items.proofs.Takes.{gmail_label_takes}
 use Rattle.imap_items.specs.Gmail.{gmail_label, gmail_labels}
 use Rattle.imap_items.proofs.readers.gmail.gmail_labels.Goals as goal

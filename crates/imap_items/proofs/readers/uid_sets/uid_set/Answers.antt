@@ -1,8 +1,8 @@
 use Rattle.std.proofs.Common.{rules, refl}
-use Rattle.imap_bytes.specs.declared.lists.Separator.TheVariants.{Comma}
-use Rattle.imap_bytes.proofs.Agreement.{answered}
-use Rattle.imap_bytes.proofs.Under.{kept_shortens, exactly_at}
-use Rattle.imap_bytes.proofs.Callers.{separated_read}
+use Rattle.imap_grammar.specs.declared.lists.Separator.TheVariants.{Comma}
+use Rattle.imap_grammar.proofs.Agreement.{answered}
+use Rattle.imap_grammar.proofs.Under.{kept_shortens, exactly_at}
+use Rattle.imap_grammar.proofs.Callers.{separated_read}
 use Rattle.imap_items.proofs.Takes.{uid_set_member_takes}
 use Rattle.imap_items.specs.UidSets.{member_value, uid_set, uid_set_member}
 use Rattle.imap_items.proofs.UidSets.{ordered_members}

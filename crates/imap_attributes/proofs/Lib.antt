@@ -1,4 +1,0 @@
-pub mod Resting
-pub mod Factoring
-pub mod FirstBytes
-pub mod Standing

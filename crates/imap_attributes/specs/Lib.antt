@@ -1,3 +1,0 @@
-pub mod AttributeValues
-pub mod Attributes
-pub mod SpannedAttributes

@@ -1,3 +1,0 @@
-//! Readers that walk positions in one message, and keep texts as spans.
-
-pub mod attributes;

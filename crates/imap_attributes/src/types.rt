@@ -1,3 +1,0 @@
-//! The public types.
-
-pub mod attributes;

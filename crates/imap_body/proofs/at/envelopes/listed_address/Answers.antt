@@ -1,6 +1,0 @@
-use Rattle.std.proofs.Common.{arith}
-use Rattle.imap_bytes.proofs.Positions.{rests_more}
-use Rattle.imap_body.proofs.at.envelopes.listed_address.Goals as goal
-
-pub returns-in-Ok-clause-rests : goal.returns-in-Ok-clause-rests
-returns-in-Ok-clause-rests c = rests_more _ (omega (arith, c.in-Ok.ensures.inside)) c.in_ok-q.ensures.rests

@@ -1,0 +1,71 @@
+//! Attributes of a message as positions in it: they keep no bytes, and tell their values of any message that has bytes in these places.
+
+ghost use Rattle.std.specs.Prelude.{◌≡◌, ◌≤◌, ◌+◌, length, drop, map, IfOk};
+ghost use Rattle.imap_grammar.specs.Positions.{AnswersAt, GivesAt, Ahead, Inside};
+ghost use Rattle.imap_grammar.specs.Step.{step};
+ghost use Rattle.imap_body.specs.SpannedAttributes.{attribute_in, InTurn};
+ghost use Rattle.imap_body.specs.Attributes as rules;
+
+use crate::at::attributes::attribute;
+use crate::types::attributes::AttributeSpans;
+use imap_bytes::Err;
+use imap_bytes::at::parenthesized_nonempty_list;
+use imap_shapes::spans::Span;
+use std::alloc::Global;
+
+/// An attribute of a message as positions and numbers.
+#[derive(Debug, Drop, PartialEq, Eq)]
+pub struct SpannedAttribute {
+    span: Span,
+    // Its positions count from where the span starts.
+    parts: AttributeSpans,
+}
+
+impl SpannedAttribute {
+    /// Where it stands in its message. No memory.
+    pub fn span(&self) -> Span
+        ensures { result ≡ self.now.span }
+    {
+        self.span
+    }
+}
+
+// The attribute at p, with its span.
+#[tactic(auto, using(crate::proofs::Standing::attribute_named))]
+fn spanned_attribute(alloc: Global, m: &[u8], p: usize) -> Result<(usize, SpannedAttribute), Err>
+    requires { p ≤ length m.now }
+    ensures steps { GivesAt (λ x. attribute_in m.now x) m.now result (step rules.attribute (drop p m.now)) }
+    ensures ahead { Ahead m.now p result }
+    ensures start { IfOk result (λ x. x.1.span.start ≡ p) }
+    ensures end { IfOk result (λ x. x.1.span.end ≡ x.0) }
+{
+    let (_, from) = m.split_at(p);
+    let (size, parts) = attribute(alloc, from, 0)?;
+    let q = p + size;
+    let span = Span { start: p, end: q };
+    Ok((q, SpannedAttribute { span, parts }))
+}
+
+/// The attributes of a message in parentheses (RFC 3501, section 9: msg-att), each as its positions in m.
+///
+/// It takes memory for the list and for what the attributes list, and for no text.
+pub fn attribute_list_at(
+    alloc: Global,
+    m: &[u8],
+    p: usize,
+) -> Result<(usize, Vec<SpannedAttribute>), Err>
+    requires { p ≤ length m.now }
+    ensures steps { GivesAt (λ x. map (attribute_in m.now) x.items) m.now result (step rules.attribute_list (drop p m.now)) }
+    ensures answer { AnswersAt rules.attribute_list (λ x. map (attribute_in m.now) x.items) m.now p result }
+    ensures ahead { Ahead m.now p result }
+    ensures spans { IfOk result (λ x. InTurn m.now (p + 1) x.0 x.1.items) }
+{
+    let item = |k: usize|
+        requires { k ≤ length m.now }
+        ensures steps { GivesAt (λ x. attribute_in m.entry.now x) m.entry.now result (step rules.attribute (drop k m.entry.now)) }
+        ensures ahead { Ahead m.entry.now k result }
+        ensures start { IfOk result (λ x. x.1.span.start ≡ k) }
+        ensures end { IfOk result (λ x. x.1.span.end ≡ x.0) }
+    { spanned_attribute(alloc, m, k) };
+    parenthesized_nonempty_list(alloc, item, m, p)
+}

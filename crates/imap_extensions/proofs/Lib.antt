@@ -1,0 +1,9 @@
+pub mod Quotas
+pub mod Ids
+pub mod Acls
+pub mod QuotaTexts
+pub mod IdTexts
+pub mod VanishingTexts
+pub mod AclTexts
+pub mod OptionalRights
+pub mod Takes

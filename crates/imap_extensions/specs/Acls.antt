@@ -1,0 +1,115 @@
+-- Access control lists (RFC 4314, section 4: acl-data, listrights-data, myrights-data).
+use Rattle.std.specs.Prelude.{List, map}
+use Rattle.std.specs.List.{flat_map}
+use Rattle.imap_grammar.specs.declared.lists.Separator.TheVariants.{Blanks}
+use Rattle.imap_grammar.specs.Text.{Text, text_of, lent_text}
+use Rattle.imap_grammar.specs.Rule.{Rule, gives, list0, ◌⨾◌, ◌▹◌}
+use Rattle.imap_grammar.specs.Tags.{word, blanks0, blanks1}
+use Rattle.imap_grammar.specs.Lists.{separator}
+use Rattle.imap_bytes.specs.Texts.{astring_utf8}
+use Rattle.imap_items.specs.Mailboxes.{mailbox}
+use Rattle.imap_items.specs.Rights.{rights}
+use Rattle.imap_items.specs.declared.types.rights.AclRight.{AclRight}
+use Rattle.imap_extensions.specs.declared.types.acls.AclEntry.{AclEntry}
+use Rattle.imap_extensions.specs.declared.types.acls.Acl.{Acl}
+use Rattle.imap_extensions.specs.declared.types.acls.ListRights.{ListRights}
+use Rattle.imap_extensions.specs.declared.types.acls.MyRights.{MyRights}
+
+-- ---- values
+
+pub record AclEntryValue : Type 0 where
+  pub identifier : Text
+  pub rights : List AclRight
+
+pub record AclValue : Type 0 where
+  pub mailbox : Text
+  pub acls : List AclEntryValue
+
+pub record ListRightsValue : Type 0 where
+  pub mailbox : Text
+  pub identifier : Text
+  pub required : List AclRight
+  pub optional : List AclRight
+
+pub record MyRightsValue : Type 0 where
+  pub mailbox : Text
+  pub rights : List AclRight
+
+-- ---- rules
+
+abbrev pub acl_entry_of : Text × List AclRight → AclEntryValue
+acl_entry_of v = record { identifier = v.0; rights = v.1 }
+
+unfoldable pub acl_entry : Rule AclEntryValue
+acl_entry = gives acl_entry_of (astring_utf8 ⨾ blanks1 ▹ rights)
+
+unfoldable pub acl_entries : Rule (List AclEntryValue)
+acl_entries = list0 (separator Blanks) acl_entry
+
+abbrev pub acl_of : Text × List AclEntryValue → AclValue
+acl_of v = record { mailbox = v.0; acls = v.1 }
+
+unfoldable pub acl : Rule AclValue
+acl = gives acl_of (word "ACL" ▹ blanks1 ▹ mailbox ⨾ blanks0 ▹ acl_entries)
+
+abbrev pub joined : List (List AclRight) → List AclRight
+joined groups = flat_map (λ (group : List AclRight). group) groups
+
+unfoldable pub right_groups : Rule (List (List AclRight))
+right_groups = list0 (separator Blanks) rights
+
+-- in groups, which are joined in order
+unfoldable pub optional_rights : Rule (List AclRight)
+optional_rights = gives joined (blanks0 ▹ right_groups)
+
+abbrev pub list_rights_of : Text × (Text × (List AclRight × List AclRight)) → ListRightsValue
+list_rights_of v = record { mailbox = v.0; identifier = v.1.0; required = v.1.1.0; optional = v.1.1.1 }
+
+unfoldable pub list_rights : Rule ListRightsValue
+list_rights = gives list_rights_of (word "LISTRIGHTS" ▹ blanks1 ▹ mailbox ⨾ blanks1 ▹ astring_utf8 ⨾ blanks1 ▹ rights ⨾ optional_rights)
+
+abbrev pub my_rights_of : Text × List AclRight → MyRightsValue
+my_rights_of v = record { mailbox = v.0; rights = v.1 }
+
+unfoldable pub my_rights : Rule MyRightsValue
+my_rights = gives my_rights_of (word "MYRIGHTS" ▹ blanks1 ▹ mailbox ⨾ blanks1 ▹ rights)
+
+-- ---- of the code's values
+
+abbrev pub acl_entry_value : AclEntry → AclEntryValue
+acl_entry_value e = record { identifier = text_of e.identifier; rights = e.rights.items }
+
+abbrev pub acl_value : Acl → AclValue
+acl_value a = record { mailbox = text_of a.mailbox; acls = map acl_entry_value a.acls.items }
+
+abbrev pub list_rights_value : ListRights → ListRightsValue
+list_rights_value r = record { mailbox = text_of r.mailbox; identifier = text_of r.identifier; required = r.required.items; optional = r.optional.items }
+
+abbrev pub my_rights_value : MyRights → MyRightsValue
+my_rights_value r = record { mailbox = text_of r.mailbox; rights = r.rights.items }
+
+-- ---- with all texts borrowed: two values are the same where these are one
+
+abbrev pub lent_acl_entry : AclEntryValue → AclEntryValue
+lent_acl_entry e = record { identifier = lent_text e.identifier; rights = e.rights }
+
+abbrev pub lent_acl : AclValue → AclValue
+lent_acl a = record { mailbox = lent_text a.mailbox; acls = map lent_acl_entry a.acls }
+
+abbrev pub lent_list_rights : ListRightsValue → ListRightsValue
+lent_list_rights r = record { mailbox = lent_text r.mailbox; identifier = lent_text r.identifier; required = r.required; optional = r.optional }
+
+abbrev pub lent_my_rights : MyRightsValue → MyRightsValue
+lent_my_rights r = record { mailbox = lent_text r.mailbox; rights = r.rights }
+
+abbrev pub acl_entry_content : AclEntry → AclEntryValue
+acl_entry_content e = lent_acl_entry (acl_entry_value e)
+
+abbrev pub acl_content : Acl → AclValue
+acl_content a = lent_acl (acl_value a)
+
+abbrev pub list_rights_content : ListRights → ListRightsValue
+list_rights_content r = lent_list_rights (list_rights_value r)
+
+abbrev pub my_rights_content : MyRights → MyRightsValue
+my_rights_content r = lent_my_rights (my_rights_value r)

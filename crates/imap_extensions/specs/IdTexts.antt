@@ -1,0 +1,35 @@
+-- The text of what an implementation says of itself.
+use Rattle.std.specs.Prelude.{◌≡◌, List, [], ◌∷◌, Option, None, Some}
+use Rattle.std.specs.FinMap.{entries}
+use Rattle.imap_grammar.specs.Text.{Bytes, Text}
+use Rattle.imap_grammar.specs.Pieces.{Pieces, ◌then◌, words, space, lit, literal_text, list_text}
+use Rattle.imap_grammar.specs.ReadBack.{Texts}
+use Rattle.imap_grammar.specs.Spelling.{exactly, in_any_case, ◌and◌, blanks, some_blanks, with_between, spells_string_text, spells_ntext}
+use Rattle.imap_extensions.specs.Ids.{IdValue, map_of_pairs}
+
+-- a field and its value
+abbrev pub canonical_field : Bytes × Text → Pieces
+canonical_field e = lit e.0 then space then literal_text e.1
+
+-- the fields by rising bytes of their names; no field at all is one without a value
+abbrev pub canonical_fields : List (Bytes × Text) → Pieces
+canonical_fields [] = words "(" then lit [] then words " NIL)"
+canonical_fields (e ∷ es) = list_text canonical_field (e ∷ es)
+
+abbrev pub canonical_params : Option IdValue → Pieces
+canonical_params None = words "NIL"
+canonical_params (Some m) = canonical_fields (entries m)
+
+abbrev pub canonical_id : Option IdValue → Pieces
+canonical_id params = words "ID" then space then canonical_params params
+
+abbrev pub spells_pair : Text × Option Text → Texts
+spells_pair p = spells_string_text p.0 and some_blanks and spells_ntext p.1
+
+-- at least one pair, in any order: those without a value tell nothing, and the last of equal names wins
+abbrev pub spells_params : Option IdValue → Texts
+spells_params None = in_any_case "NIL"
+spells_params (Some m) = λ c. (p : Text × Option Text) × (ps : List (Text × Option Text)) × (map_of_pairs (p ∷ ps) ≡ m) × (exactly "(" and with_between some_blanks spells_pair (p ∷ ps) and blanks and exactly ")") c
+
+abbrev pub spells_id : Option IdValue → Texts
+spells_id params = in_any_case "ID" and some_blanks and spells_params params

@@ -1,0 +1,82 @@
+-- What an implementation says of itself (RFC 2971, section 4: id_response, id_params_list), with any blanks between the parts. Its value is a finite map from the keys' bytes to texts: a key has no mark of its own, since of two equal ones either may be the one that is kept.
+use Rattle.std.specs.Prelude.{List, Option, None, Some, [], ◌∷◌, option_map, map}
+use Rattle.imap_grammar.specs.Text.{Text, Bytes, text_of, lent_text}
+use Rattle.imap_grammar.specs.Rule.{Rule, nothing, gives, list1, ◌⨾◌, ◌▹◌, ◌◃◌, ◌or◌}
+use Rattle.imap_grammar.specs.Tags.{tag, word, blanks0, blanks1}
+use Rattle.imap_bytes.specs.Strings.{nil}
+use Rattle.imap_bytes.specs.Texts.{string_utf8, nstring_utf8}
+use Rattle.std.specs.Ordering.{nat_cmp}
+use Rattle.std.specs.Cow.{cow_str_bytes}
+use Rattle.std.specs.Cmp.Lexicographic.{slice_cmp}
+use Rattle.std.specs.declared.hash.FoldHasher.{FoldHasher}
+use Rattle.std.specs.declared.hash.BuildHasherDefault.{BuildHasherDefault}
+use Rattle.std.specs.declared.borrow.CowStr.{CowStr}
+use Rattle.std.specs.declared.alloc.Global.{Global}
+use Rattle.std.specs.HashMap.{HashMap}
+use Rattle.std.specs.FinMap.{FinMap, insert, empty, entries, from_entries}
+
+-- ---- values
+
+abbrev pub IdValue : Type 0
+IdValue = FinMap (slice_cmp nat_cmp) Text
+
+-- The pairs put in turn: one without a value is dropped, and the last of equal keys wins.
+abbrev pub put_pair : IdValue → Text × Option Text → IdValue
+put_pair m (key, None) = m
+put_pair m (key, Some value) = insert m key.bytes value
+
+abbrev pub put_pairs : IdValue → List (Text × Option Text) → IdValue
+put_pairs m [] = m
+put_pairs m (p ∷ ps) = put_pairs (put_pair m p) ps
+
+abbrev pub map_of_pairs : List (Text × Option Text) → IdValue
+map_of_pairs ps = put_pairs empty ps
+
+-- ---- of the code's values
+
+abbrev pub IdTable : Type 0
+IdTable = HashMap (CowStr Global) (CowStr Global) (BuildHasherDefault FoldHasher)
+
+abbrev pub entry_value : CowStr Global × CowStr Global → Bytes × Text
+entry_value e = (cow_str_bytes e.0, text_of e.1)
+
+abbrev pub id_value : IdTable → IdValue
+id_value m = from_entries (map entry_value m.entries)
+
+abbrev pub pair_value : CowStr Global × Option (CowStr Global) → Text × Option Text
+pair_value p = (text_of p.0, option_map text_of p.1)
+
+-- ---- with all texts borrowed: two maps are the same where these are one
+
+abbrev pub lent_entry : Bytes × Text → Bytes × Text
+lent_entry e = (e.0, lent_text e.1)
+
+abbrev pub lent_id : IdValue → IdValue
+lent_id m = from_entries (map lent_entry (entries m))
+
+abbrev pub id_content : IdTable → IdValue
+id_content m = lent_id (id_value m)
+
+-- ---- rules
+
+-- a field and its value
+unfoldable pub id_pair : Rule (Text × Option Text)
+id_pair = string_utf8 ⨾ blanks1 ▹ nstring_utf8
+
+unfoldable pub id_pairs : Rule (List (Text × Option Text))
+id_pairs = list1 blanks1 id_pair
+
+unfoldable pub id_list : Rule (List (Text × Option Text))
+id_list = tag "(" ▹ id_pairs ◃ blanks0 ⨾ tag ")"
+
+abbrev pub params_of : List (Text × Option Text) → Option IdValue
+params_of ps = Some (map_of_pairs ps)
+
+abbrev pub some_params : Rule (Option IdValue)
+some_params = gives params_of id_list
+
+unfoldable pub id_params : Rule (Option IdValue)
+id_params = some_params or nil ▹ nothing None
+
+unfoldable pub id : Rule (Option IdValue)
+id = word "ID" ▹ blanks1 ▹ id_params

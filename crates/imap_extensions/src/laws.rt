@@ -1,0 +1,71 @@
+//! Laws of the rules and types of this crate, as contracts of functions that do nothing.
+
+ghost use Rattle.std.specs.Prelude.{◌≡◌, option_map};
+ghost use Rattle.imap_grammar.specs.Stable.{Stable};
+ghost use Rattle.imap_grammar.specs.Equality.{Tells, HashesAlike};
+ghost use Rattle.imap_grammar.specs.ReadBack.{Keeps, Closes, as_is};
+ghost use Rattle.imap_extensions.specs.Quotas as quotas;
+ghost use Rattle.imap_extensions.specs.Quotas.{quota_content, quota_resource_content, quota_resource_name_content, quota_root_content, lent_quota, lent_quota_root};
+ghost use Rattle.imap_extensions.specs.QuotaTexts.{canonical_quota, spells_quota, canonical_quota_root, spells_quota_root};
+ghost use Rattle.imap_extensions.specs.Ids as ids;
+ghost use Rattle.imap_extensions.specs.Ids.{id_content, lent_id};
+ghost use Rattle.imap_extensions.specs.IdTexts.{canonical_id, spells_id};
+ghost use Rattle.imap_extensions.specs.Vanishings as vanishings;
+ghost use Rattle.imap_extensions.specs.VanishingTexts.{canonical_vanished, spells_vanished};
+ghost use Rattle.imap_extensions.specs.Acls as acls;
+ghost use Rattle.imap_extensions.specs.Acls.{acl_entry_content, acl_content, list_rights_content, my_rights_content, lent_acl, lent_list_rights, lent_my_rights};
+ghost use Rattle.imap_extensions.specs.AclTexts.{canonical_acl, spells_acl, canonical_list_rights, spells_list_rights, canonical_my_rights, spells_my_rights};
+
+use crate::types::acls::{Acl, AclEntry, ListRights, MyRights};
+use crate::types::ids::IdMap;
+use crate::types::quotas::{Quota, QuotaResource, QuotaResourceName, QuotaRoot};
+use std::hash::Hash;
+
+/// Each rule has one answer, and appended bytes change neither a value nor a denial, and make what is lacking as much smaller.
+#[tactic(auto, using(imap_grammar::proofs::Stability::is_stable))]
+pub fn stable()
+    ensures quota_resource { Stable quotas.quota_resource }
+    ensures quota { Stable quotas.quota }
+    ensures quota_root { Stable quotas.quota_root }
+    ensures id_pair { Stable ids.id_pair }
+    ensures id { Stable ids.id }
+    ensures vanished { Stable vanishings.vanished }
+    ensures acl_entry { Stable acls.acl_entry }
+    ensures acl { Stable acls.acl }
+    ensures list_rights { Stable acls.list_rights }
+    ensures my_rights { Stable acls.my_rights }
+{}
+
+/// `==` tells whether two values say the same: texts by their bytes, whichever lie in the input.
+pub fn equality()
+    ensures quota_resource_name { Tells ⟦<QuotaResourceName<'static> as PartialEq>⟧.eq quota_resource_name_content }
+    ensures quota_resource { Tells ⟦<QuotaResource<'static> as PartialEq>⟧.eq quota_resource_content }
+    ensures quota { Tells ⟦<Quota<'static> as PartialEq>⟧.eq quota_content }
+    ensures quota_root { Tells ⟦<QuotaRoot<'static> as PartialEq>⟧.eq quota_root_content }
+    ensures id_map { Tells ⟦<IdMap<'static> as PartialEq>⟧.eq id_content }
+    ensures acl_entry { Tells ⟦<AclEntry<'static> as PartialEq>⟧.eq acl_entry_content }
+    ensures acl { Tells ⟦<Acl<'static> as PartialEq>⟧.eq acl_content }
+    ensures list_rights { Tells ⟦<ListRights<'static> as PartialEq>⟧.eq list_rights_content }
+    ensures my_rights { Tells ⟦<MyRights<'static> as PartialEq>⟧.eq my_rights_content }
+{}
+
+/// Values that say the same hash alike.
+pub fn hashing()
+    ensures quota_resource_name { HashesAlike ⟦<QuotaResourceName<'static> as Hash>⟧.hash_input quota_resource_name_content }
+    ensures quota_resource { HashesAlike ⟦<QuotaResource<'static> as Hash>⟧.hash_input quota_resource_content }
+    ensures quota { HashesAlike ⟦<Quota<'static> as Hash>⟧.hash_input quota_content }
+    ensures quota_root { HashesAlike ⟦<QuotaRoot<'static> as Hash>⟧.hash_input quota_root_content }
+{}
+
+/// What each rule takes spells the value that it yields. And a value that it yields on some bytes, it yields again on the value's canonical text, with all texts borrowed,
+/// and leaves exactly what follows: any bytes that begin with `)` or CR. A text too long for its length to be told as a literal is excepted.
+#[tactic(auto, using(crate::proofs::QuotaTexts::keeps_quota, crate::proofs::QuotaTexts::keeps_quota_root, crate::proofs::IdTexts::keeps_id, crate::proofs::VanishingTexts::keeps_vanished, crate::proofs::AclTexts::keeps_acl, crate::proofs::OptionalRights::keeps_list_rights, crate::proofs::AclTexts::keeps_my_rights))]
+pub fn read_back()
+    ensures quota { Keeps quotas.quota lent_quota canonical_quota spells_quota Closes }
+    ensures quota_root { Keeps quotas.quota_root lent_quota_root canonical_quota_root spells_quota_root Closes }
+    ensures id { Keeps ids.id (option_map lent_id) canonical_id spells_id Closes }
+    ensures vanished { Keeps vanishings.vanished as_is canonical_vanished spells_vanished Closes }
+    ensures acl { Keeps acls.acl lent_acl canonical_acl spells_acl Closes }
+    ensures list_rights { Keeps acls.list_rights lent_list_rights canonical_list_rights spells_list_rights Closes }
+    ensures my_rights { Keeps acls.my_rights lent_my_rights canonical_my_rights spells_my_rights Closes }
+{}

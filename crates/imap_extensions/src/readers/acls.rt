@@ -1,0 +1,138 @@
+//! Access control lists.
+
+ghost use Rattle.std.specs.Prelude.{◌≡◌, map, IfOk};
+ghost use Rattle.imap_grammar.specs.Answer.{Answers, Gives};
+ghost use Rattle.imap_grammar.specs.Step.{step};
+ghost use Rattle.imap_items.specs.Rights as letters;
+ghost use Rattle.imap_extensions.specs.Acls as rules;
+ghost use Rattle.imap_extensions.specs.Acls.{acl_entry_value, acl_value, list_rights_value, my_rights_value};
+
+use crate::types::acls::{Acl, AclEntry, ListRights, MyRights};
+use imap_bytes::lists::{Separator, maybe_separated};
+use imap_bytes::tags::{blanks0, blanks1, word};
+use imap_bytes::{IResult, astring_utf8};
+use imap_items::AclRight;
+use imap_items::readers::mailboxes::mailbox;
+use imap_items::readers::rights::rights;
+use std::alloc::{AllocError, Global};
+
+/// An identifier and its rights.
+#[tactic(auto, unfolding(crate::specs::Acls::acl_entry))]
+pub(crate) fn acl_entry(alloc: Global, i: &[u8]) -> IResult<&[u8], AclEntry<'_>>
+    ensures { Gives (λ x. acl_entry_value x) result (step rules.acl_entry i.now) }
+{
+    let (i, identifier) = astring_utf8(alloc, i)?;
+    let (i, _) = blanks1(i)?;
+    let (i, rights) = rights(alloc, i)?;
+    Ok((i, AclEntry { identifier, rights }))
+}
+
+fn acl_entries(alloc: Global, i: &[u8]) -> IResult<&[u8], Vec<AclEntry<'_>>>
+    ensures { Gives (λ x. map acl_entry_value x.items) result (step rules.acl_entries i.now) }
+{
+    let entry = |i|
+        ensures { Gives (λ x. acl_entry_value x) result (step rules.acl_entry i.entry.now) }
+    { acl_entry(alloc, i) };
+    maybe_separated(alloc, Separator::Blanks, entry, i)
+}
+
+/// The rights of each identifier on a mailbox, maybe of none (RFC 4314, section 3.6: ACL).
+///
+/// It takes memory for them, and for texts that are no UTF-8.
+#[tactic(auto, using(imap_grammar::proofs::Agreement::answered), unfolding(crate::specs::Acls::acl))]
+pub fn acl(alloc: Global, i: &[u8]) -> IResult<&[u8], Acl<'_>>
+    ensures steps { Gives (λ x. acl_value x) result (step rules.acl i.now) }
+    ensures answer { Answers rules.acl (λ x. acl_value x) i.now result }
+{
+    let (i, _) = word(b"ACL", i)?;
+    let (i, _) = blanks1(i)?;
+    let (i, mailbox) = mailbox(alloc, i)?;
+    let (i, _) = blanks0(i)?;
+    let (i, acls) = acl_entries(alloc, i)?;
+    Ok((i, Acl { mailbox, acls }))
+}
+
+fn right_groups(alloc: Global, i: &[u8]) -> IResult<&[u8], Vec<Vec<AclRight>>>
+    ensures { Gives (λ x. map (λ group. group.items) x.items) result (step rules.right_groups i.now) }
+{
+    let group = |i|
+        ensures { Gives (λ x. x.items) result (step letters.rights i.entry.now) }
+    { rights(alloc, i) };
+    maybe_separated(alloc, Separator::Blanks, group, i)
+}
+
+fn joined(alloc: Global, groups: Vec<Vec<AclRight>>) -> Result<Vec<AclRight>, AllocError>
+    ensures { IfOk result (λ v. v.items ≡ rules.joined (map (λ group. group.items) groups.items)) }
+{
+    let mut rights = Vec::new(alloc);
+    for group in groups {
+        rights.extend_from_slice(&group)?;
+    }
+    Ok(rights)
+}
+
+#[tactic(auto, unfolding(crate::specs::Acls::optional_rights))]
+fn optional_rights(alloc: Global, i: &[u8]) -> IResult<&[u8], Vec<AclRight>>
+    ensures { Gives (λ x. x.items) result (step rules.optional_rights i.now) }
+{
+    let (i, _) = blanks0(i)?;
+    let (i, groups) = right_groups(alloc, i)?;
+    Ok((i, joined(alloc, groups)?))
+}
+
+#[tactic(auto, unfolding(crate::specs::Acls::list_rights))]
+fn list_rights_parts(alloc: Global, i: &[u8]) -> IResult<&[u8], ListRights<'_>>
+    ensures { Gives (λ x. list_rights_value x) result (step rules.list_rights i.now) }
+{
+    let (i, _) = word(b"LISTRIGHTS", i)?;
+    let (i, _) = blanks1(i)?;
+    let (i, mailbox) = mailbox(alloc, i)?;
+    let (i, _) = blanks1(i)?;
+    let (i, identifier) = astring_utf8(alloc, i)?;
+    let (i, _) = blanks1(i)?;
+    let (i, required) = rights(alloc, i)?;
+    let (i, optional) = optional_rights(alloc, i)?;
+    Ok((
+        i,
+        ListRights {
+            mailbox,
+            identifier,
+            required,
+            optional,
+        },
+    ))
+}
+
+/// The rights that an identifier always has on a mailbox, and those that it may be granted, in order (RFC 4314, section 3.7: LISTRIGHTS).
+///
+/// It takes memory for them, and for texts that are no UTF-8.
+#[tactic(auto, using(imap_grammar::proofs::Agreement::answered))]
+pub fn list_rights(alloc: Global, i: &[u8]) -> IResult<&[u8], ListRights<'_>>
+    ensures steps { Gives (λ x. list_rights_value x) result (step rules.list_rights i.now) }
+    ensures answer { Answers rules.list_rights (λ x. list_rights_value x) i.now result }
+{
+    list_rights_parts(alloc, i)
+}
+
+#[tactic(auto, unfolding(crate::specs::Acls::my_rights))]
+fn my_rights_parts(alloc: Global, i: &[u8]) -> IResult<&[u8], MyRights<'_>>
+    ensures { Gives (λ x. my_rights_value x) result (step rules.my_rights i.now) }
+{
+    let (i, _) = word(b"MYRIGHTS", i)?;
+    let (i, _) = blanks1(i)?;
+    let (i, mailbox) = mailbox(alloc, i)?;
+    let (i, _) = blanks1(i)?;
+    let (i, rights) = rights(alloc, i)?;
+    Ok((i, MyRights { mailbox, rights }))
+}
+
+/// The client's own rights on a mailbox (RFC 4314, section 3.8: MYRIGHTS).
+///
+/// It takes memory for them, and for a mailbox that is no UTF-8.
+#[tactic(auto, using(imap_grammar::proofs::Agreement::answered))]
+pub fn my_rights(alloc: Global, i: &[u8]) -> IResult<&[u8], MyRights<'_>>
+    ensures steps { Gives (λ x. my_rights_value x) result (step rules.my_rights i.now) }
+    ensures answer { Answers rules.my_rights (λ x. my_rights_value x) i.now result }
+{
+    my_rights_parts(alloc, i)
+}

@@ -1,0 +1,49 @@
+//! Messages that are gone.
+
+ghost use Rattle.imap_grammar.specs.Answer.{Answers, Exactly, Gives};
+ghost use Rattle.imap_grammar.specs.Step.{step};
+ghost use Rattle.imap_extensions.specs.Vanishings as vanishings;
+ghost use Rattle.imap_extensions.specs.Vanishings.{vanished_value};
+
+use imap_bytes::tags::{blanks1, word};
+use imap_bytes::{Err, IResult, first, sequence_set};
+use std::alloc::Global;
+use std::ops::RangeInclusive;
+
+fn earlier_word(i: &[u8]) -> IResult<&[u8], bool>
+    ensures { Exactly (λ x. x) result (step vanishings.earlier_word i.now) }
+{
+    let (rest, _) = blanks1(i)?;
+    let (rest, _) = word(b"(EARLIER)", rest)?;
+    Ok((rest, true))
+}
+
+#[tactic(auto, unfolding(crate::specs::Vanishings::earlier))]
+fn earlier(i: &[u8]) -> IResult<&[u8], bool>
+    ensures { Exactly (λ x. x) result (step vanishings.earlier i.now) }
+{
+    first!(earlier_word(i));
+    Ok((i, false))
+}
+
+#[tactic(auto, unfolding(crate::specs::Vanishings::vanished))]
+fn vanished_parts(alloc: Global, i: &[u8]) -> IResult<&[u8], (bool, Vec<RangeInclusive<u32>>)>
+    ensures { Gives vanished_value result (step vanishings.vanished i.now) }
+{
+    let (rest, _) = word(b"VANISHED", i)?;
+    let (rest, earlier) = earlier(rest)?;
+    let (rest, _) = blanks1(rest)?;
+    let (rest, set) = sequence_set(alloc, rest)?;
+    Ok((rest, (earlier, set)))
+}
+
+/// `VANISHED`, maybe `(EARLIER)`, and the unique identifiers of messages that are gone (RFC 7162, section 3.2.10).
+///
+/// Whether `(EARLIER)` stands there, and the ranges as they are written. It takes memory for the ranges.
+#[tactic(auto, using(imap_grammar::proofs::Agreement::answered))]
+pub fn vanished(alloc: Global, i: &[u8]) -> IResult<&[u8], (bool, Vec<RangeInclusive<u32>>)>
+    ensures steps { Gives vanished_value result (step vanishings.vanished i.now) }
+    ensures answer { Answers vanishings.vanished vanished_value i.now result }
+{
+    vanished_parts(alloc, i)
+}

@@ -1,0 +1,112 @@
+//! Quotas.
+
+ghost use Rattle.std.specs.Prelude.{◌≡◌, map, IfOk, IsOk};
+ghost use Rattle.imap_extensions.specs.Quotas.{quota_resource_name_value, quota_resource_value, quota_value, quota_root_value, IsLentName};
+
+use imap_items::copies::{copied_text, copied_texts};
+use std::alloc::AllocError;
+use std::borrow::CowStr;
+
+/// What a resource of a quota is called (RFC 2087, section 3).
+#[derive(Debug, Drop, PartialEq, Eq, Hash)]
+pub enum QuotaResourceName<'a> {
+    /// `STORAGE`: the messages' sizes, in units of 1024 octets.
+    Storage,
+    /// `MESSAGE`: how many messages there are.
+    Message,
+    /// Any other, raw.
+    Atom(CowStr<'a>),
+}
+
+/// A resource of a quota (RFC 2087, section 5.1).
+#[derive(Debug, Drop, PartialEq, Eq, Hash)]
+pub struct QuotaResource<'a> {
+    /// What it is called.
+    pub name: QuotaResourceName<'a>,
+    /// How much of it is used.
+    pub usage: u64,
+    /// How much of it may be used.
+    pub limit: u64,
+}
+
+/// The resources of a quota root (RFC 2087, section 5.1).
+#[derive(Debug, Drop, PartialEq, Eq, Hash)]
+pub struct Quota<'a> {
+    /// The quota root's name, raw: backslashes of a quoted string stay.
+    pub root_name: CowStr<'a>,
+    /// Its resources, maybe none.
+    pub resources: Vec<QuotaResource<'a>>,
+}
+
+/// The quota roots of a mailbox (RFC 2087, section 5.2).
+#[derive(Debug, Drop, PartialEq, Eq, Hash)]
+pub struct QuotaRoot<'a> {
+    /// The mailbox's name, raw: backslashes of a quoted string stay, modified UTF-7 isn't decoded, and INBOX stays as it is written.
+    pub mailbox_name: CowStr<'a>,
+    /// The names of its quota roots, maybe none, raw.
+    pub quota_root_names: Vec<CowStr<'a>>,
+}
+
+impl<'a> QuotaResourceName<'a> {
+    /// The same name. It takes memory only for an owned text; `Err` where there is none.
+    pub fn clone(&self) -> Result<Self, AllocError>
+        ensures same { IfOk result (λ copy. quota_resource_name_value copy ≡ quota_resource_name_value self.now) }
+        ensures memory { IsLentName (quota_resource_name_value self.now) → IsOk result }
+    {
+        Ok(match self {
+            QuotaResourceName::Storage => QuotaResourceName::Storage,
+            QuotaResourceName::Message => QuotaResourceName::Message,
+            QuotaResourceName::Atom(name) => QuotaResourceName::Atom(copied_text(name)?),
+        })
+    }
+}
+
+impl<'a> QuotaResource<'a> {
+    /// The same resource. It takes memory only for an owned text; `Err` where there is none.
+    pub fn clone(&self) -> Result<Self, AllocError>
+        ensures same { IfOk result (λ copy. quota_resource_value copy ≡ quota_resource_value self.now) }
+        ensures memory { IsLentName (quota_resource_name_value self.now.name) → IsOk result }
+    {
+        Ok(QuotaResource {
+            name: self.name.clone()?,
+            usage: self.usage,
+            limit: self.limit,
+        })
+    }
+}
+
+fn copied_resources<'a>(
+    resources: &Vec<QuotaResource<'a>>,
+) -> Result<Vec<QuotaResource<'a>>, AllocError>
+    ensures { IfOk result (λ v. map quota_resource_value v.items ≡ map quota_resource_value resources.now.items) }
+{
+    let mut copies = Vec::with_capacity(*resources.allocator(), resources.len())?;
+    for resource in resources {
+        copies.push(resource.clone()?)?;
+    }
+    Ok(copies)
+}
+
+impl<'a> Quota<'a> {
+    /// The same quota. It takes memory for the resources, and for owned texts.
+    pub fn clone(&self) -> Result<Self, AllocError>
+        ensures { IfOk result (λ copy. quota_value copy ≡ quota_value self.now) }
+    {
+        Ok(Quota {
+            root_name: copied_text(&self.root_name)?,
+            resources: copied_resources(&self.resources)?,
+        })
+    }
+}
+
+impl<'a> QuotaRoot<'a> {
+    /// The same roots. It takes memory for the list of them, and for owned texts.
+    pub fn clone(&self) -> Result<Self, AllocError>
+        ensures { IfOk result (λ copy. quota_root_value copy ≡ quota_root_value self.now) }
+    {
+        Ok(QuotaRoot {
+            mailbox_name: copied_text(&self.mailbox_name)?,
+            quota_root_names: copied_texts(&self.quota_root_names)?,
+        })
+    }
+}

@@ -1,0 +1,18 @@
+use Rattle.std.proofs.Common.{sym, ap, ◌∙◌, ◌<◌, ◌+◌, length, drop, Some, Option, ℕ}
+use Rattle.imap_grammar.proofs.Runs.{run1_none, run1_first}
+use Rattle.imap_grammar.proofs.Positions.{run1_at}
+use Rattle.imap_grammar.proofs.at.tags.cut1.Goals as goal
+
+abbrev some : ℕ → Option ℕ
+some n = Some n
+
+pub returns-in-None-clause-steps : goal.returns-in-None-clause-steps
+returns-in-None-clause-steps c = λ class e. run1_none class (drop c.args.p c.args.m.now) (sym c.in-None.is ∙ e)
+
+pub returns-then-n-eq0-clause-steps : goal.returns-then-n-eq0-clause-steps
+returns-then-n-eq0-clause-steps c = λ class e. run1_first class (drop c.args.p c.args.m.now) (ap some (sym c.if-n-eq0.true) ∙ sym c.in-Some.is ∙ e)
+
+pub returns-else-n-eq0-clause-steps : goal.returns-else-n-eq0-clause-steps
+returns-else-n-eq0-clause-steps c =
+    let within : c.args.p + c.in-Some.n < length c.args.m.now = c.requires c.in-Some.n c.in-Some.is in
+    λ class e. run1_at class c.args.m.now c.args.p c.in-Some.n c.if-n-eq0.false within (sym c.in-Some.is ∙ e)

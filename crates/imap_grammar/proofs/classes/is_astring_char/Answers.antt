@@ -1,0 +1,8 @@
+use Rattle.std.proofs.Common.{refl, arith}
+use Rattle.imap_grammar.specs.Classes.{is_astring_char}
+use Rattle.imap_grammar.specs.declared.classes.TheConstants.{ASTRING_CHAR}
+use Rattle.imap_grammar.proofs.Tables.{table_told}
+use Rattle.imap_grammar.proofs.classes.is_astring_char.Goals as goal
+
+pub returns : goal.returns
+returns c = table_told is_astring_char ASTRING_CHAR refl refl c.args.c (omega arith)

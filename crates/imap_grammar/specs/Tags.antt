@@ -1,0 +1,41 @@
+-- Words of the protocol, and the space between its parts.
+use Rattle.std.specs.Prelude.{ℕ, Bool, [], ◌∷◌, Option, ◌==◌, codes}
+use Prim.Native.String.{String}
+use Rattle.std.specs.Char.{to_ascii_lowercase}
+use Rattle.imap_grammar.specs.Ascii.{carriage_return, line_feed}
+use Rattle.imap_grammar.specs.Classes.{is_blank}
+use Rattle.imap_grammar.specs.Text.{Bytes}
+use Rattle.imap_grammar.specs.Rule.{Rule, tag_by, run0, run1, nothing, opt, ◌▹◌}
+
+abbrev pub same_letter : ℕ → ℕ → Bool
+same_letter a b = to_ascii_lowercase a == to_ascii_lowercase b
+
+-- exactly these bytes; these with their letters in either case
+abbrev pub tag : String → Rule Bytes
+tag k = tag_by ◌==◌ (codes k)
+
+abbrev pub word : String → Rule Bytes
+word k = tag_by same_letter (codes k)
+
+-- a word that stands for a value
+abbrev pub names : {A : Type 0} → String → A → Rule A
+names k x = word k ▹ nothing x
+
+abbrev pub exactly_names : {A : Type 0} → String → A → Rule A
+exactly_names k x = tag k ▹ nothing x
+
+abbrev pub sp : Rule Bytes
+sp = tag " "
+
+abbrev pub maybe_space : Rule (Option Bytes)
+maybe_space = opt sp
+
+abbrev pub crlf : Rule Bytes
+crlf = tag_by ◌==◌ (carriage_return ∷ line_feed ∷ [])
+
+-- spaces and tabs: maybe none, and at least one
+abbrev pub blanks0 : Rule Bytes
+blanks0 = run0 is_blank
+
+abbrev pub blanks1 : Rule Bytes
+blanks1 = run1 is_blank

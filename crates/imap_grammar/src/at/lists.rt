@@ -1,0 +1,231 @@
+//! Lists at a position, over a reader of positions that is passed: f takes a position of m, and answers one that is not before it, and not past m's end.
+
+ghost use Rattle.std.specs.Prelude.{◌≡◌, ◌≤◌, ℕ, length, drop};
+ghost use Rattle.imap_grammar.specs.Positions.{ExactlyAt, Ahead, named_in};
+ghost use Rattle.imap_grammar.specs.PositionLists.{FollowsAt, Advances, KeepsAhead, Onward};
+ghost use Rattle.imap_grammar.specs.Step.{step};
+ghost use Rattle.imap_grammar.specs.Rule.{meaning};
+ghost use Rattle.imap_grammar.specs.Meaning.{many_means};
+ghost use Rattle.imap_grammar.specs.Lists.{or_memory, separator as separator_rule, behind_means, some1_means, list1_means, list0_means, list_means, nonempty_list_means, delimited_means, opt_opt_means};
+
+use crate::answer::Err;
+use crate::at::span::Span;
+use crate::at::tags::{blanks0, blanks1, maybe_space, tag};
+use crate::lists::{Separator, tried};
+use std::alloc::Global;
+
+fn read_separator(between: Separator, m: &[u8], p: usize) -> Result<(usize, Span), Err>
+    requires { p ≤ length m.now }
+    ensures steps { ExactlyAt (λ x. named_in m.now x) m.now result (step (separator_rule between) (drop p m.now)) }
+    ensures ahead { Ahead m.now p result }
+{
+    match between {
+        Separator::Space => tag(b" ", m, p),
+        Separator::Comma => tag(b",", m, p),
+        Separator::Dot => tag(b".", m, p),
+        Separator::Blanks => blanks1(m, p),
+    }
+}
+
+// What f reads behind a separator.
+fn next_item<O: Drop, F: Fn(usize) -> Result<(usize, O), Err>>(
+    between: Separator,
+    f: &F,
+    m: &[u8],
+    p: usize,
+) -> Result<(usize, O), Err>
+    requires start { p ≤ length m.now }
+    requires may { (k : ℕ) → k ≤ length m.now → F.pre f.now k }
+    requires advances { Advances m.now (F.post f.now) }
+    ensures follows { FollowsAt (behind_means (meaning (separator_rule between))) (F.post f.now) (λ x. x) m.now p result }
+    ensures onward { Onward m.now p result }
+{
+    let (q, _) = read_separator(between, m, p)?;
+    f(q)
+}
+
+// What f reads.
+fn one_item<O: Drop, F: Fn(usize) -> Result<(usize, O), Err>>(
+    f: &F,
+    m: &[u8],
+    p: usize,
+) -> Result<(usize, O), Err>
+    requires start { p ≤ length m.now }
+    requires may { (k : ℕ) → k ≤ length m.now → F.pre f.now k }
+    requires advances { Advances m.now (F.post f.now) }
+    ensures follows { FollowsAt (λ a. a) (F.post f.now) (λ x. x) m.now p result }
+    ensures onward { Onward m.now p result }
+{
+    f(p)
+}
+
+/// What f reads, as often as it does, with nothing between.
+///
+/// f has to consume at least a byte. Its `Incomplete` and `Failure` go through.
+pub fn repeated<O: Drop, F: Fn(usize) -> Result<(usize, O), Err>>(
+    alloc: Global,
+    f: F,
+    m: &[u8],
+    p: usize,
+) -> Result<(usize, Vec<O>), Err>
+    requires start { p ≤ length m.now }
+    requires may { (k : ℕ) → k ≤ length m.now → F.pre f k }
+    requires advances { Advances m.now (F.post f) }
+    ensures follows { FollowsAt (λ a. or_memory (many_means a)) (F.post f) (λ x. x.items) m.now p result }
+    ensures ahead { Ahead m.now p result }
+{
+    let mut q = p;
+    let mut items = Vec::new(alloc);
+    while let Some((next, item)) = tried(one_item(&f, m, q))? {
+        items.push(item)?;
+        q = next;
+    }
+    Ok((q, items))
+}
+
+/// The same, at least once.
+pub fn repeated_once<O: Drop, F: Fn(usize) -> Result<(usize, O), Err>>(
+    alloc: Global,
+    f: F,
+    m: &[u8],
+    p: usize,
+) -> Result<(usize, Vec<O>), Err>
+    requires start { p ≤ length m.now }
+    requires may { (k : ℕ) → k ≤ length m.now → F.pre f k }
+    requires advances { Advances m.now (F.post f) }
+    ensures follows { FollowsAt (λ a. or_memory (some1_means a)) (F.post f) (λ x. x.items) m.now p result }
+    ensures ahead { Ahead m.now p result }
+{
+    let (mut q, first) = f(p)?;
+    let mut items = Vec::new(alloc);
+    items.push(first)?;
+    while let Some((next, item)) = tried(one_item(&f, m, q))? {
+        items.push(item)?;
+        q = next;
+    }
+    Ok((q, items))
+}
+
+/// What f reads, and again behind each separator: one or more.
+///
+/// It ends before a separator behind which f denies. f's other faults go through. f has to consume at least a byte.
+pub fn separated<O: Drop, F: Fn(usize) -> Result<(usize, O), Err>>(
+    alloc: Global,
+    between: Separator,
+    f: F,
+    m: &[u8],
+    p: usize,
+) -> Result<(usize, Vec<O>), Err>
+    requires start { p ≤ length m.now }
+    requires may { (k : ℕ) → k ≤ length m.now → F.pre f k }
+    requires advances { Advances m.now (F.post f) }
+    ensures follows { FollowsAt (λ a. or_memory (list1_means (meaning (separator_rule between)) a)) (F.post f) (λ x. x.items) m.now p result }
+    ensures ahead { Ahead m.now p result }
+{
+    let (mut q, first) = f(p)?;
+    let mut items = Vec::new(alloc);
+    items.push(first)?;
+    while let Some((next, item)) = tried(next_item(between, &f, m, q))? {
+        items.push(item)?;
+        q = next;
+    }
+    Ok((q, items))
+}
+
+/// What f reads, with separators between, maybe not once.
+pub fn maybe_separated<O: Drop, F: Fn(usize) -> Result<(usize, O), Err>>(
+    alloc: Global,
+    between: Separator,
+    f: F,
+    m: &[u8],
+    p: usize,
+) -> Result<(usize, Vec<O>), Err>
+    requires start { p ≤ length m.now }
+    requires may { (k : ℕ) → k ≤ length m.now → F.pre f k }
+    requires advances { Advances m.now (F.post f) }
+    ensures follows { FollowsAt (λ a. or_memory (list0_means (meaning (separator_rule between)) a)) (F.post f) (λ x. x.items) m.now p result }
+    ensures ahead { Ahead m.now p result }
+{
+    match tried(separated(alloc, between, f, m, p))? {
+        Some(found) => Ok(found),
+        None => Ok((p, Vec::new(alloc))),
+    }
+}
+
+/// A list in parentheses: what f reads, with one space between, maybe none, and maybe a space before the `)`.
+///
+/// f has to consume at least a byte. Its `Incomplete` and `Failure` go through.
+pub fn parenthesized_list<O: Drop, F: Fn(usize) -> Result<(usize, O), Err>>(
+    alloc: Global,
+    f: F,
+    m: &[u8],
+    p: usize,
+) -> Result<(usize, Vec<O>), Err>
+    requires start { p ≤ length m.now }
+    requires may { (k : ℕ) → k ≤ length m.now → F.pre f k }
+    requires advances { Advances m.now (F.post f) }
+    ensures follows { FollowsAt (λ a. or_memory (list_means a)) (F.post f) (λ x. x.items) m.now p result }
+    ensures ahead { Ahead m.now p result }
+{
+    let (p, _) = tag(b"(", m, p)?;
+    let (p, items) = maybe_separated(alloc, Separator::Space, f, m, p)?;
+    let (p, _) = maybe_space(m, p)?;
+    let (p, _) = tag(b")", m, p)?;
+    Ok((p, items))
+}
+
+/// The same of at least one element, with spaces and tabs before the `)`.
+pub fn parenthesized_nonempty_list<O: Drop, F: Fn(usize) -> Result<(usize, O), Err>>(
+    alloc: Global,
+    f: F,
+    m: &[u8],
+    p: usize,
+) -> Result<(usize, Vec<O>), Err>
+    requires start { p ≤ length m.now }
+    requires may { (k : ℕ) → k ≤ length m.now → F.pre f k }
+    requires advances { Advances m.now (F.post f) }
+    ensures follows { FollowsAt (λ a. or_memory (nonempty_list_means a)) (F.post f) (λ x. x.items) m.now p result }
+    ensures ahead { Ahead m.now p result }
+{
+    let (p, _) = tag(b"(", m, p)?;
+    let (p, items) = separated(alloc, Separator::Space, f, m, p)?;
+    let (p, _) = blanks0(m, p)?;
+    let (p, _) = tag(b")", m, p)?;
+    Ok((p, items))
+}
+
+/// What f reads, in parentheses. It takes no memory of its own; f's `Incomplete` and `Failure` go through.
+pub fn paren_delimited<O: Drop, F: Fn(usize) -> Result<(usize, O), Err>>(
+    f: F,
+    m: &[u8],
+    p: usize,
+) -> Result<(usize, O), Err>
+    requires start { p ≤ length m.now }
+    requires may { (k : ℕ) → k ≤ length m.now → F.pre f k }
+    requires keeps { KeepsAhead m.now (F.post f) }
+    ensures follows { FollowsAt delimited_means (F.post f) (λ x. x) m.now p result }
+    ensures ahead { Ahead m.now p result }
+{
+    let (p, _) = tag(b"(", m, p)?;
+    let (p, item) = f(p)?;
+    let (p, _) = tag(b")", m, p)?;
+    Ok((p, item))
+}
+
+/// What f reads, and `None` at this place where it denies. It takes no memory of its own; f's `Incomplete` and `Failure` go through.
+pub fn opt_opt<O: Drop, F: Fn(usize) -> Result<(usize, Option<O>), Err>>(
+    f: F,
+    m: &[u8],
+    p: usize,
+) -> Result<(usize, Option<O>), Err>
+    requires start { p ≤ length m.now }
+    requires may { (k : ℕ) → k ≤ length m.now → F.pre f k }
+    requires keeps { KeepsAhead m.now (F.post f) }
+    ensures follows { FollowsAt opt_opt_means (F.post f) (λ x. x) m.now p result }
+    ensures ahead { Ahead m.now p result }
+{
+    match tried(f(p))? {
+        Some(found) => Ok(found),
+        None => Ok((p, None)),
+    }
+}

@@ -1,0 +1,147 @@
+//! Words, spaces and runs at a position: the parts that other readers are made of. None takes memory.
+
+ghost use Rattle.std.specs.Prelude.{◌≡◌, ◌==◌, ◌≤◌, ◌<◌, ◌+◌, ℕ, Bool, length, drop, position, IfSome};
+ghost use Rattle.std.specs.Option.{ForSome};
+ghost use Rattle.std.specs.List.{zip, list_all};
+ghost use Rattle.imap_grammar.specs.Positions.{ExactlyAt, Ahead, Inside, named_in, maybe_in};
+ghost use Rattle.imap_grammar.specs.Step.{step};
+ghost use Rattle.imap_grammar.specs.Meaning.{outside};
+ghost use Rattle.imap_grammar.specs.Rule.{tag_by, run0, run1};
+ghost use Rattle.imap_grammar.specs.Classes as classes;
+ghost use Rattle.imap_grammar.specs.Tags as tags;
+ghost use Rattle.imap_grammar.specs.Tags.{same_letter};
+
+use crate::answer::{Err, Needed};
+use crate::at::span::Span;
+use crate::classes::is_blank;
+
+// Whether the bytes are the same as far as both go.
+fn agrees(word: &[u8], i: &[u8]) -> bool
+    ensures { result ≡ list_all (λ p. p.0 == p.1) (zip word.now i.now) }
+{
+    word.iter().zip(i).all(|(a, b)| a == b)
+}
+
+fn agrees_in_any_case(word: &[u8], i: &[u8]) -> bool
+    ensures { result ≡ list_all (λ p. same_letter p.0 p.1) (zip word.now i.now) }
+{
+    word.iter().zip(i).all(|(a, b)| a.eq_ignore_ascii_case(b))
+}
+
+/// Exactly these bytes.
+#[tactic(auto, using(crate::proofs::Positions::stepped, crate::proofs::Positions::zip_cut), unfolding(crate::specs::Step::tag_step))]
+pub fn tag(text: &[u8], m: &[u8], p: usize) -> Result<(usize, Span), Err>
+    requires { p ≤ length m.now }
+    ensures steps { ExactlyAt (λ x. named_in m.now x) m.now result (step (tag_by ◌==◌ text.now) (drop p m.now)) }
+    ensures inside { Inside m.now p result }
+{
+    let (_, i) = m.split_at(p);
+    if i.len() < text.len() {
+        if agrees(text, i) {
+            return Err(Err::Incomplete(Needed::Unknown));
+        }
+        return Err(Err::Error);
+    }
+    let (front, _) = i.split_at(text.len());
+    if !agrees(text, front) {
+        return Err(Err::Error);
+    }
+    let q = p + text.len();
+    Ok((q, Span { start: p, end: q }))
+}
+
+/// These bytes, ASCII letters in either case.
+#[tactic(auto, using(crate::proofs::Positions::stepped, crate::proofs::Positions::zip_cut), unfolding(crate::specs::Step::tag_step))]
+pub fn word(text: &[u8], m: &[u8], p: usize) -> Result<(usize, Span), Err>
+    requires { p ≤ length m.now }
+    ensures steps { ExactlyAt (λ x. named_in m.now x) m.now result (step (tag_by same_letter text.now) (drop p m.now)) }
+    ensures inside { Inside m.now p result }
+{
+    let (_, i) = m.split_at(p);
+    if i.len() < text.len() {
+        if agrees_in_any_case(text, i) {
+            return Err(Err::Incomplete(Needed::Unknown));
+        }
+        return Err(Err::Error);
+    }
+    let (front, _) = i.split_at(text.len());
+    if !agrees_in_any_case(text, front) {
+        return Err(Err::Error);
+    }
+    let q = p + text.len();
+    Ok((q, Span { start: p, end: q }))
+}
+
+/// A space, or nothing.
+pub fn maybe_space(m: &[u8], p: usize) -> Result<(usize, Option<Span>), Err>
+    requires { p ≤ length m.now }
+    ensures steps { ExactlyAt (λ x. maybe_in m.now x) m.now result (step tags.maybe_space (drop p m.now)) }
+    ensures ahead { Ahead m.now p result }
+{
+    match tag(b" ", m, p) {
+        Ok((q, space)) => Ok((q, Some(space))),
+        Err(Err::Error) => Ok((p, None)),
+        Err(e) => Err(e),
+    }
+}
+
+/// The bytes before the first that is outside a class, where that one stands `end` behind p.
+#[tactic(auto, using(crate::proofs::Positions::stepped), unfolding(crate::specs::Step::run0_step))]
+pub fn cut0(end: Option<usize>, m: &[u8], p: usize) -> Result<(usize, Span), Err>
+    requires { ForSome end (λ n. p + n < length m.now) }
+    ensures steps { (class : ℕ → Bool) → end ≡ position (outside class) (drop p m.now) → ExactlyAt (λ x. named_in m.now x) m.now result (step (run0 class) (drop p m.now)) }
+    ensures inside { Inside m.now p result }
+{
+    match end {
+        None => Err(Err::Incomplete(Needed::Unknown)),
+        Some(n) => {
+            let q = p + n;
+            Ok((q, Span { start: p, end: q }))
+        }
+    }
+}
+
+/// The same, of at least one byte.
+pub fn cut1(end: Option<usize>, m: &[u8], p: usize) -> Result<(usize, Span), Err>
+    requires { ForSome end (λ n. p + n < length m.now) }
+    ensures steps { (class : ℕ → Bool) → end ≡ position (outside class) (drop p m.now) → ExactlyAt (λ x. named_in m.now x) m.now result (step (run1 class) (drop p m.now)) }
+    ensures inside { Inside m.now p result }
+{
+    match end {
+        None => Err(Err::Incomplete(Needed::Unknown)),
+        Some(n) => {
+            if n == 0 {
+                return Err(Err::Error);
+            }
+            let q = p + n;
+            Ok((q, Span { start: p, end: q }))
+        }
+    }
+}
+
+fn blanks_end(i: &[u8]) -> Option<usize>
+    ensures at { result ≡ position (outside classes.is_blank) i.now }
+    ensures within { IfSome result (λ n. n < length i.now) }
+{
+    i.iter().position(|c| !is_blank(*c))
+}
+
+/// Spaces and tabs, maybe none.
+pub fn blanks0(m: &[u8], p: usize) -> Result<(usize, Span), Err>
+    requires { p ≤ length m.now }
+    ensures steps { ExactlyAt (λ x. named_in m.now x) m.now result (step tags.blanks0 (drop p m.now)) }
+    ensures inside { Inside m.now p result }
+{
+    let (_, i) = m.split_at(p);
+    cut0(blanks_end(i), m, p)
+}
+
+/// Spaces and tabs, at least one.
+pub fn blanks1(m: &[u8], p: usize) -> Result<(usize, Span), Err>
+    requires { p ≤ length m.now }
+    ensures steps { ExactlyAt (λ x. named_in m.now x) m.now result (step tags.blanks1 (drop p m.now)) }
+    ensures inside { Inside m.now p result }
+{
+    let (_, i) = m.split_at(p);
+    cut1(blanks_end(i), m, p)
+}

@@ -1,0 +1,24 @@
+//! Bytes as text.
+
+ghost use Rattle.std.specs.Prelude.{◌≡◌, IfOk, IsOk, IsUtf8};
+ghost use Rattle.imap_grammar.specs.Text.{text_of, decoded};
+
+use bstr::ByteSlice;
+use std::alloc::{AllocError, Global};
+use std::borrow::CowStr;
+use std::str;
+
+/// The text of the bytes: borrowed where they are UTF-8, and else with one U+FFFD for each ill-formed part.
+pub fn decode(alloc: Global, bytes: &[u8]) -> Result<CowStr<'_>, AllocError>
+    ensures text { IfOk result (λ t. text_of t ≡ decoded bytes.now) }
+    ensures memory { IsUtf8 bytes.now → IsOk result }
+{
+    match str::from_utf8(bytes) {
+        Ok(text) => Ok(CowStr::Borrowed(text)),
+        Err(_) => {
+            let mut text = String::new(alloc);
+            bytes.to_str_lossy_into(&mut text)?;
+            Ok(CowStr::Owned(text))
+        }
+    }
+}

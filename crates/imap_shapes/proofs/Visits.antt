@@ -1,0 +1,85 @@
+-- What a search goes over.
+use Rattle.std.proofs.Common.{◌≡◌, ℕ, List, [], ◌∷◌, refl, sym, ap, ◌∙◌, subst, map, Vec, Global, Bool, true, false, ◌||◌, nat_lt, Option, Some, drop, inl, inr, ◌+◌, ◌<◌, suc, length, get_or, arith}
+use Rattle.std.proofs.Math.Seq.{drop-cons}
+use Rattle.std.proofs.lemmas.Bool.{lt-ltb}
+use Rattle.std.specs.declared.borrow.CowStr.{CowStr}
+use Rattle.std.specs.declared.borrow.CowSlice.{CowSlice}
+use Rattle.imap_grammar.specs.Text.{text_of}
+use Rattle.imap_shapes.specs.Spans.{bytes_of}
+use Rattle.imap_shapes.specs.BodyValues.{BodyValue, one_body, bodies_of, body_seen}
+use Rattle.imap_shapes.specs.Search.{visited, visited_from, count, too_many, too_many_in, FindsFirst}
+use Rattle.imap_shapes.specs.declared.shapes.extensions.BodyExtension.{BodyExtension}
+use Rattle.imap_shapes.specs.declared.shapes.bodies.BodyContentCommon.{BodyContentCommon}
+use Rattle.imap_shapes.specs.declared.shapes.bodies.BodyStructure.{BodyStructure}
+use Rattle.imap_shapes.specs.declared.shapes.bodies.BodyStructure.TheVariants as body
+use Rattle.imap_shapes.specs.declared.shapes.bodies.BodyStructure.TheOpen as layer
+use Rattle.imap_shapes.specs.declared.shapes.bodies.BodyStructure.TheOpen.{BodyStructure-F}
+use Rattle.imap_shapes.specs.declared.shapes.bodies.BodyStructure.TheViews.{roll-BodyStructure, out-BodyStructure, roll-out-BodyStructure}
+use Rattle.imap_shapes.proofs.Trees.{basic_seen, text_seen, message_seen, multipart_seen}
+
+abbrev Body : Type 0
+Body = BodyStructure (CowStr Global) (CowSlice ℕ Global)
+
+module _ {X : Type 0} (answers : X → Bool → Type 0) (path : X → List ℕ) (whole xs : List X) (i : ℕ) (inside : i < length xs) (x : X) (is : x ≡ get_or xs i x) where
+  -- the part at hand is the first of those that are left
+  here : drop i xs ≡ x ∷ drop (i + 1) xs
+  here = drop-cons xs i x inside ∙ ap (λ y. y ∷ drop (suc i) xs) (sym is) ∙ next
+    where
+      next : x ∷ drop (suc i) xs ≡ x ∷ drop (i + 1) xs
+      next = let e : suc i ≡ i + 1 = omega arith in ap (λ k. x ∷ drop k xs) e
+
+  pub found_here : ((r : Option (List ℕ)) → FindsFirst answers path (drop i xs) r → FindsFirst answers path whole r) → (r : Option (List ℕ)) → answers x true → r ≡ Some (path x) → FindsFirst answers path whole r
+  found_here so_far r holds eq = so_far r (subst (λ l. FindsFirst answers path l r) (sym here) (inl (holds, eq)))
+
+  pub found_later : ((r : Option (List ℕ)) → FindsFirst answers path (drop i xs) r → FindsFirst answers path whole r) → answers x false → (r : Option (List ℕ)) → FindsFirst answers path (drop (i + 1) xs) r → FindsFirst answers path whole r
+  found_later so_far fails r later = so_far r (subst (λ l. FindsFirst answers path l r) (sym here) (inr (fails, later)))
+
+abbrev seen : Body → BodyValue
+seen = body_seen text_of bytes_of
+
+-- ---- multiparts
+
+pub visited_multipart : (path : List ℕ) (b : Body) (common : BodyContentCommon (CowStr Global)) (v : Vec Body Global) (last : Option (BodyExtension (CowStr Global))) → b ≡ body.Multipart common v last → visited path (body_seen text_of bytes_of b) ≡ (path, body_seen text_of bytes_of b) ∷ visited_from path 1 (bodies_of (map (body_seen text_of bytes_of) v.items))
+visited_multipart path b common v last is = rw (is, multipart_seen text_of bytes_of common v last) refl
+
+pub too_many_multipart : (b : Body) (common : BodyContentCommon (CowStr Global)) (v : Vec Body Global) (last : Option (BodyExtension (CowStr Global))) → b ≡ body.Multipart common v last → too_many (body_seen text_of bytes_of b) ≡ (nat_lt 4294967295 (length v.items) || too_many_in (bodies_of (map (body_seen text_of bytes_of) v.items)))
+too_many_multipart b common v last is = rw (is, multipart_seen text_of bytes_of common v last) (ap (λ n. nat_lt 4294967295 n || too_many_in (bodies_of (map seen v.items))) (counted v.items))
+  where
+    counted : (xs : List Body) → count (bodies_of (map seen xs)) ≡ length xs
+    counted [] = refl
+    counted (x ∷ xs) = ap suc (counted xs)
+
+-- the next body of those that are left
+pub opened : (xs : List Body) (k : ℕ) (x : Body) → k < length xs → x ≡ get_or xs k x → bodies_of (map (body_seen text_of bytes_of) (drop k xs)) ≡ one_body (body_seen text_of bytes_of x) (bodies_of (map (body_seen text_of bytes_of) (drop (k + 1) xs)))
+opened xs k x less is = ap (λ l. bodies_of (map seen l)) (drop-cons xs k x less ∙ ap (λ y. y ∷ drop (suc k) xs) (sym is) ∙ next)
+  where
+    next : x ∷ drop (suc k) xs ≡ x ∷ drop (k + 1) xs
+    next = let e : suc k ≡ k + 1 = omega arith in ap (λ n. x ∷ drop n xs) e
+
+pub many_here : (xs : List Body) (k : ℕ) (x : Body) → k < length xs → x ≡ get_or xs k x → too_many (body_seen text_of bytes_of x) ≡ true → too_many_in (bodies_of (map (body_seen text_of bytes_of) (drop k xs))) ≡ true
+many_here xs k x less is h = ap too_many_in (opened xs k x less is) ∙ ap (λ b. b || too_many_in (bodies_of (map seen (drop (k + 1) xs)))) h
+
+-- more bodies than a part number can count
+pub crowded : (b : Body) (common : BodyContentCommon (CowStr Global)) (v : Vec Body Global) (last : Option (BodyExtension (CowStr Global))) → b ≡ body.Multipart common v last → 4294967295 < length v.items → too_many (body_seen text_of bytes_of b) ≡ true
+crowded b common v last is more = too_many_multipart b common v last is ∙ ap (λ x. x || too_many_in (bodies_of (map seen v.items))) (lt-ltb 4294967295 (length v.items) more)
+
+-- ---- bodies of other kinds
+
+record Alone (path : List ℕ) (b : BodyValue) : Type 0 where
+  visited : visited path b ≡ (path, b) ∷ []
+  few : too_many b ≡ false
+
+alone : (path : List ℕ) (x : BodyStructure-F (CowStr Global) (CowSlice ℕ Global) Body) → ((common : BodyContentCommon (CowStr Global)) (v : Vec Body Global) (last : Option (BodyExtension (CowStr Global))) → roll-BodyStructure (CowStr Global) (CowSlice ℕ Global) x ≡ body.Multipart common v last → ⊥) → Alone path (seen (roll-BodyStructure (CowStr Global) (CowSlice ℕ Global) x))
+alone path (layer.Basic common other last) h = rw (ap seen (body.rolls-Basic common other last) ∙ basic_seen text_of bytes_of common other last) record { visited = refl; few = refl }
+alone path (layer.Text common other lines last) h = rw (ap seen (body.rolls-Text common other lines last) ∙ text_seen text_of bytes_of common other lines last) record { visited = refl; few = refl }
+alone path (layer.Message common other envelope inner lines last) h = rw (ap seen (body.rolls-Message common other envelope inner lines last) ∙ message_seen text_of bytes_of common other envelope inner lines last) record { visited = refl; few = refl }
+alone path (layer.Multipart common v last) h = absurd (h common v last (body.rolls-Multipart common v last))
+
+alone_as : (path : List ℕ) (b : Body) → ((common : BodyContentCommon (CowStr Global)) (v : Vec Body Global) (last : Option (BodyExtension (CowStr Global))) → b ≡ body.Multipart common v last → ⊥) → Alone path (seen b)
+alone_as path b h = subst (λ z. Alone path (seen z)) (roll-out-BodyStructure (CowStr Global) (CowSlice ℕ Global) b) (alone path (out-BodyStructure (CowStr Global) (CowSlice ℕ Global) b) (λ common v last is. h common v last (sym (roll-out-BodyStructure (CowStr Global) (CowSlice ℕ Global) b) ∙ is)))
+
+pub visited_alone : (path : List ℕ) (b : Body) → ((common : BodyContentCommon (CowStr Global)) (v : Vec Body Global) (last : Option (BodyExtension (CowStr Global))) → b ≡ body.Multipart common v last → ⊥) → visited path (body_seen text_of bytes_of b) ≡ (path, body_seen text_of bytes_of b) ∷ []
+visited_alone path b h = (alone_as path b h).visited
+
+pub few_alone : (b : Body) → ((common : BodyContentCommon (CowStr Global)) (v : Vec Body Global) (last : Option (BodyExtension (CowStr Global))) → b ≡ body.Multipart common v last → ⊥) → too_many (body_seen text_of bytes_of b) ≡ false
+few_alone b h = (alone_as [] b h).few

@@ -1,0 +1,6 @@
+pub mod Spans
+pub mod EnvelopeValues
+pub mod FieldValues
+pub mod ExtensionValues
+pub mod BodyValues
+pub mod Search

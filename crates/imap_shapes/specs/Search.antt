@@ -1,0 +1,45 @@
+-- Part search: the bodies inside a body, by their paths (RFC 3501, section 6.4.5: part numbers).
+use Rattle.std.specs.Prelude.{◌≡◌, ◌⊎◌, ℕ, suc, ◌+◌, List, [], ◌∷◌, ◌++◌, Option, None, Some, Bool, true, false, ◌||◌, nat_lt}
+use Rattle.imap_grammar.specs.Text.{text_of}
+use Rattle.imap_shapes.specs.Spans.{bytes_of}
+use Rattle.imap_shapes.specs.BodyValues.{BodyValue, Basic, TextBody, Message, Multipart, Bodies, no_bodies, one_body, body_seen}
+use Rattle.imap_shapes.specs.declared.search.Part.{Part}
+
+-- The bodies inside a body at a path, parent before child and left to right.
+-- Children of a multipart count from 1; the body inside a message is none here.
+abbrev mutual
+  pub visited : List ℕ → BodyValue → List (List ℕ × BodyValue)
+  visited path (Basic common other last) = (path, Basic common other last) ∷ []
+  visited path (TextBody common other lines last) = (path, TextBody common other lines last) ∷ []
+  visited path (Message common other envelope inner lines last) = (path, Message common other envelope inner lines last) ∷ []
+  visited path (Multipart common bodies last) = (path, Multipart common bodies last) ∷ visited_from path 1 bodies
+
+  pub visited_from : List ℕ → ℕ → Bodies → List (List ℕ × BodyValue)
+  visited_from path k no_bodies = []
+  visited_from path k (one_body b bs) = visited (path ++ (k ∷ [])) b ++ visited_from path (k + 1) bs
+
+-- how many bodies a list has
+abbrev pub count : Bodies → ℕ
+count no_bodies = 0
+count (one_body b bs) = suc (count bs)
+
+-- whether some multipart that is visited has more bodies than a part number can count
+abbrev mutual
+  pub too_many : BodyValue → Bool
+  too_many (Basic common other last) = false
+  too_many (TextBody common other lines last) = false
+  too_many (Message common other envelope inner lines last) = false
+  too_many (Multipart common bodies last) = nat_lt 4294967295 (count bodies) || too_many_in bodies
+
+  pub too_many_in : Bodies → Bool
+  too_many_in no_bodies = false
+  too_many_in (one_body b bs) = too_many b || too_many_in bs
+
+-- Found is the path of the first of these at which the answer is true, and there is none where it is true at none.
+abbrev pub FindsFirst : {X : Type 0} → (X → Bool → Type 0) → (X → List ℕ) → List X → Option (List ℕ) → Type 0
+FindsFirst answers path [] found = found ≡ None
+FindsFirst answers path (x ∷ xs) found = (answers x true × (found ≡ Some (path x))) ⊎ (answers x false × FindsFirst answers path xs found)
+
+-- a body and its path, as a search holds them
+abbrev pub part_seen : Part → List ℕ × BodyValue
+part_seen p = (p.path.items, body_seen text_of bytes_of p.body.now)

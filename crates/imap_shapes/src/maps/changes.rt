@@ -1,0 +1,138 @@
+//! The changes of texts: a copy, one with all texts owned, and what spans name in a message.
+
+ghost use Rattle.std.specs.Prelude.{◌≡◌, IfOk, false};
+ghost use Rattle.imap_grammar.specs.Text.{text_of};
+ghost use Rattle.imap_shapes.specs.Spans.{bytes_of, bytes_owned, text_owned, bytes_in, text_in};
+
+use super::change::Change;
+use crate::spans::{Span, SpannedText};
+use imap_bytes::texts::decode;
+use std::alloc::{AllocError, Global};
+use std::borrow::{CowSlice, CowStr};
+use std::marker::PhantomData;
+
+/// Each text as it is, borrowed or owned.
+#[derive(Drop)]
+pub(crate) struct Copying;
+
+impl<'a> Change<CowSlice<'a, u8>> for Copying {
+    type To = CowSlice<'a, u8>;
+
+    ghost before = { λ c t. bytes_of t };
+
+    ghost after = { bytes_of };
+
+    fn change(&self, x: &CowSlice<'a, u8>) -> Result<CowSlice<'a, u8>, AllocError> {
+        match x {
+            CowSlice::Borrowed(bytes) => Ok(CowSlice::Borrowed(*bytes)),
+            CowSlice::Owned(bytes) => Ok(CowSlice::Owned(bytes.clone()?)),
+        }
+    }
+}
+
+impl<'a> Change<CowStr<'a>> for Copying {
+    type To = CowStr<'a>;
+
+    ghost before = { λ c t. text_of t };
+
+    ghost after = { text_of };
+
+    fn change(&self, x: &CowStr<'a>) -> Result<CowStr<'a>, AllocError> {
+        match x {
+            CowStr::Borrowed(text) => Ok(CowStr::Borrowed(*text)),
+            CowStr::Owned(text) => Ok(CowStr::Owned(text.clone()?)),
+        }
+    }
+}
+
+/// Each text owned. The target's lifetime is this type's own.
+#[derive(Drop)]
+pub(crate) struct Owning<'b> {
+    alloc: Global,
+    target: PhantomData<&'b u8>,
+}
+
+impl<'b> Owning<'b> {
+    pub(crate) fn new(alloc: Global) -> Owning<'b> {
+        Owning {
+            alloc,
+            target: PhantomData,
+        }
+    }
+}
+
+fn owned_bytes<'b>(alloc: Global, bytes: &[u8]) -> Result<CowSlice<'b, u8>, AllocError>
+    ensures { IfOk result (λ t. bytes_of t ≡ record { bytes = bytes.now; borrowed = false }) }
+{
+    Ok(CowSlice::Owned(Vec::from_slice(alloc, bytes)?))
+}
+
+impl<'a, 'b> Change<CowSlice<'a, u8>> for Owning<'b> {
+    type To = CowSlice<'b, u8>;
+
+    ghost before = { λ c t. bytes_owned t };
+
+    ghost after = { bytes_of };
+
+    fn change(&self, x: &CowSlice<'a, u8>) -> Result<CowSlice<'b, u8>, AllocError> {
+        match x {
+            CowSlice::Borrowed(bytes) => owned_bytes(self.alloc, bytes),
+            CowSlice::Owned(bytes) => owned_bytes(self.alloc, bytes),
+        }
+    }
+}
+
+impl<'a, 'b> Change<CowStr<'a>> for Owning<'b> {
+    type To = CowStr<'b>;
+
+    ghost before = { λ c t. text_owned t };
+
+    ghost after = { text_of };
+
+    fn change(&self, x: &CowStr<'a>) -> Result<CowStr<'b>, AllocError> {
+        Ok(CowStr::Owned(String::from_str(self.alloc, x.as_str())?))
+    }
+}
+
+/// The byte strings that spans name in a message.
+#[derive(Drop)]
+pub(crate) struct NamedBytes<'a> {
+    pub(crate) m: &'a [u8],
+}
+
+impl<'a> Change<Span> for NamedBytes<'a> {
+    type To = CowSlice<'a, u8>;
+
+    ghost before = { λ c s. bytes_in c.m.now s };
+
+    ghost after = { bytes_of };
+
+    fn change(&self, x: &Span) -> Result<CowSlice<'a, u8>, AllocError> {
+        Ok(CowSlice::Borrowed(x.part(self.m)))
+    }
+}
+
+/// The texts that spans name in a message, decoded, and those that rules fix.
+#[derive(Drop)]
+pub(crate) struct NamedTexts<'a> {
+    pub(crate) alloc: Global,
+    pub(crate) m: &'a [u8],
+}
+
+impl<'a> Change<SpannedText> for NamedTexts<'a> {
+    type To = CowStr<'a>;
+
+    ghost before = { λ c s. text_in c.m.now s };
+
+    ghost after = { text_of };
+
+    fn change(&self, x: &SpannedText) -> Result<CowStr<'a>, AllocError> {
+        match x {
+            SpannedText::Part(span) => decode(self.alloc, span.part(self.m)),
+            SpannedText::Text => Ok(CowStr::Borrowed("TEXT")),
+            SpannedText::Message => Ok(CowStr::Borrowed("MESSAGE")),
+            SpannedText::Rfc822 => Ok(CowStr::Borrowed("RFC822")),
+            SpannedText::Multipart => Ok(CowStr::Borrowed("MULTIPART")),
+        }
+    }
+}

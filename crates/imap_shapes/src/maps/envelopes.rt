@@ -1,0 +1,75 @@
+//! Maps of envelopes and addresses.
+
+ghost use Rattle.std.specs.Prelude.{◌≡◌, IfOk, map};
+ghost use Rattle.imap_shapes.specs.EnvelopeValues.{address_seen, addresses_seen, envelope_seen};
+
+use super::change::Change;
+use super::parts::mapped_text;
+use crate::shapes::envelopes::{Address, Envelope};
+use std::alloc::{AllocError, Global};
+
+impl<B> Address<B> {
+    /// The same address with each text changed.
+    pub(crate) fn try_map<C: Change<B>>(&self, c: &C) -> Result<Address<C::To>, AllocError>
+        ensures { IfOk result (λ a. address_seen C.after a ≡ address_seen (C.before c.now) self.now) }
+    {
+        Ok(Address {
+            name: mapped_text(c, &self.name)?,
+            adl: mapped_text(c, &self.adl)?,
+            mailbox: mapped_text(c, &self.mailbox)?,
+            host: mapped_text(c, &self.host)?,
+        })
+    }
+}
+
+fn mapped_list<B, C: Change<B>>(
+    alloc: Global,
+    c: &C,
+    addresses: &Vec<Address<B>>,
+) -> Result<Vec<Address<C::To>>, AllocError>
+    ensures { IfOk result (λ v. map (address_seen C.after) v.items ≡ map (address_seen (C.before c.now)) addresses.now.items) }
+{
+    let mut mapped = Vec::with_capacity(alloc, addresses.len())?;
+    for address in addresses {
+        mapped.push(address.try_map(c)?)?;
+    }
+    Ok(mapped)
+}
+
+fn mapped_addresses<B, C: Change<B>>(
+    alloc: Global,
+    c: &C,
+    addresses: &Option<Vec<Address<B>>>,
+) -> Result<Option<Vec<Address<C::To>>>, AllocError>
+    ensures { IfOk result (λ t. addresses_seen C.after t ≡ addresses_seen (C.before c.now) addresses.now) }
+{
+    match addresses {
+        None => Ok(None),
+        Some(addresses) => Ok(Some(mapped_list(alloc, c, addresses)?)),
+    }
+}
+
+impl<B> Envelope<B> {
+    /// The same envelope with each text changed.
+    #[tactic(auto, unfolding(crate::specs::EnvelopeValues::envelope_seen))]
+    pub(crate) fn try_map<C: Change<B>>(
+        &self,
+        alloc: Global,
+        c: &C,
+    ) -> Result<Envelope<C::To>, AllocError>
+        ensures { IfOk result (λ e. envelope_seen C.after e ≡ envelope_seen (C.before c.now) self.now) }
+    {
+        Ok(Envelope {
+            date: mapped_text(c, &self.date)?,
+            subject: mapped_text(c, &self.subject)?,
+            from: mapped_addresses(alloc, c, &self.from)?,
+            sender: mapped_addresses(alloc, c, &self.sender)?,
+            reply_to: mapped_addresses(alloc, c, &self.reply_to)?,
+            to: mapped_addresses(alloc, c, &self.to)?,
+            cc: mapped_addresses(alloc, c, &self.cc)?,
+            bcc: mapped_addresses(alloc, c, &self.bcc)?,
+            in_reply_to: mapped_text(c, &self.in_reply_to)?,
+            message_id: mapped_text(c, &self.message_id)?,
+        })
+    }
+}

@@ -1,0 +1,47 @@
+//! Maps of texts that may be missing, and of lists of texts.
+
+ghost use Rattle.std.specs.Prelude.{◌≡◌, IfOk, map};
+ghost use Rattle.std.specs.Option.{option_map};
+ghost use Rattle.imap_shapes.specs.ExtensionValues.{languages_seen};
+
+use super::change::Change;
+use std::alloc::{AllocError, Global};
+
+pub(crate) fn mapped_text<X, C: Change<X>>(
+    c: &C,
+    text: &Option<X>,
+) -> Result<Option<C::To>, AllocError>
+    ensures { IfOk result (λ t. option_map C.after t ≡ option_map (C.before c.now) text.now) }
+{
+    match text {
+        None => Ok(None),
+        Some(text) => Ok(Some(c.change(text)?)),
+    }
+}
+
+fn mapped_list<X, C: Change<X>>(
+    alloc: Global,
+    c: &C,
+    texts: &Vec<X>,
+) -> Result<Vec<C::To>, AllocError>
+    ensures { IfOk result (λ v. map C.after v.items ≡ map (C.before c.now) texts.now.items) }
+{
+    let mut mapped = Vec::with_capacity(alloc, texts.len())?;
+    for text in texts {
+        mapped.push(c.change(text)?)?;
+    }
+    Ok(mapped)
+}
+
+pub(crate) fn mapped_texts<X, C: Change<X>>(
+    alloc: Global,
+    c: &C,
+    texts: &Option<Vec<X>>,
+) -> Result<Option<Vec<C::To>>, AllocError>
+    ensures { IfOk result (λ t. languages_seen C.after t ≡ languages_seen (C.before c.now) texts.now) }
+{
+    match texts {
+        None => Ok(None),
+        Some(texts) => Ok(Some(mapped_list(alloc, c, texts)?)),
+    }
+}

@@ -1,0 +1,124 @@
+//! The same values with all texts owned. They are consumed, and `Err` where there is no memory.
+
+ghost use Rattle.std.specs.Prelude.{◌≡◌, IfOk};
+ghost use Rattle.imap_grammar.specs.Text.{text_of};
+ghost use Rattle.imap_shapes.specs.Spans.{bytes_of, bytes_owned, text_owned};
+ghost use Rattle.imap_shapes.specs.EnvelopeValues.{address_seen, envelope_seen};
+ghost use Rattle.imap_shapes.specs.FieldValues.{encoding_seen, fields_seen};
+ghost use Rattle.imap_shapes.specs.ExtensionValues.{disposition_seen, extension_seen, ext_1part_seen, ext_mpart_seen};
+ghost use Rattle.imap_shapes.specs.BodyValues.{type_seen, common_seen, single_seen, body_seen};
+
+use crate::maps::changes::Owning;
+use crate::types::bodies::{BodyContentCommon, BodyContentSinglePart, BodyStructure, ContentType};
+use crate::types::envelopes::{Address, Envelope};
+use crate::types::extensions::{BodyExt1Part, BodyExtMPart, BodyExtension, ContentDisposition};
+use crate::types::fields::{BodyFields, ContentEncoding};
+use std::alloc::{AllocError, Global};
+
+impl<'a> Address<'a> {
+    /// The same with all texts owned.
+    pub fn into_owned(self, alloc: Global) -> Result<Address<'static>, AllocError>
+        ensures { IfOk result (λ x. address_seen bytes_of x ≡ address_seen bytes_owned self.entry) }
+    {
+        self.try_map(&Owning::new(alloc))
+    }
+}
+
+impl<'a> Envelope<'a> {
+    /// The same with all texts owned.
+    pub fn into_owned(self, alloc: Global) -> Result<Envelope<'static>, AllocError>
+        ensures { IfOk result (λ x. envelope_seen bytes_of x ≡ envelope_seen bytes_owned self.entry) }
+    {
+        self.try_map(alloc, &Owning::new(alloc))
+    }
+}
+
+impl<'a> ContentEncoding<'a> {
+    /// The same with all texts owned.
+    pub fn into_owned(self, alloc: Global) -> Result<ContentEncoding<'static>, AllocError>
+        ensures { IfOk result (λ x. encoding_seen text_of x ≡ encoding_seen text_owned self.entry) }
+    {
+        self.try_map(&Owning::new(alloc))
+    }
+}
+
+impl<'a> BodyFields<'a> {
+    /// The same with all texts owned.
+    pub fn into_owned(self, alloc: Global) -> Result<BodyFields<'static>, AllocError>
+        ensures { IfOk result (λ x. fields_seen text_of x ≡ fields_seen text_owned self.entry) }
+    {
+        self.try_map(alloc, &Owning::new(alloc))
+    }
+}
+
+impl<'a> ContentDisposition<'a> {
+    /// The same with all texts owned.
+    pub fn into_owned(self, alloc: Global) -> Result<ContentDisposition<'static>, AllocError>
+        ensures { IfOk result (λ x. disposition_seen text_of x ≡ disposition_seen text_owned self.entry) }
+    {
+        self.try_map(alloc, &Owning::new(alloc))
+    }
+}
+
+impl<'a> BodyExtension<'a> {
+    /// The same with all texts owned.
+    pub fn into_owned(self, alloc: Global) -> Result<BodyExtension<'static>, AllocError>
+        ensures { IfOk result (λ x. extension_seen text_of x ≡ extension_seen text_owned self.entry) }
+    {
+        self.try_map(alloc, &Owning::new(alloc))
+    }
+}
+
+impl<'a> BodyExt1Part<'a> {
+    /// The same with all texts owned.
+    pub fn into_owned(self, alloc: Global) -> Result<BodyExt1Part<'static>, AllocError>
+        ensures { IfOk result (λ x. ext_1part_seen text_of x ≡ ext_1part_seen text_owned self.entry) }
+    {
+        self.try_map(alloc, &Owning::new(alloc))
+    }
+}
+
+impl<'a> BodyExtMPart<'a> {
+    /// The same with all texts owned.
+    pub fn into_owned(self, alloc: Global) -> Result<BodyExtMPart<'static>, AllocError>
+        ensures { IfOk result (λ x. ext_mpart_seen text_of x ≡ ext_mpart_seen text_owned self.entry) }
+    {
+        self.try_map(alloc, &Owning::new(alloc))
+    }
+}
+
+impl<'a> ContentType<'a> {
+    /// The same with all texts owned.
+    pub fn into_owned(self, alloc: Global) -> Result<ContentType<'static>, AllocError>
+        ensures { IfOk result (λ x. type_seen text_of x ≡ type_seen text_owned self.entry) }
+    {
+        self.try_map(alloc, &Owning::new(alloc))
+    }
+}
+
+impl<'a> BodyContentCommon<'a> {
+    /// The same with all texts owned.
+    pub fn into_owned(self, alloc: Global) -> Result<BodyContentCommon<'static>, AllocError>
+        ensures { IfOk result (λ x. common_seen text_of x ≡ common_seen text_owned self.entry) }
+    {
+        self.try_map(alloc, &Owning::new(alloc))
+    }
+}
+
+impl<'a> BodyContentSinglePart<'a> {
+    /// The same with all texts owned.
+    pub fn into_owned(self, alloc: Global) -> Result<BodyContentSinglePart<'static>, AllocError>
+        ensures { IfOk result (λ x. single_seen text_of x ≡ single_seen text_owned self.entry) }
+    {
+        self.try_map(&Owning::new(alloc))
+    }
+}
+
+impl<'a> BodyStructure<'a> {
+    /// The same with all texts owned.
+    pub fn into_owned(self, alloc: Global) -> Result<BodyStructure<'static>, AllocError>
+        ensures { IfOk result (λ x. body_seen text_of bytes_of x ≡ body_seen text_owned bytes_owned self.entry) }
+    {
+        self.try_map(alloc, &Owning::new(alloc), &Owning::new(alloc))
+    }
+}

@@ -1,0 +1,127 @@
+//! Part search: the path of the first body at which a predicate holds.
+
+ghost use Rattle.std.specs.Prelude.{◌≡◌, ◌++◌, [], true, false, map, IfOk, OnOk, IfErr};
+ghost use Rattle.std.specs.Option.{option_map};
+ghost use Rattle.std.specs.Fn.{FnReturnsAt};
+ghost use Rattle.imap_grammar.specs.Text.{text_of};
+ghost use Rattle.imap_shapes.specs.Spans.{bytes_of};
+ghost use Rattle.imap_shapes.specs.BodyValues.{body_seen};
+ghost use Rattle.imap_shapes.specs.Search.{visited, too_many, part_seen, FindsFirst};
+ghost use Rattle.imap_shapes.specs.declared.search.PartsError.TheVariants.{TooManyParts, OutOfMemory};
+
+use crate::types::bodies::BodyStructure;
+use std::alloc::{AllocError, AllocFailed, Global};
+use thiserror::Error;
+
+/// Why the bodies inside a body can't be held.
+#[derive(Clone, Copy, Debug, PartialEq, Eq, Error)]
+pub enum PartsError {
+    /// A growth was refused.
+    #[error("out of memory")]
+    OutOfMemory,
+    /// A multipart has more than 4,294,967,295 bodies.
+    #[error("too many parts")]
+    TooManyParts,
+}
+
+impl From<AllocError> for PartsError {
+    ghost from_gives = { λ e r. r ≡ OutOfMemory };
+
+    fn from(_: AllocError) -> PartsError {
+        PartsError::OutOfMemory
+    }
+}
+
+impl<T: Drop> From<AllocFailed<T>> for PartsError {
+    ghost from_gives = { λ e r. r ≡ OutOfMemory };
+
+    fn from(_: AllocFailed<T>) -> PartsError {
+        PartsError::OutOfMemory
+    }
+}
+
+/// A body and its path.
+#[derive(Drop)]
+struct Part<'a> {
+    path: Vec<u32>,
+    body: &'a BodyStructure<'a>,
+}
+
+fn copied(path: &Vec<u32>) -> Result<Vec<u32>, AllocError>
+    ensures { IfOk result (λ v. v.items ≡ path.now.items) }
+{
+    path.clone()
+}
+
+// Puts a body at its path, and the bodies inside it, behind the parts.
+fn visit<'a>(
+    body: &'a BodyStructure<'a>,
+    path: &mut Vec<u32>,
+    parts: &mut Vec<Part<'a>>,
+) -> Result<(), PartsError>
+    ensures parts { OnOk result (map part_seen parts.new.items ≡ map part_seen parts.old.items ++ visited path.old.items (body_seen text_of bytes_of body.now)) }
+    ensures path { OnOk result (path.new.items ≡ path.old.items) }
+    ensures few { OnOk result (too_many (body_seen text_of bytes_of body.now) ≡ false) }
+    ensures many { IfErr result (λ e. e ≡ TooManyParts → too_many (body_seen text_of bytes_of body.now) ≡ true) }
+{
+    parts.push(Part {
+        path: copied(path)?,
+        body,
+    })?;
+    if let BodyStructure::Multipart { bodies, .. } = body {
+        if bodies.len() > u32::MAX as usize {
+            return Err(PartsError::TooManyParts);
+        }
+        let mut number = 0u32;
+        for inner in bodies {
+            number += 1;
+            path.push(number)?;
+            visit(inner, path, parts)?;
+            path.pop();
+        }
+    }
+    Ok(())
+}
+
+/// The bodies inside a body, each with its path: the numbers of the parts on the way to it, from 1 (RFC 3501, section 6.4.5).
+#[derive(Drop)]
+pub struct BodyStructParser<'a> {
+    parts: Vec<Part<'a>>,
+}
+
+impl<'a> BodyStructParser<'a> {
+    /// The bodies inside root, parent before child and left to right. The body inside a message is none of them.
+    ///
+    /// `TooManyParts` where a multipart has more than 4,294,967,295 bodies, judged before those; `OutOfMemory` where a growth was refused before that.
+    pub fn new(
+        alloc: Global,
+        root: &'a BodyStructure<'a>,
+    ) -> Result<BodyStructParser<'a>, PartsError>
+        ensures holds { IfOk result (λ p. map part_seen p.parts.items ≡ visited [] (body_seen text_of bytes_of root.now)) }
+        ensures few { IfOk result (λ p. too_many (body_seen text_of bytes_of root.now) ≡ false) }
+        ensures many { IfErr result (λ e. e ≡ TooManyParts → too_many (body_seen text_of bytes_of root.now) ≡ true) }
+    {
+        let mut parts = Vec::new(alloc);
+        let mut path = Vec::new(alloc);
+        visit(root, &mut path, &mut parts)?;
+        Ok(BodyStructParser { parts })
+    }
+
+    /// The path of the first body at which f holds, and `None` where it holds at none. `Err` where there is no memory for the path.
+    ///
+    /// f may be asked of any body that is held, and answers the same each time.
+    pub fn search<F: Fn(&'a BodyStructure<'a>) -> bool>(
+        &self,
+        f: F,
+    ) -> Result<Option<Vec<u32>>, AllocError>
+        requires { F.IsAlwaysCallable f }
+        ensures { IfOk result (λ found. FindsFirst (λ p. FnReturnsAt F.Fn f p.body.now) (λ p. p.path.items) self.now.parts.items (option_map (λ v. v.items) found)) }
+    {
+        for part in &self.parts {
+            if f(part.body) {
+                return Ok(Some(copied(&part.path)?));
+            }
+        }
+        Ok(None)
+    }
+}

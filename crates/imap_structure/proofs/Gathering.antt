@@ -1,0 +1,62 @@
+-- A loop that reads one more as often as there is one, and keeps what it read.
+use Rattle.std.proofs.Common.{◌≡◌, ℕ, ◌<◌, ◌≤◌, true, List, [], ◌∷◌, ◌++◌, map, take, drop, Some, None, Ok, Err, refl, sym, ap, ◌∙◌, append_assoc}
+use Rattle.std.proofs.lemmas.List.{append-nil, map-append}
+use Rattle.imap_grammar.specs.declared.answer.Err.{Err as Fault}
+use Rattle.imap_grammar.specs.declared.answer.Err.TheVariants.{Incomplete, Error, Failure}
+use Rattle.imap_grammar.specs.Answer.{Stops}
+use Rattle.imap_grammar.specs.Rule.{Rule, gives, opt, many, ◌⨾◌}
+use Rattle.imap_grammar.specs.Step.{Step, ◌>>=◌, step, beside}
+use Rattle.imap_grammar.specs.Positions.{Rests}
+use Rattle.imap_grammar.proofs.Consumption.{consumes}
+use Rattle.imap_grammar.proofs.Loops.{onto, onto_nothing, more, smaller, end, after_start, after_fault}
+use Rattle.imap_grammar.proofs.Positions.{further, rests_more}
+
+-- Of a list that s reads, vs were read, and the rest of it is still to be read by `more` from k on.
+pub record Gathered {V : Type 0} (s : Step (List V)) (more : Rule V) (vs : List V) (k : List ℕ) : Type 0 where
+  pub so_far : s ≡ onto vs (step (many more) k)
+
+onto_first : {V : Type 0} (x : V) (s : Step (List V)) → ((s >>= beside x) >>= λ y. Ok (y.0, y.1.0 ∷ y.1.1)) ≡ onto (x ∷ []) s
+onto_first x (Ok y) = refl
+onto_first x (Err e) = refl
+
+pub first : {V : Type 0} (a more : Rule V) (m k : List ℕ) (x : V) → step a m ≡ Ok (k, x) → Gathered (step (gives (λ (v : V × List V). v.0 ∷ v.1) (a ⨾ many more)) m) more (x ∷ []) k
+first a more m k x e = record { so_far = rw e (onto_first x (step (many more) k)) }
+
+onto_onto : {V : Type 0} (vs ws : List V) (s : Step (List V)) → onto vs (onto ws s) ≡ onto (vs ++ ws) s
+onto_onto vs ws (Ok y) = ap (λ us. Ok (y.0, us)) (sym (append_assoc vs ws y.1))
+onto_onto vs ws (Err e) = refl
+
+pub next_one : {V : Type 0} (s : Step (List V)) (a : Rule V) (vs : List V) (k rest : List ℕ) (x : V) → Gathered s a vs k → step (opt a) k ≡ Ok (rest, Some x) → consumes a ≡ true → Gathered s a (vs ++ x ∷ []) rest
+next_one s a vs k rest x g here c =
+    let one = more a k k rest [] x (onto_nothing (step (many a) k)) here c in
+    record { so_far = g.so_far ∙ ap (onto vs) one ∙ onto_onto vs (x ∷ []) (step (many a) rest) }
+
+pub next : {A V : Type 0} (view : A → V) (s : Step (List V)) (a : Rule V) (xs : List A) (k rest : List ℕ) (x : A) → Gathered s a (map view xs) k → step (opt a) k ≡ Ok (rest, Some (view x)) → consumes a ≡ true
+    → Gathered s a (map view (xs ++ x ∷ [])) rest
+next view s a xs k rest x g here c = record { so_far = (next_one s a (map view xs) k rest (view x) g here c).so_far ∙ ap (λ vs. onto vs (step (many a) rest)) (sym (map-append view xs (x ∷ []))) }
+
+pub all : {V : Type 0} (s : Step (List V)) (a : Rule V) (vs : List V) (k rest : List ℕ) → Gathered s a vs k → step (opt a) k ≡ Ok (rest, None) → s ≡ Ok (k, vs)
+all s a vs k rest g here = g.so_far ∙ ap (onto vs) (end a k k rest [] (onto_nothing (step (many a) k)) here) ∙ ap (λ us. Ok (k, us)) (append-nil vs)
+
+pub stopped : {V : Type 0} (s : Step (List V)) (a : Rule V) (vs : List V) (k : List ℕ) (e : Fault) → Gathered s a vs k → step (opt a) k ≡ Err e → s ≡ Err e
+stopped s a vs k e g here = g.so_far ∙ ap (onto vs) (after_fault a k k e (after_start a k) here)
+
+-- the same of a reader that may run out of memory
+pub halted : {V : Type 0} (s : Step (List V)) (a : Rule V) (vs : List V) (k : List ℕ) (e : Fault) → Gathered s a vs k → Stops e (step (opt a) k) → Stops e s
+halted s a vs k Error g here = stopped s a vs k Error g here
+halted s a vs k (Incomplete n) g here = stopped s a vs k (Incomplete n) g here
+halted s a vs k Failure g here = tt
+
+-- what was read goes further
+pub onward : {V : Type 0} (a : Rule V) (m : List ℕ) (p q : ℕ) (x : V) → step (opt a) (drop p m) ≡ Ok (drop q m, Some x) → consumes a ≡ true → p < q
+onward a m p q x here c = further m p q (smaller a (drop p m) (drop q m) x here c)
+
+-- ---- what the list rests on
+
+pub alone : {A V : Type 0} (view : List ℕ → A → V) (q : ℕ) (x : A) → Rests view q x → Rests (λ n xs. map (view n) xs) q (x ∷ [])
+alone view q x h = record { same = λ n. ap (λ y. y ∷ []) (h.same n) }
+
+pub together : {A V : Type 0} (view : List ℕ → A → V) (q r : ℕ) (xs : List A) (x : A) → q ≤ r → Rests (λ n ys. map (view n) ys) q xs → Rests view r x → Rests (λ n ys. map (view n) ys) r (xs ++ x ∷ [])
+together view q r xs x le front h =
+    let further = rests_more r le front in
+    record { same = λ n. map-append (view (take r n)) xs (x ∷ []) ∙ ap (λ ys. ys ++ view (take r n) x ∷ []) (further.same n) ∙ ap (λ y. map (view n) xs ++ y ∷ []) (h.same n) ∙ sym (map-append (view n) xs (x ∷ [])) }

@@ -1,0 +1,5 @@
+pub mod Naming
+pub mod Gathering
+pub mod Seeing
+pub mod Levels
+pub mod Reading

@@ -1,0 +1,84 @@
+use Rattle.std.proofs.Common.{refl, sym, subst, drop, arith, ◌<◌, ◌≤◌}
+use Rattle.std.proofs.lemmas.Result.{err_from_is_err_and}
+use Rattle.imap_grammar.specs.Positions.{GivesAt}
+use Rattle.imap_grammar.proofs.Positions.{rests_more}
+use Rattle.imap_structure.specs.Bodies.{body, some_bodies}
+use Rattle.imap_structure.specs.Spanned.{body_in}
+use Rattle.imap_structure.proofs.Naming.{something_rests, itself_rests}
+use Rattle.imap_structure.proofs.Reading.{message_rests, multipart_rests, message_reads, multipart_reads}
+use Rattle.imap_structure.proofs.Levels.{body_below, body_takes}
+use Rattle.imap_structure.proofs.Gathering.{first, next, all, halted, onward, alone, together}
+use Rattle.imap_structure.proofs.at.bodies.+body.Goals as goal
+
+pub body-returns-then-level-eq0-clause-steps : goal.body-returns-then-level-eq0-clause-steps
+unfolding body
+body-returns-then-level-eq0-clause-steps t c = rw c.if-level-eq0.true refl
+
+pub body-returns-clause-steps : goal.body-returns-clause-steps
+body-returns-clause-steps t c =
+    subst (λ s. GivesAt (λ x. body_in c.args.m.now x) c.args.m.now c.bracketed_body.result s) (sym (body_below c.args.level (drop c.args.p c.args.m.now) c.if-level-eq0.false)) c.bracketed_body.ensures.steps
+
+pub bracketed_body-returns-clause-rests : goal.bracketed_body-returns-clause-rests
+bracketed_body-returns-clause-rests t c = rests_more _ (omega (arith, c.in_ok-p-3.ensures.inside)) c.in_ok-p-2.ensures.rests
+
+pub body_type_mpart-returns-clause-rests : goal.body_type_mpart-returns-clause-rests
+body_type_mpart-returns-clause-rests t c =
+    let q = c.in_ok-p-3.p in
+    let e2 : c.in_ok-p-2.p ≤ q = omega (arith, c.in_ok-p-3.ensures.ahead) in
+    let e1 : c.in_ok-p.p ≤ q = omega (arith, e2, c.in_ok-p-2.ensures.ahead) in
+    multipart_rests q _ _ _ (rests_more q e1 c.in_ok-p.ensures.rests) (rests_more q e2 c.in_ok-p-2.ensures.rests) c.in_ok-p-3.ensures.rests
+
+pub body_type_msg-returns-clause-rests : goal.body_type_msg-returns-clause-rests
+body_type_msg-returns-clause-rests t c =
+    let q = c.in_ok-p-6.p in
+    let e5 : c.in_ok-p-5.p ≤ q = omega (arith, c.in_ok-p-6.ensures.ahead) in
+    let e4 : c.in_ok-p-4.p ≤ q = omega (arith, e5, c.in_ok-p-5.ensures.ahead) in
+    let e3 : c.in_ok-p-3.p ≤ q = omega (arith, e4, c.in_ok-p-4.ensures.ahead) in
+    let e2 : c.in_ok-p-2.p ≤ q = omega (arith, e3, c.in_ok-p-3.ensures.ahead) in
+    message_rests q _ _ _ _ _ (rests_more q e2 c.in_ok-p-2.ensures.rests) (rests_more q e3 c.in_ok-p-3.ensures.rests) (rw c.in_ok-body.ensures.ok (rests_more q e4 c.in_ok-p-4.ensures.rests)) c.in_ok-p-6.ensures.rests
+
+pub body_type_msg-returns-clause-steps : goal.body_type_msg-returns-clause-steps
+body_type_msg-returns-clause-steps t c =
+    message_reads c.args.level _ _ _ _ _ _ _ _ _ _ _ c.in_ok-p-4.inner _ _ _ c.in_ok-body.ensures.ok c.in_ok-p.ensures.steps c.in_ok-p-2.ensures.steps c.in_ok-p-3.ensures.steps c.in_ok-p-4.ensures.steps c.in_ok-p-5.ensures.steps c.in_ok-p-6.ensures.steps
+
+pub body_type_mpart-returns-clause-steps : goal.body_type_mpart-returns-clause-steps
+body_type_mpart-returns-clause-steps t c = multipart_reads c.args.level _ _ _ _ _ _ _ _ c.in_ok-p.ensures.steps c.in_ok-p-2.ensures.steps c.in_ok-p-3.ensures.steps
+
+pub next_body-returns-in-Ok-clause-rests : goal.next_body-returns-in-Ok-clause-rests
+next_body-returns-in-Ok-clause-rests t c = something_rests body_in _ _ c.in-Ok.ensures.rests
+
+pub some_bodies-bodies-init : goal.some_bodies-bodies-init
+some_bodies-bodies-init t c =
+    record {
+      gathered = rw c.in_ok-items.ensures (first (body c.args.level) (body c.args.level) _ _ _ c.in_ok-q.ensures.steps);
+      rests = rw c.in_ok-items.ensures (alone body_in _ _ c.in_ok-q.ensures.rests);
+      ahead = c.in_ok-q.ensures.ahead.0;
+      within = c.in_ok-q.ensures.ahead.1;
+    }
+
+pub some_bodies-bodies-smaller : goal.some_bodies-bodies-smaller
+some_bodies-bodies-smaller t c =
+    let less : c.bodies.q < c.in_ok-after.after = onward (body c.args.level) c.args.m.now _ _ _ (rw c.in-Some.is at c.in_ok-after.ensures.steps) (body_takes c.args.level) in
+    omega (arith, less, c.in_ok-after.ensures.ahead)
+
+pub some_bodies-bodies-preserved : goal.some_bodies-bodies-preserved
+some_bodies-bodies-preserved t c =
+    record {
+      gathered = rw c.in_ok-push-in-Some.ensures.items (next (body_in c.args.m.now) _ (body c.args.level) _ _ _ c.in-Some.body c.bodies.invariant.gathered (rw c.in-Some.is at c.in_ok-after.ensures.steps) (body_takes c.args.level));
+      rests = rw c.in_ok-push-in-Some.ensures.items (together body_in _ _ _ _ (c.in_ok-after.ensures.ahead.0) c.bodies.invariant.rests (itself_rests body_in _ _ (rw c.in-Some.is at c.in_ok-after.ensures.rests)));
+      ahead = omega (arith, c.bodies.invariant.ahead, c.in_ok-after.ensures.ahead);
+      within = c.in_ok-after.ensures.ahead.1;
+    }
+
+pub some_bodies-returns-in-None-clause-steps : goal.some_bodies-returns-in-None-clause-steps
+unfolding some_bodies
+some_bodies-returns-in-None-clause-steps t c = all _ (body c.args.level) _ _ _ c.bodies.invariant.gathered (rw c.in-None.is at c.in_ok-after.ensures.steps)
+
+pub some_bodies-returns-in-None-clause-rests : goal.some_bodies-returns-in-None-clause-rests
+some_bodies-returns-in-None-clause-rests t c = record { same = λ n. c.bodies.invariant.rests.same n }
+
+pub some_bodies-returns-in_err-after-clause-steps : goal.some_bodies-returns-in_err-after-clause-steps
+unfolding some_bodies
+some_bodies-returns-in_err-after-clause-steps t c =
+    let p = err_from_is_err_and c.from_residual-in_err-after.result c.from_residual-in_err-after.ensures.1 in
+    rw (p.1, p.2) (halted _ (body c.args.level) _ _ c.in_err-after.field-0.0 c.bodies.invariant.gathered c.in_err-after.ensures.steps)

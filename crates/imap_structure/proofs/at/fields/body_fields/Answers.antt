@@ -1,0 +1,18 @@
+use Rattle.std.proofs.Common.{refl, arith, ◌≤◌}
+use Rattle.imap_grammar.proofs.Positions.{rests_more}
+use Rattle.imap_shapes.specs.FieldValues.{fields_seen}
+use Rattle.imap_structure.proofs.at.fields.body_fields.Goals as goal
+
+pub returns-clause-rests : goal.returns-clause-rests
+unfolding fields_seen
+returns-clause-rests c =
+    let q = c.in_ok-p-5.p in
+    let e4 : c.in_ok-p-4.p ≤ q = omega (arith, c.in_ok-p-5.ensures.ahead) in
+    let e3 : c.in_ok-p-3.p ≤ q = omega (arith, e4, c.in_ok-p-4.ensures.ahead) in
+    let e2 : c.in_ok-p-2.p ≤ q = omega (arith, e3, c.in_ok-p-3.ensures.ahead) in
+    let e1 : c.in_ok-p.p ≤ q = omega (arith, e2, c.in_ok-p-2.ensures.ahead) in
+    let param = rests_more q e1 c.in_ok-p.ensures.rests in
+    let id = rests_more q e2 c.in_ok-p-2.ensures.rests in
+    let description = rests_more q e3 c.in_ok-p-3.ensures.rests in
+    let transfer_encoding = rests_more q e4 c.in_ok-p-4.ensures.rests in
+    record { same = λ m. rw (param.same m, id.same m, description.same m, transfer_encoding.same m) refl }

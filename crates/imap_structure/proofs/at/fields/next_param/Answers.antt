@@ -1,0 +1,6 @@
+use Rattle.imap_structure.specs.Spanned.{pair_in}
+use Rattle.imap_structure.proofs.Naming.{something_rests}
+use Rattle.imap_structure.proofs.at.fields.next_param.Goals as goal
+
+pub returns-in-Ok-clause-rests : goal.returns-in-Ok-clause-rests
+returns-in-Ok-clause-rests c = something_rests pair_in _ _ c.in-Ok.ensures.rests

@@ -1,0 +1,62 @@
+-- Envelopes (RFC 3501, section 9: envelope, address).
+use Rattle.std.specs.Prelude.{List, Option}
+use Rattle.std.specs.Option.{option_map}
+use Rattle.imap_grammar.specs.Text.{Text, as_text}
+use Rattle.imap_grammar.specs.Rule.{Rule, gives, opt, some1, ◌⨾◌, ◌▹◌, ◌◃◌}
+use Rattle.imap_grammar.specs.Tags.{tag, sp}
+use Rattle.imap_bytes.specs.Strings.{nstring, nil_or}
+use Rattle.imap_shapes.specs.EnvelopeValues.{AddressValue, EnvelopeValue}
+
+-- SP A
+abbrev pub spaced : {A : Type 0} → Rule A → Rule A
+spaced a = sp ▹ a
+
+-- nstring, its bytes as they stand in the message
+unfoldable pub byte_string : Rule (Option Text)
+byte_string = gives (option_map as_text) nstring
+
+abbrev pub address_of : Option Text × (Option Text × (Option Text × Option Text)) → AddressValue
+address_of v = record { name = v.0; adl = v.1.0; mailbox = v.1.1.0; host = v.1.1.1 }
+
+-- address = "(" addr-name SP addr-adl SP addr-mailbox SP addr-host ")", each an nstring
+unfoldable pub address : Rule AddressValue
+address = gives address_of (tag "(" ▹ byte_string ⨾ spaced byte_string ⨾ spaced byte_string ⨾ spaced byte_string ◃ tag ")")
+
+-- an address, and maybe a space
+unfoldable pub listed_address : Rule AddressValue
+listed_address = address ◃ opt sp
+
+-- 1*address
+unfoldable pub some_addresses : Rule (List AddressValue)
+some_addresses = some1 listed_address
+
+abbrev pub Addresses : Type 0
+Addresses = Option (List AddressValue)
+
+-- "(" 1*address ")" / nil: env-from, and so env-sender, env-reply-to, env-to, env-cc, env-bcc
+unfoldable pub addresses : Rule Addresses
+addresses = nil_or (tag "(" ▹ some_addresses ◃ tag ")")
+
+abbrev pub envelope_of : Option Text × (Option Text × (Addresses × (Addresses × (Addresses × (Addresses × (Addresses × (Addresses × (Option Text × Option Text)))))))) → EnvelopeValue
+envelope_of v =
+    record {
+      date = v.0;
+      subject = v.1.0;
+      from = v.1.1.0;
+      sender = v.1.1.1.0;
+      reply_to = v.1.1.1.1.0;
+      to = v.1.1.1.1.1.0;
+      cc = v.1.1.1.1.1.1.0;
+      bcc = v.1.1.1.1.1.1.1.0;
+      in_reply_to = v.1.1.1.1.1.1.1.1.0;
+      message_id = v.1.1.1.1.1.1.1.1.1;
+    }
+
+-- envelope = "(" env-date SP env-subject SP env-from SP env-sender SP env-reply-to SP env-to SP env-cc SP env-bcc SP env-in-reply-to SP env-message-id ")"
+unfoldable pub envelope : Rule EnvelopeValue
+envelope =
+    gives envelope_of
+    (tag "(" ▹ byte_string ⨾ spaced byte_string
+    ⨾ spaced addresses ⨾ spaced addresses ⨾ spaced addresses
+    ⨾ spaced addresses ⨾ spaced addresses ⨾ spaced addresses
+    ⨾ spaced byte_string ⨾ spaced byte_string ◃ tag ")")

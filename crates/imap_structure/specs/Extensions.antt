@@ -1,0 +1,97 @@
+-- Extension data of bodies (RFC 3501, section 9: body-ext-1part, body-ext-mpart, body-fld-dsp, body-fld-lang, body-extension).
+use Rattle.std.specs.Prelude.{ℕ, zero, suc, List, [], ◌∷◌, Option, Some}
+use Rattle.std.specs.Option.{option_map}
+use Rattle.imap_grammar.specs.Text.{Text}
+use Rattle.imap_grammar.specs.Rule.{Rule, gives, never, opt, list1, ◌⨾◌, ◌▹◌, ◌◃◌, ◌or◌}
+use Rattle.imap_grammar.specs.Tags.{tag, sp, blanks0}
+use Rattle.imap_grammar.specs.Lists.{opt_opt_of}
+use Rattle.imap_bytes.specs.Numbers.{number}
+use Rattle.imap_bytes.specs.Strings.{nil_or}
+use Rattle.imap_bytes.specs.Texts.{string_utf8, nstring_utf8}
+use Rattle.imap_shapes.specs.FieldValues.{ParamsValue}
+use Rattle.imap_shapes.specs.ExtensionValues.{DispositionValue, ExtensionValue, Num, Str, Listed, extensions_of, Ext1PartValue, ExtMPartValue}
+use Rattle.imap_structure.specs.Envelopes.{spaced}
+use Rattle.imap_structure.specs.Fields.{body_fld_param}
+
+-- ---- disposition and language
+
+abbrev pub disposition_of : Text × ParamsValue → DispositionValue
+disposition_of v = record { ty = v.0; params = v.1 }
+
+-- body-fld-dsp = "(" string SP body-fld-param ")" / nil
+unfoldable pub body_fld_dsp : Rule (Option DispositionValue)
+body_fld_dsp = nil_or (gives disposition_of (tag "(" ▹ string_utf8 ⨾ spaced body_fld_param ◃ tag ")"))
+
+-- string *(SP string)
+unfoldable pub some_languages : Rule (List Text)
+some_languages = list1 sp string_utf8
+
+-- a single language is a list of one
+abbrev pub single : Option Text → Option (List Text)
+single t = option_map (λ x. x ∷ []) t
+
+-- "(" string *(SP string) ")"
+unfoldable pub language_list : Rule (Option (List Text))
+language_list = gives Some (tag "(" ▹ some_languages ◃ blanks0 ⨾ tag ")")
+
+-- body-fld-lang = nstring / "(" string *(SP string) ")"
+unfoldable pub body_fld_lang : Rule (Option (List Text))
+body_fld_lang = gives single nstring_utf8 or language_list
+
+-- ---- extensions, down to a level
+
+-- number / nstring / a list
+unfoldable pub extension_over : Rule ExtensionValue → Rule ExtensionValue
+extension_over lists = gives Num number or gives Str nstring_utf8 or lists
+
+-- body-extension *(SP body-extension), where lists inside are those
+unfoldable pub some_extensions : Rule ExtensionValue → Rule (List ExtensionValue)
+some_extensions lists = list1 sp (extension_over lists)
+
+abbrev pub listed : List ExtensionValue → ExtensionValue
+listed es = Listed (extensions_of es)
+
+-- "(" body-extension *(SP body-extension) ")", where lists inside are those
+unfoldable pub bracketed_extensions : Rule ExtensionValue → Rule ExtensionValue
+bracketed_extensions lists = gives listed (tag "(" ▹ some_extensions lists ◃ blanks0 ⨾ tag ")")
+
+-- a list, with lists inside up to the level below; at level 0 it denies without looking
+unfoldable pub extension_list : ℕ → Rule ExtensionValue
+extension_list zero = never
+extension_list (suc level) = bracketed_extensions (extension_list level)
+
+-- body-extension = nstring / number / "(" body-extension *(SP body-extension) ")", up to so many lists inside one another
+abbrev pub extension : ℕ → Rule ExtensionValue
+extension level = extension_over (extension_list level)
+
+-- body-extension, up to 100 lists inside one another
+unfoldable pub body_extension : Rule ExtensionValue
+body_extension = extension 100
+
+-- ---- what stands behind the fields
+
+-- SP A, skipped with its space where A is denied
+abbrev pub maybe_spaced : {A : Type 0} → Rule (Option A) → Rule (Option A)
+maybe_spaced a = opt_opt_of (spaced a)
+
+-- SP body-extension, maybe
+unfoldable pub last_extension : Rule (Option ExtensionValue)
+last_extension = opt (spaced body_extension)
+
+abbrev pub Ext : Type 0 → Type 0
+Ext A = A × (Option DispositionValue × (Option (List Text) × (Option Text × Option ExtensionValue)))
+
+abbrev pub ext_1part_of : Ext (Option Text) → Ext1PartValue
+ext_1part_of v = record { md5 = v.0; disposition = v.1.0; language = v.1.1.0; location = v.1.1.1.0; extension = v.1.1.1.1 }
+
+-- body-ext-1part = body-fld-md5 [SP body-fld-dsp [SP body-fld-lang [SP body-fld-loc *(SP body-extension)]]],
+-- each after its space, any of them missing, and one body-extension at most
+unfoldable pub body_ext_1part : Rule Ext1PartValue
+body_ext_1part = gives ext_1part_of (maybe_spaced nstring_utf8 ⨾ maybe_spaced body_fld_dsp ⨾ maybe_spaced body_fld_lang ⨾ maybe_spaced nstring_utf8 ⨾ last_extension)
+
+abbrev pub ext_mpart_of : Ext ParamsValue → ExtMPartValue
+ext_mpart_of v = record { param = v.0; disposition = v.1.0; language = v.1.1.0; location = v.1.1.1.0; extension = v.1.1.1.1 }
+
+-- body-ext-mpart = body-fld-param [SP body-fld-dsp [SP body-fld-lang [SP body-fld-loc *(SP body-extension)]]], in the same way
+unfoldable pub body_ext_mpart : Rule ExtMPartValue
+body_ext_mpart = gives ext_mpart_of (maybe_spaced body_fld_param ⨾ maybe_spaced body_fld_dsp ⨾ maybe_spaced body_fld_lang ⨾ maybe_spaced nstring_utf8 ⨾ last_extension)

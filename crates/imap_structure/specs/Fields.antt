@@ -1,0 +1,50 @@
+-- Parameters, encodings and fields of bodies (RFC 3501, section 9: body-fields, body-fld-param, body-fld-enc).
+use Rattle.std.specs.Prelude.{ℕ, List, Option}
+use Rattle.imap_grammar.specs.Text.{Text}
+use Rattle.imap_grammar.specs.Rule.{Rule, gives, nothing, list1, ◌⨾◌, ◌▹◌, ◌◃◌, ◌or◌}
+use Rattle.imap_grammar.specs.Tags.{tag, names, sp, blanks0}
+use Rattle.imap_bytes.specs.Numbers.{number}
+use Rattle.imap_bytes.specs.Strings.{nil, nil_or}
+use Rattle.imap_bytes.specs.Texts.{string_utf8, nstring_utf8}
+use Rattle.imap_shapes.specs.declared.shapes.fields.ContentEncoding.TheVariants.{SevenBit, EightBit, Binary, Base64, QuotedPrintable, Other}
+use Rattle.imap_shapes.specs.FieldValues.{ParamsValue, EncodingValue, FieldsValue}
+use Rattle.imap_structure.specs.Envelopes.{spaced}
+
+-- string SP string
+unfoldable pub body_param : Rule (Text × Text)
+body_param = string_utf8 ⨾ spaced string_utf8
+
+-- string SP string *(SP string SP string)
+unfoldable pub some_params : Rule (List (Text × Text))
+some_params = list1 sp body_param
+
+-- body-fld-param = "(" string SP string *(SP string SP string) ")" / nil
+unfoldable pub body_fld_param : Rule ParamsValue
+body_fld_param = nil_or (tag "(" ▹ some_params ◃ blanks0 ⨾ tag ")")
+
+-- "7BIT" / "8BIT" / "BINARY", which leave a body as it is
+unfoldable pub plain_encoding : Rule EncodingValue
+plain_encoding = names "7BIT" SevenBit or names "8BIT" EightBit or names "BINARY" Binary
+
+-- "BASE64" / "QUOTED-PRINTABLE"
+unfoldable pub coded_encoding : Rule EncodingValue
+coded_encoding = names "BASE64" Base64 or names "QUOTED-PRINTABLE" QuotedPrintable
+
+-- "7BIT" / "8BIT" / "BINARY" / "BASE64" / "QUOTED-PRINTABLE"
+unfoldable pub encoding_name : Rule EncodingValue
+encoding_name = plain_encoding or coded_encoding
+
+-- DQUOTE ("7BIT" / "8BIT" / "BINARY" / "BASE64" / "QUOTED-PRINTABLE") DQUOTE
+unfoldable pub quoted_encoding : Rule EncodingValue
+quoted_encoding = tag "\"" ▹ encoding_name ◃ tag "\""
+
+-- body-fld-enc = (DQUOTE ("7BIT" / "8BIT" / "BINARY" / "BASE64" / "QUOTED-PRINTABLE") DQUOTE) / string; nil stands for 7BIT
+unfoldable pub body_fld_enc : Rule EncodingValue
+body_fld_enc = nil ▹ nothing SevenBit or quoted_encoding or gives Other string_utf8
+
+abbrev pub fields_of : ParamsValue × (Option Text × (Option Text × (EncodingValue × ℕ))) → FieldsValue
+fields_of v = record { param = v.0; id = v.1.0; description = v.1.1.0; transfer_encoding = v.1.1.1.0; octets = v.1.1.1.1 }
+
+-- body-fields = body-fld-param SP body-fld-id SP body-fld-desc SP body-fld-enc SP body-fld-octets
+unfoldable pub body_fields : Rule FieldsValue
+body_fields = gives fields_of (body_fld_param ⨾ spaced nstring_utf8 ⨾ spaced nstring_utf8 ⨾ spaced body_fld_enc ⨾ spaced number)

@@ -1,0 +1,301 @@
+//! Structures of bodies at a position.
+
+ghost use Rattle.std.specs.Prelude.{◌≤◌, length, drop, map};
+ghost use Rattle.std.specs.Option.{option_map};
+ghost use Rattle.imap_grammar.specs.Positions.{ExactlyAt, GivesAt, Ahead, RestsOn, named_in};
+ghost use Rattle.imap_grammar.specs.Step.{step};
+ghost use Rattle.imap_grammar.specs.Rule.{opt};
+ghost use Rattle.imap_structure.specs.Envelopes as envelopes;
+ghost use Rattle.imap_structure.specs.Envelopes.{spaced};
+ghost use Rattle.imap_structure.specs.Bodies as bodies;
+ghost use Rattle.imap_structure.specs.Spanned.{envelope_in, body_in};
+
+use crate::at::Reached;
+use crate::at::envelopes::envelope;
+use crate::at::extensions::{body_ext_1part, body_ext_mpart};
+use crate::at::fields::spaced_fields;
+use crate::at::lists::list_of_one;
+use crate::at::texts::{spaced_number, spaced_string_text, string_text};
+use crate::limits::MAX_BODY_DEPTH;
+use imap_bytes::at::tags::{tag, word};
+use imap_bytes::{Err, first};
+use imap_shapes::shapes::bodies::{
+    BodyContentCommon, BodyContentSinglePart, BodyStructure, ContentType,
+};
+use imap_shapes::shapes::envelopes::Envelope;
+use imap_shapes::spans::{Span, SpannedText};
+use std::alloc::Global;
+
+/// A structure whose texts are spans.
+pub type Spanned = BodyStructure<SpannedText, Span>;
+
+/// A text (RFC 3501, section 9: body-type-text).
+#[tactic(auto, unfolding(crate::specs::Bodies::body_type_text))]
+fn body_type_text(alloc: Global, m: &[u8], p: usize) -> Reached<Spanned>
+    requires { p ≤ length m.now }
+    ensures steps { GivesAt (λ x. body_in m.now x) m.now result (step bodies.body_type_text (drop p m.now)) }
+    ensures ahead { Ahead m.now p result }
+    ensures rests { RestsOn body_in result }
+{
+    let (p, _) = word(b"\"TEXT\"", m, p)?;
+    let (p, subtype) = spaced_string_text(m, p)?;
+    let (p, fields) = spaced_fields(alloc, m, p)?;
+    let (p, lines) = spaced_number(m, p)?;
+    let (p, ext) = body_ext_1part(alloc, m, p)?;
+    Ok((
+        p,
+        BodyStructure::Text {
+            common: BodyContentCommon {
+                ty: ContentType {
+                    ty: SpannedText::Text,
+                    subtype,
+                    params: fields.param,
+                },
+                disposition: ext.disposition,
+                language: ext.language,
+                location: ext.location,
+            },
+            other: BodyContentSinglePart {
+                id: fields.id,
+                md5: ext.md5,
+                description: fields.description,
+                transfer_encoding: fields.transfer_encoding,
+                octets: fields.octets,
+            },
+            lines,
+            extension: ext.extension,
+        },
+    ))
+}
+
+/// A single part of any other type (RFC 3501, section 9: body-type-basic).
+#[tactic(auto, unfolding(crate::specs::Bodies::body_type_basic))]
+fn body_type_basic(alloc: Global, m: &[u8], p: usize) -> Reached<Spanned>
+    requires { p ≤ length m.now }
+    ensures steps { GivesAt (λ x. body_in m.now x) m.now result (step bodies.body_type_basic (drop p m.now)) }
+    ensures ahead { Ahead m.now p result }
+    ensures rests { RestsOn body_in result }
+{
+    let (p, ty) = string_text(m, p)?;
+    let (p, subtype) = spaced_string_text(m, p)?;
+    let (p, fields) = spaced_fields(alloc, m, p)?;
+    let (p, ext) = body_ext_1part(alloc, m, p)?;
+    Ok((
+        p,
+        BodyStructure::Basic {
+            common: BodyContentCommon {
+                ty: ContentType {
+                    ty,
+                    subtype,
+                    params: fields.param,
+                },
+                disposition: ext.disposition,
+                language: ext.language,
+                location: ext.location,
+            },
+            other: BodyContentSinglePart {
+                id: fields.id,
+                md5: ext.md5,
+                description: fields.description,
+                transfer_encoding: fields.transfer_encoding,
+                octets: fields.octets,
+            },
+            extension: ext.extension,
+        },
+    ))
+}
+
+fn spaced_envelope(alloc: Global, m: &[u8], p: usize) -> Reached<Envelope<Span>>
+    requires { p ≤ length m.now }
+    ensures steps { GivesAt (λ x. envelope_in m.now x) m.now result (step (spaced envelopes.envelope) (drop p m.now)) }
+    ensures ahead { Ahead m.now p result }
+    ensures rests { RestsOn envelope_in result }
+{
+    let (p, _) = tag(b" ", m, p)?;
+    envelope(alloc, m, p)
+}
+
+#[tactic(auto, unfolding(crate::specs::Bodies::message_word))]
+fn message_word(m: &[u8], p: usize) -> Reached<Span>
+    requires { p ≤ length m.now }
+    ensures steps { ExactlyAt (λ x. named_in m.now x) m.now result (step bodies.message_word (drop p m.now)) }
+    ensures ahead { Ahead m.now p result }
+{
+    word(b"\"MESSAGE\" \"RFC822\"", m, p)
+}
+
+/// A body, with bodies inside up to `level` deep (RFC 3501, section 9: body). At level 0 it denies without looking.
+#[cycle(body)]
+pub fn body(alloc: Global, level: u32, m: &[u8], p: usize) -> Reached<Spanned>
+    requires { p ≤ length m.now }
+    ensures steps { GivesAt (λ x. body_in m.now x) m.now result (step (bodies.body level) (drop p m.now)) }
+    ensures ahead { Ahead m.now p result }
+    ensures rests { RestsOn body_in result }
+{
+    if level == 0 {
+        return Err(Err::Error);
+    }
+    bracketed_body(alloc, level - 1, m, p)
+}
+
+#[cycle(body)]
+#[tactic(auto, unfolding(crate::specs::Bodies::bracketed_body))]
+fn bracketed_body(alloc: Global, level: u32, m: &[u8], p: usize) -> Reached<Spanned>
+    requires { p ≤ length m.now }
+    ensures steps { GivesAt (λ x. body_in m.now x) m.now result (step (bodies.bracketed_body (bodies.body level)) (drop p m.now)) }
+    ensures ahead { Ahead m.now p result }
+    ensures rests { RestsOn body_in result }
+{
+    let (p, _) = tag(b"(", m, p)?;
+    let (p, content) = body_type(alloc, level, m, p)?;
+    let (p, _) = tag(b")", m, p)?;
+    Ok((p, content))
+}
+
+// What stands in the parentheses of a body, where the bodies inside have this level.
+#[cycle(body)]
+#[tactic(auto, unfolding(crate::specs::Bodies::body_type))]
+fn body_type(alloc: Global, level: u32, m: &[u8], p: usize) -> Reached<Spanned>
+    requires { p ≤ length m.now }
+    ensures steps { GivesAt (λ x. body_in m.now x) m.now result (step (bodies.body_type (bodies.body level)) (drop p m.now)) }
+    ensures ahead { Ahead m.now p result }
+    ensures rests { RestsOn body_in result }
+{
+    first!(body_type_text(alloc, m, p));
+    first!(body_type_msg(alloc, level, m, p));
+    first!(body_type_basic(alloc, m, p));
+    body_type_mpart(alloc, level, m, p)
+}
+
+/// A message (RFC 3501, section 9: body-type-msg).
+#[cycle(body)]
+#[tactic(auto, unfolding(crate::specs::Bodies::body_type_msg))]
+fn body_type_msg(alloc: Global, level: u32, m: &[u8], p: usize) -> Reached<Spanned>
+    requires { p ≤ length m.now }
+    ensures steps { GivesAt (λ x. body_in m.now x) m.now result (step (bodies.body_type_msg (bodies.body level)) (drop p m.now)) }
+    ensures ahead { Ahead m.now p result }
+    ensures rests { RestsOn body_in result }
+{
+    let (p, _) = message_word(m, p)?;
+    let (p, fields) = spaced_fields(alloc, m, p)?;
+    let (p, envelope) = spaced_envelope(alloc, m, p)?;
+    let (p, inner) = spaced_body(alloc, level, m, p)?;
+    let (p, lines) = spaced_number(m, p)?;
+    let (p, ext) = body_ext_1part(alloc, m, p)?;
+    let body = Box::new(alloc, inner)?;
+    Ok((
+        p,
+        BodyStructure::Message {
+            common: BodyContentCommon {
+                ty: ContentType {
+                    ty: SpannedText::Message,
+                    subtype: SpannedText::Rfc822,
+                    params: fields.param,
+                },
+                disposition: ext.disposition,
+                language: ext.language,
+                location: ext.location,
+            },
+            other: BodyContentSinglePart {
+                id: fields.id,
+                md5: ext.md5,
+                description: fields.description,
+                transfer_encoding: fields.transfer_encoding,
+                octets: fields.octets,
+            },
+            envelope,
+            body,
+            lines,
+            extension: ext.extension,
+        },
+    ))
+}
+
+#[cycle(body)]
+fn spaced_body(alloc: Global, level: u32, m: &[u8], p: usize) -> Reached<Spanned>
+    requires { p ≤ length m.now }
+    ensures steps { GivesAt (λ x. body_in m.now x) m.now result (step (spaced (bodies.body level)) (drop p m.now)) }
+    ensures ahead { Ahead m.now p result }
+    ensures rests { RestsOn body_in result }
+{
+    let (p, _) = tag(b" ", m, p)?;
+    body(alloc, level, m, p)
+}
+
+/// Several parts (RFC 3501, section 9: body-type-mpart).
+#[cycle(body)]
+#[tactic(auto, unfolding(crate::specs::Bodies::body_type_mpart))]
+fn body_type_mpart(alloc: Global, level: u32, m: &[u8], p: usize) -> Reached<Spanned>
+    requires { p ≤ length m.now }
+    ensures steps { GivesAt (λ x. body_in m.now x) m.now result (step (bodies.body_type_mpart (bodies.body level)) (drop p m.now)) }
+    ensures ahead { Ahead m.now p result }
+    ensures rests { RestsOn body_in result }
+{
+    let (p, bodies) = some_bodies(alloc, level, m, p)?;
+    let (p, subtype) = spaced_string_text(m, p)?;
+    let (p, ext) = body_ext_mpart(alloc, m, p)?;
+    Ok((
+        p,
+        BodyStructure::Multipart {
+            common: BodyContentCommon {
+                ty: ContentType {
+                    ty: SpannedText::Multipart,
+                    subtype,
+                    params: ext.param,
+                },
+                disposition: ext.disposition,
+                language: ext.language,
+                location: ext.location,
+            },
+            bodies,
+            extension: ext.extension,
+        },
+    ))
+}
+
+#[cycle(body)]
+#[tactic(auto, unfolding(crate::specs::Bodies::some_bodies))]
+fn some_bodies(alloc: Global, level: u32, m: &[u8], p: usize) -> Reached<Vec<Spanned>>
+    requires { p ≤ length m.now }
+    ensures steps { GivesAt (λ x. map (body_in m.now) x.items) m.now result (step (bodies.some_bodies (bodies.body level)) (drop p m.now)) }
+    ensures ahead { Ahead m.now p result }
+    ensures rests { RestsOn (λ n x. map (body_in n) x.items) result }
+{
+    let (mut q, first) = body(alloc, level, m, p)?;
+    let mut items = list_of_one(alloc, first)?;
+    'bodies: loop {
+        let (after, next) = next_body(alloc, level, m, q)?;
+        match next {
+            None => return Ok((q, items)),
+            Some(body) => {
+                items.push(body)?;
+                q = after;
+            }
+        }
+    }
+}
+
+#[cycle(body)]
+fn next_body(alloc: Global, level: u32, m: &[u8], p: usize) -> Reached<Option<Spanned>>
+    requires { p ≤ length m.now }
+    ensures steps { GivesAt (λ x. option_map (body_in m.now) x) m.now result (step (opt (bodies.body level)) (drop p m.now)) }
+    ensures ahead { Ahead m.now p result }
+    ensures rests { RestsOn (λ n x. option_map (body_in n) x) result }
+{
+    match body(alloc, level, m, p) {
+        Ok((q, body)) => Ok((q, Some(body))),
+        Err(Err::Error) => Ok((p, None)),
+        Err(e) => Err(e),
+    }
+}
+
+/// A body, up to `MAX_BODY_DEPTH` inside one another (RFC 3501, section 9: body).
+#[tactic(auto, unfolding(crate::specs::Bodies::body_structure))]
+pub fn body_structure(alloc: Global, m: &[u8], p: usize) -> Reached<Spanned>
+    requires { p ≤ length m.now }
+    ensures steps { GivesAt (λ x. body_in m.now x) m.now result (step bodies.body_structure (drop p m.now)) }
+    ensures ahead { Ahead m.now p result }
+    ensures rests { RestsOn body_in result }
+{
+    body(alloc, MAX_BODY_DEPTH, m, p)
+}

@@ -1,0 +1,161 @@
+//! Envelopes at a position, their byte strings as spans.
+
+ghost use Rattle.std.specs.Prelude.{◌≤◌, length, drop, map};
+ghost use Rattle.std.specs.Option.{option_map};
+ghost use Rattle.imap_grammar.specs.Positions.{ExactlyAt, GivesAt, Ahead, RestsOn};
+ghost use Rattle.imap_grammar.specs.Step.{step};
+ghost use Rattle.imap_grammar.specs.Rule.{opt};
+ghost use Rattle.imap_structure.specs.Envelopes as envelopes;
+ghost use Rattle.imap_structure.specs.Envelopes.{spaced};
+ghost use Rattle.imap_structure.specs.Spanned.{address_in, addresses_in, envelope_in};
+
+use crate::at::Reached;
+use crate::at::lists::list_of_one;
+use crate::at::texts::{byte_string, spaced_byte_string};
+use imap_bytes::Err;
+use imap_bytes::at::strings::nil;
+use imap_bytes::at::tags::tag;
+use imap_shapes::shapes::envelopes::{Address, Envelope};
+use imap_shapes::spans::Span;
+use std::alloc::Global;
+
+/// An address (RFC 3501, section 9: address). No memory.
+#[tactic(auto, unfolding(crate::specs::Envelopes::address))]
+pub fn address(m: &[u8], p: usize) -> Reached<Address<Span>>
+    requires { p ≤ length m.now }
+    ensures steps { ExactlyAt (λ x. address_in m.now x) m.now result (step envelopes.address (drop p m.now)) }
+    ensures ahead { Ahead m.now p result }
+    ensures rests { RestsOn address_in result }
+{
+    let (p, _) = tag(b"(", m, p)?;
+    let (p, name) = byte_string(m, p)?;
+    let (p, adl) = spaced_byte_string(m, p)?;
+    let (p, mailbox) = spaced_byte_string(m, p)?;
+    let (p, host) = spaced_byte_string(m, p)?;
+    let (p, _) = tag(b")", m, p)?;
+    Ok((
+        p,
+        Address {
+            name,
+            adl,
+            mailbox,
+            host,
+        },
+    ))
+}
+
+// An address, and maybe a space.
+#[tactic(auto, unfolding(crate::specs::Envelopes::listed_address))]
+fn listed_address(m: &[u8], p: usize) -> Reached<Address<Span>>
+    requires { p ≤ length m.now }
+    ensures steps { ExactlyAt (λ x. address_in m.now x) m.now result (step envelopes.listed_address (drop p m.now)) }
+    ensures ahead { Ahead m.now p result }
+    ensures rests { RestsOn address_in result }
+{
+    let (q, address) = address(m, p)?;
+    match tag(b" ", m, q) {
+        Ok((r, _)) => Ok((r, address)),
+        Err(Err::Error) => Ok((q, address)),
+        Err(e) => Err(e),
+    }
+}
+
+fn next_address(m: &[u8], p: usize) -> Reached<Option<Address<Span>>>
+    requires { p ≤ length m.now }
+    ensures steps { ExactlyAt (λ x. option_map (address_in m.now) x) m.now result (step (opt envelopes.listed_address) (drop p m.now)) }
+    ensures ahead { Ahead m.now p result }
+    ensures rests { RestsOn (λ n x. option_map (address_in n) x) result }
+{
+    match listed_address(m, p) {
+        Ok((q, address)) => Ok((q, Some(address))),
+        Err(Err::Error) => Ok((p, None)),
+        Err(e) => Err(e),
+    }
+}
+
+#[tactic(auto, unfolding(crate::specs::Envelopes::some_addresses))]
+fn some_addresses(alloc: Global, m: &[u8], p: usize) -> Reached<Vec<Address<Span>>>
+    requires { p ≤ length m.now }
+    ensures steps { GivesAt (λ x. map (address_in m.now) x.items) m.now result (step envelopes.some_addresses (drop p m.now)) }
+    ensures ahead { Ahead m.now p result }
+    ensures rests { RestsOn (λ n x. map (address_in n) x.items) result }
+{
+    let (mut q, first) = listed_address(m, p)?;
+    let mut items = list_of_one(alloc, first)?;
+    'addresses: loop {
+        let (after, next) = next_address(m, q)?;
+        match next {
+            None => return Ok((q, items)),
+            Some(address) => {
+                items.push(address)?;
+                q = after;
+            }
+        }
+    }
+}
+
+/// `NIL`, or addresses in parentheses (RFC 3501, section 9: env-from).
+#[tactic(auto, unfolding(crate::specs::Envelopes::addresses))]
+fn addresses(alloc: Global, m: &[u8], p: usize) -> Reached<Option<Vec<Address<Span>>>>
+    requires { p ≤ length m.now }
+    ensures steps { GivesAt (λ x. addresses_in m.now x) m.now result (step envelopes.addresses (drop p m.now)) }
+    ensures ahead { Ahead m.now p result }
+    ensures rests { RestsOn addresses_in result }
+{
+    match nil(m, p) {
+        Ok((q, _)) => return Ok((q, None)),
+        Err(Err::Error) => {}
+        Err(e) => return Err(e),
+    }
+    let (q, _) = tag(b"(", m, p)?;
+    let (q, list) = some_addresses(alloc, m, q)?;
+    let (q, _) = tag(b")", m, q)?;
+    Ok((q, Some(list)))
+}
+
+fn spaced_addresses(alloc: Global, m: &[u8], p: usize) -> Reached<Option<Vec<Address<Span>>>>
+    requires { p ≤ length m.now }
+    ensures steps { GivesAt (λ x. addresses_in m.now x) m.now result (step (spaced envelopes.addresses) (drop p m.now)) }
+    ensures ahead { Ahead m.now p result }
+    ensures rests { RestsOn addresses_in result }
+{
+    let (p, _) = tag(b" ", m, p)?;
+    addresses(alloc, m, p)
+}
+
+/// An envelope (RFC 3501, section 9: envelope). It takes memory for its lists of addresses.
+#[tactic(auto, unfolding(crate::specs::Envelopes::envelope, imap_shapes::specs::EnvelopeValues::envelope_seen))]
+pub fn envelope(alloc: Global, m: &[u8], p: usize) -> Reached<Envelope<Span>>
+    requires { p ≤ length m.now }
+    ensures steps { GivesAt (λ x. envelope_in m.now x) m.now result (step envelopes.envelope (drop p m.now)) }
+    ensures ahead { Ahead m.now p result }
+    ensures rests { RestsOn envelope_in result }
+{
+    let (p, _) = tag(b"(", m, p)?;
+    let (p, date) = byte_string(m, p)?;
+    let (p, subject) = spaced_byte_string(m, p)?;
+    let (p, from) = spaced_addresses(alloc, m, p)?;
+    let (p, sender) = spaced_addresses(alloc, m, p)?;
+    let (p, reply_to) = spaced_addresses(alloc, m, p)?;
+    let (p, to) = spaced_addresses(alloc, m, p)?;
+    let (p, cc) = spaced_addresses(alloc, m, p)?;
+    let (p, bcc) = spaced_addresses(alloc, m, p)?;
+    let (p, in_reply_to) = spaced_byte_string(m, p)?;
+    let (p, message_id) = spaced_byte_string(m, p)?;
+    let (p, _) = tag(b")", m, p)?;
+    Ok((
+        p,
+        Envelope {
+            date,
+            subject,
+            from,
+            sender,
+            reply_to,
+            to,
+            cc,
+            bcc,
+            in_reply_to,
+            message_id,
+        },
+    ))
+}

@@ -1,0 +1,415 @@
+//! Extension data of bodies at a position.
+
+ghost use Rattle.std.specs.Prelude.{◌≡◌, ◌≤◌, length, drop, map, IfOk};
+ghost use Rattle.imap_grammar.specs.Text.{Bytes};
+ghost use Rattle.std.specs.Option.{option_map};
+ghost use Rattle.imap_grammar.specs.Positions.{ExactlyAt, GivesAt, Ahead, RestsOn};
+ghost use Rattle.imap_grammar.specs.Step.{step};
+ghost use Rattle.imap_grammar.specs.Rule.{opt};
+ghost use Rattle.imap_bytes.specs.Texts as texts;
+ghost use Rattle.imap_structure.specs.Envelopes.{spaced};
+ghost use Rattle.imap_structure.specs.Fields as fields;
+ghost use Rattle.imap_structure.specs.Extensions as extensions;
+ghost use Rattle.imap_structure.specs.Extensions.{maybe_spaced};
+ghost use Rattle.imap_shapes.specs.Spans.{text_in};
+ghost use Rattle.imap_structure.specs.Spanned.{maybe_text_in, params_in, disposition_in, languages_in, extension_in, maybe_extension_in, ext_1part_in, ext_mpart_in};
+
+use crate::at::Reached;
+use crate::at::fields::body_fld_param;
+use crate::at::lists::list_of_one;
+use crate::at::texts::{nstring_text, spaced_nstring_text, spaced_string_text, string_text};
+use crate::limits::MAX_EXTENSION_DEPTH;
+use imap_bytes::at::numbers::number;
+use imap_bytes::at::strings::nil;
+use imap_bytes::at::tags::{blanks0, tag};
+use imap_bytes::{Err, first};
+use imap_shapes::shapes::extensions::{
+    BodyExt1Part, BodyExtMPart, BodyExtension, ContentDisposition,
+};
+use imap_shapes::shapes::fields::BodyParams;
+use imap_shapes::spans::SpannedText;
+use std::alloc::{AllocError, Global};
+
+fn spaced_params(alloc: Global, m: &[u8], p: usize) -> Reached<BodyParams<SpannedText>>
+    requires { p ≤ length m.now }
+    ensures steps { GivesAt (λ x. params_in m.now x) m.now result (step (spaced fields.body_fld_param) (drop p m.now)) }
+    ensures ahead { Ahead m.now p result }
+    ensures rests { RestsOn params_in result }
+{
+    let (p, _) = tag(b" ", m, p)?;
+    body_fld_param(alloc, m, p)
+}
+
+/// `NIL`, or a disposition in parentheses (RFC 3501, section 9: body-fld-dsp).
+#[tactic(auto, unfolding(crate::specs::Extensions::body_fld_dsp))]
+fn body_fld_dsp(
+    alloc: Global,
+    m: &[u8],
+    p: usize,
+) -> Reached<Option<ContentDisposition<SpannedText>>>
+    requires { p ≤ length m.now }
+    ensures steps { GivesAt (λ x. disposition_in m.now x) m.now result (step extensions.body_fld_dsp (drop p m.now)) }
+    ensures ahead { Ahead m.now p result }
+    ensures rests { RestsOn disposition_in result }
+{
+    match nil(m, p) {
+        Ok((q, _)) => return Ok((q, None)),
+        Err(Err::Error) => {}
+        Err(e) => return Err(e),
+    }
+    let (q, _) = tag(b"(", m, p)?;
+    let (q, ty) = string_text(m, q)?;
+    let (q, params) = spaced_params(alloc, m, q)?;
+    let (q, _) = tag(b")", m, q)?;
+    Ok((q, Some(ContentDisposition { ty, params })))
+}
+
+// ---- languages
+
+fn next_language(m: &[u8], p: usize) -> Reached<Option<SpannedText>>
+    requires { p ≤ length m.now }
+    ensures steps { ExactlyAt (λ x. option_map (text_in m.now) x) m.now result (step (opt (spaced texts.string_utf8)) (drop p m.now)) }
+    ensures ahead { Ahead m.now p result }
+    ensures rests { RestsOn (λ n x. option_map (text_in n) x) result }
+{
+    match spaced_string_text(m, p) {
+        Ok((q, language)) => Ok((q, Some(language))),
+        Err(Err::Error) => Ok((p, None)),
+        Err(e) => Err(e),
+    }
+}
+
+#[tactic(auto, unfolding(crate::specs::Extensions::some_languages))]
+fn some_languages(alloc: Global, m: &[u8], p: usize) -> Reached<Vec<SpannedText>>
+    requires { p ≤ length m.now }
+    ensures steps { GivesAt (λ x. map (text_in m.now) x.items) m.now result (step extensions.some_languages (drop p m.now)) }
+    ensures ahead { Ahead m.now p result }
+    ensures rests { RestsOn (λ n x. map (text_in n) x.items) result }
+{
+    let (mut q, first) = string_text(m, p)?;
+    let mut items = list_of_one(alloc, first)?;
+    'languages: loop {
+        let (after, next) = next_language(m, q)?;
+        match next {
+            None => return Ok((q, items)),
+            Some(language) => {
+                items.push(language)?;
+                q = after;
+            }
+        }
+    }
+}
+
+#[tactic(auto, unfolding(crate::specs::Extensions::language_list))]
+fn language_list(alloc: Global, m: &[u8], p: usize) -> Reached<Option<Vec<SpannedText>>>
+    requires { p ≤ length m.now }
+    ensures steps { GivesAt (λ x. languages_in m.now x) m.now result (step extensions.language_list (drop p m.now)) }
+    ensures ahead { Ahead m.now p result }
+    ensures rests { RestsOn languages_in result }
+{
+    let (p, _) = tag(b"(", m, p)?;
+    let (p, languages) = some_languages(alloc, m, p)?;
+    let (p, _) = blanks0(m, p)?;
+    let (p, _) = tag(b")", m, p)?;
+    Ok((p, Some(languages)))
+}
+
+// A list of one, where there is one.
+fn single(
+    alloc: Global,
+    language: Option<SpannedText>,
+) -> Result<Option<Vec<SpannedText>>, AllocError>
+    ensures { IfOk result (λ x. (m : Bytes) → languages_in m x ≡ extensions.single (maybe_text_in m language)) }
+{
+    match language {
+        None => Ok(None),
+        Some(language) => Ok(Some(list_of_one(alloc, language)?)),
+    }
+}
+
+/// `NIL`, a language, or languages in parentheses (RFC 3501, section 9: body-fld-lang).
+#[tactic(auto, unfolding(crate::specs::Extensions::body_fld_lang))]
+fn body_fld_lang(alloc: Global, m: &[u8], p: usize) -> Reached<Option<Vec<SpannedText>>>
+    requires { p ≤ length m.now }
+    ensures steps { GivesAt (λ x. languages_in m.now x) m.now result (step extensions.body_fld_lang (drop p m.now)) }
+    ensures ahead { Ahead m.now p result }
+    ensures rests { RestsOn languages_in result }
+{
+    match nstring_text(m, p) {
+        Ok((q, language)) => Ok((q, single(alloc, language)?)),
+        Err(Err::Error) => language_list(alloc, m, p),
+        Err(e) => Err(e),
+    }
+}
+
+// ---- extensions
+
+/// Extension data, with up to `level` lists inside one another (RFC 3501, section 9: body-extension).
+#[cycle(extension)]
+#[tactic(auto, using(crate::proofs::Seeing::number_seen, crate::proofs::Seeing::string_seen), unfolding(crate::specs::Extensions::extension_over))]
+pub fn extension(
+    alloc: Global,
+    level: u32,
+    m: &[u8],
+    p: usize,
+) -> Reached<BodyExtension<SpannedText>>
+    requires { p ≤ length m.now }
+    ensures steps { GivesAt (λ x. extension_in m.now x) m.now result (step (extensions.extension level) (drop p m.now)) }
+    ensures ahead { Ahead m.now p result }
+    ensures rests { RestsOn extension_in result }
+{
+    match number(m, p) {
+        Ok((q, n)) => return Ok((q, BodyExtension::Num(n))),
+        Err(Err::Error) => {}
+        Err(e) => return Err(e),
+    }
+    match nstring_text(m, p) {
+        Ok((q, text)) => Ok((q, BodyExtension::Str(text))),
+        Err(Err::Error) => extension_list(alloc, level, m, p),
+        Err(e) => Err(e),
+    }
+}
+
+// A list in parentheses. At level 0 it denies without looking.
+#[cycle(extension)]
+fn extension_list(
+    alloc: Global,
+    level: u32,
+    m: &[u8],
+    p: usize,
+) -> Reached<BodyExtension<SpannedText>>
+    requires { p ≤ length m.now }
+    ensures steps { GivesAt (λ x. extension_in m.now x) m.now result (step (extensions.extension_list level) (drop p m.now)) }
+    ensures ahead { Ahead m.now p result }
+    ensures rests { RestsOn extension_in result }
+{
+    if level == 0 {
+        return Err(Err::Error);
+    }
+    bracketed_extensions(alloc, level - 1, m, p)
+}
+
+#[cycle(extension)]
+#[tactic(auto, using(imap_shapes::proofs::Trees::extension_list_seen), unfolding(crate::specs::Extensions::bracketed_extensions))]
+fn bracketed_extensions(
+    alloc: Global,
+    level: u32,
+    m: &[u8],
+    p: usize,
+) -> Reached<BodyExtension<SpannedText>>
+    requires { p ≤ length m.now }
+    ensures steps { GivesAt (λ x. extension_in m.now x) m.now result (step (extensions.bracketed_extensions (extensions.extension_list level)) (drop p m.now)) }
+    ensures ahead { Ahead m.now p result }
+    ensures rests { RestsOn extension_in result }
+{
+    let (p, _) = tag(b"(", m, p)?;
+    let (p, members) = some_extensions(alloc, level, m, p)?;
+    let (p, _) = blanks0(m, p)?;
+    let (p, _) = tag(b")", m, p)?;
+    Ok((p, BodyExtension::List(members)))
+}
+
+#[cycle(extension)]
+#[tactic(auto, unfolding(crate::specs::Extensions::some_extensions))]
+fn some_extensions(
+    alloc: Global,
+    level: u32,
+    m: &[u8],
+    p: usize,
+) -> Reached<Vec<BodyExtension<SpannedText>>>
+    requires { p ≤ length m.now }
+    ensures steps { GivesAt (λ x. map (extension_in m.now) x.items) m.now result (step (extensions.some_extensions (extensions.extension_list level)) (drop p m.now)) }
+    ensures ahead { Ahead m.now p result }
+    ensures rests { RestsOn (λ n x. map (extension_in n) x.items) result }
+{
+    let (mut q, first) = extension(alloc, level, m, p)?;
+    let mut items = list_of_one(alloc, first)?;
+    'extensions: loop {
+        let (after, next) = next_extension(alloc, level, m, q)?;
+        match next {
+            None => return Ok((q, items)),
+            Some(extension) => {
+                items.push(extension)?;
+                q = after;
+            }
+        }
+    }
+}
+
+#[cycle(extension)]
+fn next_extension(
+    alloc: Global,
+    level: u32,
+    m: &[u8],
+    p: usize,
+) -> Reached<Option<BodyExtension<SpannedText>>>
+    requires { p ≤ length m.now }
+    ensures steps { GivesAt (λ x. maybe_extension_in m.now x) m.now result (step (opt (spaced (extensions.extension level))) (drop p m.now)) }
+    ensures ahead { Ahead m.now p result }
+    ensures rests { RestsOn maybe_extension_in result }
+{
+    match spaced_extension(alloc, level, m, p) {
+        Ok((q, extension)) => Ok((q, Some(extension))),
+        Err(Err::Error) => Ok((p, None)),
+        Err(e) => Err(e),
+    }
+}
+
+#[cycle(extension)]
+fn spaced_extension(
+    alloc: Global,
+    level: u32,
+    m: &[u8],
+    p: usize,
+) -> Reached<BodyExtension<SpannedText>>
+    requires { p ≤ length m.now }
+    ensures steps { GivesAt (λ x. extension_in m.now x) m.now result (step (spaced (extensions.extension level)) (drop p m.now)) }
+    ensures ahead { Ahead m.now p result }
+    ensures rests { RestsOn extension_in result }
+{
+    let (p, _) = tag(b" ", m, p)?;
+    extension(alloc, level, m, p)
+}
+
+/// Extension data, up to `MAX_EXTENSION_DEPTH` lists inside one another (RFC 3501, section 9: body-extension).
+#[tactic(auto, unfolding(crate::specs::Extensions::body_extension))]
+pub fn body_extension(alloc: Global, m: &[u8], p: usize) -> Reached<BodyExtension<SpannedText>>
+    requires { p ≤ length m.now }
+    ensures steps { GivesAt (λ x. extension_in m.now x) m.now result (step extensions.body_extension (drop p m.now)) }
+    ensures ahead { Ahead m.now p result }
+    ensures rests { RestsOn extension_in result }
+{
+    extension(alloc, MAX_EXTENSION_DEPTH, m, p)
+}
+
+// ---- fields behind a space, each skipped with its space where it is denied
+
+fn maybe_nstring_text(m: &[u8], p: usize) -> Reached<Option<SpannedText>>
+    requires { p ≤ length m.now }
+    ensures steps { ExactlyAt (λ x. maybe_text_in m.now x) m.now result (step (maybe_spaced texts.nstring_utf8) (drop p m.now)) }
+    ensures ahead { Ahead m.now p result }
+    ensures rests { RestsOn maybe_text_in result }
+{
+    first!(spaced_nstring_text(m, p));
+    Ok((p, None))
+}
+
+fn maybe_params(alloc: Global, m: &[u8], p: usize) -> Reached<BodyParams<SpannedText>>
+    requires { p ≤ length m.now }
+    ensures steps { GivesAt (λ x. params_in m.now x) m.now result (step (maybe_spaced fields.body_fld_param) (drop p m.now)) }
+    ensures ahead { Ahead m.now p result }
+    ensures rests { RestsOn params_in result }
+{
+    first!(spaced_params(alloc, m, p));
+    Ok((p, None))
+}
+
+fn spaced_disposition(
+    alloc: Global,
+    m: &[u8],
+    p: usize,
+) -> Reached<Option<ContentDisposition<SpannedText>>>
+    requires { p ≤ length m.now }
+    ensures steps { GivesAt (λ x. disposition_in m.now x) m.now result (step (spaced extensions.body_fld_dsp) (drop p m.now)) }
+    ensures ahead { Ahead m.now p result }
+    ensures rests { RestsOn disposition_in result }
+{
+    let (p, _) = tag(b" ", m, p)?;
+    body_fld_dsp(alloc, m, p)
+}
+
+fn maybe_disposition(
+    alloc: Global,
+    m: &[u8],
+    p: usize,
+) -> Reached<Option<ContentDisposition<SpannedText>>>
+    requires { p ≤ length m.now }
+    ensures steps { GivesAt (λ x. disposition_in m.now x) m.now result (step (maybe_spaced extensions.body_fld_dsp) (drop p m.now)) }
+    ensures ahead { Ahead m.now p result }
+    ensures rests { RestsOn disposition_in result }
+{
+    first!(spaced_disposition(alloc, m, p));
+    Ok((p, None))
+}
+
+fn spaced_languages(alloc: Global, m: &[u8], p: usize) -> Reached<Option<Vec<SpannedText>>>
+    requires { p ≤ length m.now }
+    ensures steps { GivesAt (λ x. languages_in m.now x) m.now result (step (spaced extensions.body_fld_lang) (drop p m.now)) }
+    ensures ahead { Ahead m.now p result }
+    ensures rests { RestsOn languages_in result }
+{
+    let (p, _) = tag(b" ", m, p)?;
+    body_fld_lang(alloc, m, p)
+}
+
+fn maybe_languages(alloc: Global, m: &[u8], p: usize) -> Reached<Option<Vec<SpannedText>>>
+    requires { p ≤ length m.now }
+    ensures steps { GivesAt (λ x. languages_in m.now x) m.now result (step (maybe_spaced extensions.body_fld_lang) (drop p m.now)) }
+    ensures ahead { Ahead m.now p result }
+    ensures rests { RestsOn languages_in result }
+{
+    first!(spaced_languages(alloc, m, p));
+    Ok((p, None))
+}
+
+#[tactic(auto, unfolding(crate::specs::Extensions::last_extension, crate::specs::Extensions::body_extension))]
+fn last_extension(alloc: Global, m: &[u8], p: usize) -> Reached<Option<BodyExtension<SpannedText>>>
+    requires { p ≤ length m.now }
+    ensures steps { GivesAt (λ x. maybe_extension_in m.now x) m.now result (step extensions.last_extension (drop p m.now)) }
+    ensures ahead { Ahead m.now p result }
+    ensures rests { RestsOn maybe_extension_in result }
+{
+    next_extension(alloc, MAX_EXTENSION_DEPTH, m, p)
+}
+
+/// Extension data of a single part (RFC 3501, section 9: body-ext-1part).
+///
+/// A field that is denied is skipped with its space. It takes memory for lists.
+#[tactic(auto, unfolding(crate::specs::Extensions::body_ext_1part, imap_shapes::specs::ExtensionValues::ext_1part_seen))]
+pub fn body_ext_1part(alloc: Global, m: &[u8], p: usize) -> Reached<BodyExt1Part<SpannedText>>
+    requires { p ≤ length m.now }
+    ensures steps { GivesAt (λ x. ext_1part_in m.now x) m.now result (step extensions.body_ext_1part (drop p m.now)) }
+    ensures ahead { Ahead m.now p result }
+    ensures rests { RestsOn ext_1part_in result }
+{
+    let (p, md5) = maybe_nstring_text(m, p)?;
+    let (p, disposition) = maybe_disposition(alloc, m, p)?;
+    let (p, language) = maybe_languages(alloc, m, p)?;
+    let (p, location) = maybe_nstring_text(m, p)?;
+    let (p, extension) = last_extension(alloc, m, p)?;
+    Ok((
+        p,
+        BodyExt1Part {
+            md5,
+            disposition,
+            language,
+            location,
+            extension,
+        },
+    ))
+}
+
+/// Extension data of a multipart, in the same way (RFC 3501, section 9: body-ext-mpart).
+#[tactic(auto, unfolding(crate::specs::Extensions::body_ext_mpart, imap_shapes::specs::ExtensionValues::ext_mpart_seen))]
+pub fn body_ext_mpart(alloc: Global, m: &[u8], p: usize) -> Reached<BodyExtMPart<SpannedText>>
+    requires { p ≤ length m.now }
+    ensures steps { GivesAt (λ x. ext_mpart_in m.now x) m.now result (step extensions.body_ext_mpart (drop p m.now)) }
+    ensures ahead { Ahead m.now p result }
+    ensures rests { RestsOn ext_mpart_in result }
+{
+    let (p, param) = maybe_params(alloc, m, p)?;
+    let (p, disposition) = maybe_disposition(alloc, m, p)?;
+    let (p, language) = maybe_languages(alloc, m, p)?;
+    let (p, location) = maybe_nstring_text(m, p)?;
+    let (p, extension) = last_extension(alloc, m, p)?;
+    Ok((
+        p,
+        BodyExtMPart {
+            param,
+            disposition,
+            language,
+            location,
+            extension,
+        },
+    ))
+}

@@ -1,0 +1,243 @@
+//! Parameters, encodings and fields of bodies at a position.
+
+ghost use Rattle.std.specs.Prelude.{◌≤◌, length, drop, map};
+ghost use Rattle.std.specs.Option.{option_map};
+ghost use Rattle.imap_grammar.specs.Positions.{ExactlyAt, GivesAt, Ahead, RestsOn};
+ghost use Rattle.imap_grammar.specs.Step.{step};
+ghost use Rattle.imap_grammar.specs.Rule.{opt, gives};
+ghost use Rattle.imap_grammar.specs.Tags as tags;
+ghost use Rattle.imap_bytes.specs.Texts as texts;
+ghost use Rattle.imap_shapes.specs.declared.shapes.fields.ContentEncoding.TheVariants as encoding;
+ghost use Rattle.imap_structure.specs.Envelopes.{spaced};
+ghost use Rattle.imap_structure.specs.Fields as fields;
+ghost use Rattle.imap_structure.specs.Spanned.{pair_in, params_in, encoding_in, fields_in};
+
+use crate::at::Reached;
+use crate::at::lists::list_of_one;
+use crate::at::texts::{spaced_nstring_text, spaced_number, spaced_string_text, string_text};
+use imap_bytes::at::strings::nil;
+use imap_bytes::at::tags::{blanks0, tag, word};
+use imap_bytes::{Err, first};
+use imap_shapes::shapes::fields::{BodyFields, BodyParams, ContentEncoding};
+use imap_shapes::spans::SpannedText;
+use std::alloc::Global;
+
+#[tactic(auto, unfolding(crate::specs::Fields::body_param))]
+fn param(m: &[u8], p: usize) -> Reached<(SpannedText, SpannedText)>
+    requires { p ≤ length m.now }
+    ensures steps { ExactlyAt (λ x. pair_in m.now x) m.now result (step fields.body_param (drop p m.now)) }
+    ensures ahead { Ahead m.now p result }
+    ensures rests { RestsOn pair_in result }
+{
+    let (p, key) = string_text(m, p)?;
+    let (p, value) = spaced_string_text(m, p)?;
+    Ok((p, (key, value)))
+}
+
+fn spaced_param(m: &[u8], p: usize) -> Reached<(SpannedText, SpannedText)>
+    requires { p ≤ length m.now }
+    ensures steps { ExactlyAt (λ x. pair_in m.now x) m.now result (step (spaced fields.body_param) (drop p m.now)) }
+    ensures ahead { Ahead m.now p result }
+    ensures rests { RestsOn pair_in result }
+{
+    let (p, _) = tag(b" ", m, p)?;
+    param(m, p)
+}
+
+fn next_param(m: &[u8], p: usize) -> Reached<Option<(SpannedText, SpannedText)>>
+    requires { p ≤ length m.now }
+    ensures steps { ExactlyAt (λ x. option_map (pair_in m.now) x) m.now result (step (opt (spaced fields.body_param)) (drop p m.now)) }
+    ensures ahead { Ahead m.now p result }
+    ensures rests { RestsOn (λ n x. option_map (pair_in n) x) result }
+{
+    match spaced_param(m, p) {
+        Ok((q, param)) => Ok((q, Some(param))),
+        Err(Err::Error) => Ok((p, None)),
+        Err(e) => Err(e),
+    }
+}
+
+#[tactic(auto, unfolding(crate::specs::Fields::some_params))]
+fn some_params(alloc: Global, m: &[u8], p: usize) -> Reached<Vec<(SpannedText, SpannedText)>>
+    requires { p ≤ length m.now }
+    ensures steps { GivesAt (λ x. map (pair_in m.now) x.items) m.now result (step fields.some_params (drop p m.now)) }
+    ensures ahead { Ahead m.now p result }
+    ensures rests { RestsOn (λ n x. map (pair_in n) x.items) result }
+{
+    let (mut q, first) = param(m, p)?;
+    let mut items = list_of_one(alloc, first)?;
+    'params: loop {
+        let (after, next) = next_param(m, q)?;
+        match next {
+            None => return Ok((q, items)),
+            Some(param) => {
+                items.push(param)?;
+                q = after;
+            }
+        }
+    }
+}
+
+/// `NIL`, or parameters in parentheses (RFC 3501, section 9: body-fld-param).
+#[tactic(auto, unfolding(crate::specs::Fields::body_fld_param))]
+pub fn body_fld_param(alloc: Global, m: &[u8], p: usize) -> Reached<BodyParams<SpannedText>>
+    requires { p ≤ length m.now }
+    ensures steps { GivesAt (λ x. params_in m.now x) m.now result (step fields.body_fld_param (drop p m.now)) }
+    ensures ahead { Ahead m.now p result }
+    ensures rests { RestsOn params_in result }
+{
+    match nil(m, p) {
+        Ok((q, _)) => return Ok((q, None)),
+        Err(Err::Error) => {}
+        Err(e) => return Err(e),
+    }
+    let (q, _) = tag(b"(", m, p)?;
+    let (q, params) = some_params(alloc, m, q)?;
+    let (q, _) = blanks0(m, q)?;
+    let (q, _) = tag(b")", m, q)?;
+    Ok((q, Some(params)))
+}
+
+// Answers `$value` where the word stands at the position, and goes on where it is denied.
+macro_rules! named {
+    ($text:expr, $m:expr, $p:expr, $value:expr) => {
+        match word($text, $m, $p) {
+            Ok((q, _)) => return Ok((q, $value)),
+            Err(Err::Error) => {}
+            Err(e) => return Err(e),
+        }
+    };
+}
+
+fn quoted_printable(m: &[u8], p: usize) -> Reached<ContentEncoding<SpannedText>>
+    requires { p ≤ length m.now }
+    ensures steps { ExactlyAt (λ x. encoding_in m.now x) m.now result (step (tags.names "QUOTED-PRINTABLE" encoding.QuotedPrintable) (drop p m.now)) }
+    ensures ahead { Ahead m.now p result }
+    ensures rests { RestsOn encoding_in result }
+{
+    let (p, _) = word(b"QUOTED-PRINTABLE", m, p)?;
+    Ok((p, ContentEncoding::QuotedPrintable))
+}
+
+#[tactic(auto, unfolding(crate::specs::Fields::coded_encoding))]
+fn coded_encoding(m: &[u8], p: usize) -> Reached<ContentEncoding<SpannedText>>
+    requires { p ≤ length m.now }
+    ensures steps { ExactlyAt (λ x. encoding_in m.now x) m.now result (step fields.coded_encoding (drop p m.now)) }
+    ensures ahead { Ahead m.now p result }
+    ensures rests { RestsOn encoding_in result }
+{
+    named!(b"BASE64", m, p, ContentEncoding::Base64);
+    quoted_printable(m, p)
+}
+
+#[tactic(auto, unfolding(crate::specs::Fields::plain_encoding))]
+fn plain_encoding(m: &[u8], p: usize) -> Reached<ContentEncoding<SpannedText>>
+    requires { p ≤ length m.now }
+    ensures steps { ExactlyAt (λ x. encoding_in m.now x) m.now result (step fields.plain_encoding (drop p m.now)) }
+    ensures ahead { Ahead m.now p result }
+    ensures rests { RestsOn encoding_in result }
+{
+    named!(b"7BIT", m, p, ContentEncoding::SevenBit);
+    named!(b"8BIT", m, p, ContentEncoding::EightBit);
+    let (p, _) = word(b"BINARY", m, p)?;
+    Ok((p, ContentEncoding::Binary))
+}
+
+#[tactic(auto, unfolding(crate::specs::Fields::encoding_name))]
+fn encoding_name(m: &[u8], p: usize) -> Reached<ContentEncoding<SpannedText>>
+    requires { p ≤ length m.now }
+    ensures steps { ExactlyAt (λ x. encoding_in m.now x) m.now result (step fields.encoding_name (drop p m.now)) }
+    ensures ahead { Ahead m.now p result }
+    ensures rests { RestsOn encoding_in result }
+{
+    first!(plain_encoding(m, p));
+    coded_encoding(m, p)
+}
+
+#[tactic(auto, unfolding(crate::specs::Fields::quoted_encoding))]
+fn quoted_encoding(m: &[u8], p: usize) -> Reached<ContentEncoding<SpannedText>>
+    requires { p ≤ length m.now }
+    ensures steps { ExactlyAt (λ x. encoding_in m.now x) m.now result (step fields.quoted_encoding (drop p m.now)) }
+    ensures ahead { Ahead m.now p result }
+    ensures rests { RestsOn encoding_in result }
+{
+    let (p, _) = tag(b"\"", m, p)?;
+    let (p, encoding) = encoding_name(m, p)?;
+    let (p, _) = tag(b"\"", m, p)?;
+    Ok((p, encoding))
+}
+
+fn other_encoding(m: &[u8], p: usize) -> Reached<ContentEncoding<SpannedText>>
+    requires { p ≤ length m.now }
+    ensures steps { ExactlyAt (λ x. encoding_in m.now x) m.now result (step (gives encoding.Other texts.string_utf8) (drop p m.now)) }
+    ensures ahead { Ahead m.now p result }
+    ensures rests { RestsOn encoding_in result }
+{
+    let (p, text) = string_text(m, p)?;
+    Ok((p, ContentEncoding::Other(text)))
+}
+
+/// How a body is encoded; `NIL` is `7BIT` (RFC 3501, section 9: body-fld-enc). No memory.
+#[tactic(auto, unfolding(crate::specs::Fields::body_fld_enc))]
+pub fn body_fld_enc(m: &[u8], p: usize) -> Reached<ContentEncoding<SpannedText>>
+    requires { p ≤ length m.now }
+    ensures steps { ExactlyAt (λ x. encoding_in m.now x) m.now result (step fields.body_fld_enc (drop p m.now)) }
+    ensures ahead { Ahead m.now p result }
+    ensures rests { RestsOn encoding_in result }
+{
+    match nil(m, p) {
+        Ok((q, _)) => return Ok((q, ContentEncoding::SevenBit)),
+        Err(Err::Error) => {}
+        Err(e) => return Err(e),
+    }
+    match quoted_encoding(m, p) {
+        Err(Err::Error) => other_encoding(m, p),
+        other => other,
+    }
+}
+
+fn spaced_encoding(m: &[u8], p: usize) -> Reached<ContentEncoding<SpannedText>>
+    requires { p ≤ length m.now }
+    ensures steps { ExactlyAt (λ x. encoding_in m.now x) m.now result (step (spaced fields.body_fld_enc) (drop p m.now)) }
+    ensures ahead { Ahead m.now p result }
+    ensures rests { RestsOn encoding_in result }
+{
+    let (p, _) = tag(b" ", m, p)?;
+    body_fld_enc(m, p)
+}
+
+/// The fields of a single part (RFC 3501, section 9: body-fields). It takes memory for the parameters.
+#[tactic(auto, unfolding(crate::specs::Fields::body_fields, imap_shapes::specs::FieldValues::fields_seen))]
+pub fn body_fields(alloc: Global, m: &[u8], p: usize) -> Reached<BodyFields<SpannedText>>
+    requires { p ≤ length m.now }
+    ensures steps { GivesAt (λ x. fields_in m.now x) m.now result (step fields.body_fields (drop p m.now)) }
+    ensures ahead { Ahead m.now p result }
+    ensures rests { RestsOn fields_in result }
+{
+    let (p, param) = body_fld_param(alloc, m, p)?;
+    let (p, id) = spaced_nstring_text(m, p)?;
+    let (p, description) = spaced_nstring_text(m, p)?;
+    let (p, transfer_encoding) = spaced_encoding(m, p)?;
+    let (p, octets) = spaced_number(m, p)?;
+    Ok((
+        p,
+        BodyFields {
+            param,
+            id,
+            description,
+            transfer_encoding,
+            octets,
+        },
+    ))
+}
+
+/// The same behind a space.
+pub fn spaced_fields(alloc: Global, m: &[u8], p: usize) -> Reached<BodyFields<SpannedText>>
+    requires { p ≤ length m.now }
+    ensures steps { GivesAt (λ x. fields_in m.now x) m.now result (step (spaced fields.body_fields) (drop p m.now)) }
+    ensures ahead { Ahead m.now p result }
+    ensures rests { RestsOn fields_in result }
+{
+    let (p, _) = tag(b" ", m, p)?;
+    body_fields(alloc, m, p)
+}

@@ -1,0 +1,26 @@
+//! Structures of bodies.
+
+ghost use Rattle.imap_grammar.specs.Answer.{Answers, Gives};
+ghost use Rattle.imap_grammar.specs.Step.{step};
+ghost use Rattle.imap_grammar.specs.Text.{text_of};
+ghost use Rattle.imap_structure.specs.Bodies as bodies;
+ghost use Rattle.imap_shapes.specs.BodyValues.{body_seen};
+ghost use Rattle.imap_shapes.specs.Spans.{bytes_of};
+
+use crate::at;
+use imap_bytes::IResult;
+use imap_bytes::at::span::rest;
+use imap_shapes::BodyStructure;
+use std::alloc::Global;
+
+/// The structure of a body: a text, a message, another single part, or several parts (RFC 3501, section 9: body).
+///
+/// A body inside `MAX_BODY_DEPTH` others is `Error`. It takes memory for the tree, and for texts that are no UTF-8.
+#[tactic(auto, using(imap_grammar::proofs::Agreement::answered))]
+pub fn body_structure(alloc: Global, i: &[u8]) -> IResult<&[u8], BodyStructure<'_>>
+    ensures steps { Gives (λ x. body_seen text_of bytes_of x) result (step bodies.body_structure i.now) }
+    ensures answer { Answers bodies.body_structure (λ x. body_seen text_of bytes_of x) i.now result }
+{
+    let (q, spans) = at::bodies::body_structure(alloc, i, 0)?;
+    Ok((rest(i, q), spans.value(alloc, i)?))
+}

@@ -1,0 +1,25 @@
+//! Extension data of bodies.
+
+ghost use Rattle.imap_grammar.specs.Answer.{Answers, Gives};
+ghost use Rattle.imap_grammar.specs.Step.{step};
+ghost use Rattle.imap_grammar.specs.Text.{text_of};
+ghost use Rattle.imap_structure.specs.Extensions as extensions;
+ghost use Rattle.imap_shapes.specs.ExtensionValues.{extension_seen};
+
+use crate::at;
+use imap_bytes::IResult;
+use imap_bytes::at::span::rest;
+use imap_shapes::BodyExtension;
+use std::alloc::Global;
+
+/// A number, an nstring, or a list of such (RFC 3501, section 9: body-extension).
+///
+/// A list inside `MAX_EXTENSION_DEPTH` others is `Error`. It takes memory for lists, and for texts that are no UTF-8.
+#[tactic(auto, using(imap_grammar::proofs::Agreement::answered))]
+pub fn body_extension(alloc: Global, i: &[u8]) -> IResult<&[u8], BodyExtension<'_>>
+    ensures steps { Gives (λ x. extension_seen text_of x) result (step extensions.body_extension i.now) }
+    ensures answer { Answers extensions.body_extension (λ x. extension_seen text_of x) i.now result }
+{
+    let (q, spans) = at::extensions::body_extension(alloc, i, 0)?;
+    Ok((rest(i, q), spans.value(alloc, i)?))
+}

@@ -1,0 +1,25 @@
+//! Fields of bodies.
+
+ghost use Rattle.imap_grammar.specs.Answer.{Answers, Gives};
+ghost use Rattle.imap_grammar.specs.Step.{step};
+ghost use Rattle.imap_grammar.specs.Text.{text_of};
+ghost use Rattle.imap_structure.specs.Fields as fields;
+ghost use Rattle.imap_shapes.specs.FieldValues.{fields_seen};
+
+use crate::at;
+use imap_bytes::IResult;
+use imap_bytes::at::span::rest;
+use imap_shapes::BodyFields;
+use std::alloc::Global;
+
+/// The fields of a single part: parameters, id, description, encoding and octets (RFC 3501, section 9: body-fields).
+///
+/// It takes memory for the parameters, and for texts that are no UTF-8.
+#[tactic(auto, using(imap_grammar::proofs::Agreement::answered))]
+pub fn body_fields(alloc: Global, i: &[u8]) -> IResult<&[u8], BodyFields<'_>>
+    ensures steps { Gives (λ x. fields_seen text_of x) result (step fields.body_fields i.now) }
+    ensures answer { Answers fields.body_fields (λ x. fields_seen text_of x) i.now result }
+{
+    let (q, spans) = at::fields::body_fields(alloc, i, 0)?;
+    Ok((rest(i, q), spans.value(alloc, i)?))
+}
