@@ -83,7 +83,10 @@ no_word same a m =
 
 no_bytes : {V : Type 0} (same : ℕ → ℕ → Bool) (x : ℕ) (k : List ℕ) (a : Rule V) → step (tag_by same (x ∷ k) ▹ a) [] ≡ Err (Incomplete Unknown)
 unfolding tag_step
-no_bytes same x k a = let one : nat_lt 0 (length (x ∷ k)) ≡ true = lt-ltb _ _ (omega arith) in rw one refl
+no_bytes {V} same x k a =
+    let one : nat_lt 0 (length (x ∷ k)) ≡ true = lt-ltb _ _ (omega arith) in
+    let stop : Step V = Err (Incomplete Unknown) in
+    rw one (refl {a = stop})
 
 -- a word is read as its front and then the rest of it
 pub word_parts : {V : Type 0} (same : ℕ → ℕ → Bool) (k l : List ℕ) (a : Rule V) → SameSteps (tag_by same (k ++ l) ▹ a) (tag_by same k ▹ tag_by same l ▹ a)

@@ -1,12 +1,12 @@
 -- Attributes in a message: what one names, and how those of a list stand one behind another.
-use Rattle.std.proofs.Common.{◌≡◌, ℕ, ◌+◌, ◌-◌, ◌≤◌, List, [], ◌∷◌, ◌++◌, length, take, drop, Result, IfOk, Ok, Err, refl, sym, ap, subst, ◌∙◌, arith, codes}
+use Rattle.std.proofs.Common.{◌≡◌, ℕ, ◌+◌, ◌≤◌, List, [], ◌∷◌, ◌++◌, length, take, drop, Result, IfOk, Ok, Err, sym, ap, subst, ◌∙◌, arith, codes}
 use Rattle.std.proofs.lemmas.List.{drop-drop, length-drop, length-append}
 use Rattle.std.specs.Global.{Vec}
 use Rattle.imap_grammar.specs.Meaning.{Cuts}
 use Rattle.imap_grammar.specs.Rule.{meaning, ◌⨾◌}
 use Rattle.imap_grammar.specs.Step.{step}
 use Rattle.imap_grammar.specs.Tags.{tag, sp, blanks0}
-use Rattle.imap_grammar.specs.Lists.{behind_means, list1_means, nonempty_list_means, or_memory}
+use Rattle.imap_grammar.specs.Lists.{behind_means, nonempty_list_means, or_memory}
 use Rattle.imap_grammar.specs.Positions.{Reached, Rests, between}
 use Rattle.imap_grammar.specs.declared.answer.Err.{Err as Fault}
 use Rattle.imap_grammar.specs.PositionLists.{called_at, FollowsAt}
@@ -14,6 +14,7 @@ use Rattle.imap_grammar.specs.Text.{Bytes}
 use Rattle.imap_grammar.proofs.Agreement.{agrees, shrinks}
 use Rattle.imap_grammar.proofs.Positions.{stepped}
 use Rattle.imap_grammar.proofs.ReadingWords.{exact}
+use Rattle.imap_items.proofs.Spanned.{named_rests}
 use Rattle.imap_body.specs.declared.spanned.SpannedAttribute.{SpannedAttribute}
 use Rattle.imap_body.specs.AttributeValues.{AttributeSpans, AttributeValue, parts_in}
 use Rattle.imap_body.specs.Attributes.{attribute}
@@ -33,6 +34,9 @@ attribute_named m from p size parts is reads rests =
     let left : drop size from ≡ drop (p + size) m = ap (drop size) is ∙ s.0 in
     let named : parts_in from parts ≡ parts_in (between m p (p + size)) parts = sym (rests.same from) ∙ ap (λ n. parts_in n parts) front in
     ap (step attribute) (sym is) ∙ reads ∙ ap (λ k. read k (parts_in from parts)) left ∙ ap (read (drop (p + size) m)) named
+
+pub attribute_rests : (s : SpannedAttribute) (q : ℕ) → s.span.start ≤ s.span.end → s.span.end ≤ q → Rests attribute_in q s
+attribute_rests s q ordered le = record { same = λ m. ap (λ n. parts_in n s.parts) (named_rests s.span q m ordered le) }
 
 -- ---- a list of them
 

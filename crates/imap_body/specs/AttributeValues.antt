@@ -2,14 +2,17 @@
 use Rattle.std.specs.Prelude.{ℕ, List, Option, map}
 use Rattle.std.specs.Option.{option_map}
 use Rattle.std.specs.declared.alloc.Global.{Global}
+use Rattle.std.specs.declared.borrow.CowSlice.{CowSlice}
+use Rattle.std.specs.declared.borrow.CowStr.{CowStr}
 use Rattle.std.specs.declared.boxed.Box.{Box}
-use Rattle.imap_grammar.specs.Text.{Bytes, Text}
+use Rattle.imap_grammar.specs.Text.{Bytes, Text, text_of, lent_text}
 use Rattle.imap_grammar.specs.declared.at.span.Span.{Span}
 use Rattle.imap_items.specs.Spanned.{text_in}
 use Rattle.imap_body.specs.SectionValues.{PathValue, path_value}
+use Rattle.imap_shapes.specs.Lent.{lent_ntext, lent_envelope, lent_body}
 use Rattle.imap_shapes.specs.EnvelopeValues.{EnvelopeValue, envelope_seen}
-use Rattle.imap_shapes.specs.BodyValues.{BodyValue}
-use Rattle.imap_shapes.specs.Spans.{bytes_in}
+use Rattle.imap_shapes.specs.BodyValues.{BodyValue, body_seen}
+use Rattle.imap_shapes.specs.Spans.{bytes_in, bytes_of, text_owned, bytes_owned}
 use Rattle.imap_structure.specs.Spanned.{body_in}
 use Rattle.imap_shapes.specs.declared.shapes.bodies.BodyStructure.{BodyStructure as Structure}
 use Rattle.imap_shapes.specs.declared.spans.SpannedText.{SpannedText}
@@ -63,3 +66,31 @@ AttributeSpans = AttributeParts Span Span (Box (Structure SpannedText Span) Glob
 -- what the spans of an attribute name in m
 abbrev pub parts_in : Bytes → AttributeSpans → AttributeValue
 parts_in m x = attribute_seen (text_in m) (bytes_in m) (λ b. body_in m b.value) x
+
+abbrev pub attribute_value : {Z : Type 0} → AttributeParts (CowStr Z) (CowSlice ℕ Z) (Structure (CowStr Z) (CowSlice ℕ Z)) → AttributeValue
+attribute_value x = attribute_seen text_of bytes_of (body_seen text_of bytes_of) x
+
+-- with all its texts owned
+abbrev pub attribute_owned : {Z : Type 0} → AttributeParts (CowStr Z) (CowSlice ℕ Z) (Structure (CowStr Z) (CowSlice ℕ Z)) → AttributeValue
+attribute_owned x = attribute_seen text_owned bytes_owned (body_seen text_owned bytes_owned) x
+
+-- ---- with all texts borrowed: two values say the same where these are one
+
+abbrev pub lent_attribute : AttributeValue → AttributeValue
+lent_attribute (BodySection section index contents) = BodySection section index (lent_ntext contents)
+lent_attribute (BodyStructure body) = BodyStructure (lent_body body)
+lent_attribute (Envelope envelope) = Envelope (lent_envelope envelope)
+lent_attribute (Flags flags) = Flags (map lent_text flags)
+lent_attribute (InternalDate date) = InternalDate (lent_text date)
+lent_attribute (ModSeq n) = ModSeq n
+lent_attribute (Rfc822 message) = Rfc822 (lent_ntext message)
+lent_attribute (Rfc822Header header) = Rfc822Header (lent_ntext header)
+lent_attribute (Rfc822Size n) = Rfc822Size n
+lent_attribute (Rfc822Text text) = Rfc822Text (lent_ntext text)
+lent_attribute (Uid n) = Uid n
+lent_attribute (GmailLabels labels) = GmailLabels (map lent_text labels)
+lent_attribute (GmailMsgId n) = GmailMsgId n
+lent_attribute (GmailThrId n) = GmailThrId n
+lent_attribute (EmailId id) = EmailId (lent_text id)
+lent_attribute (ThreadId id) = ThreadId (lent_ntext id)
+lent_attribute Unknown = Unknown

@@ -1,11 +1,10 @@
 -- Attributes of a message (RFC 3501, section 9: msg-att, msg-att-dynamic, msg-att-static; RFC 7162, section 7: permsg-modsequence; RFC 8474, section 7; X-GM-EXT-1).
-use Rattle.std.specs.Prelude.{ℕ, Bool, ◌==◌, ◌&&◌, not, List, Option, None, Some}
-use Rattle.std.specs.Option.{option_map}
+use Rattle.std.specs.Prelude.{ℕ, Bool, ◌==◌, ◌&&◌, not, List, Option}
 use Rattle.imap_grammar.specs.Ascii.{space, close_parenthesis}
 use Rattle.imap_grammar.specs.Classes.{is_astring_char}
 use Rattle.imap_grammar.specs.Text.{Bytes, Text, as_text}
 use Rattle.imap_grammar.specs.Rule.{Rule, run0, run1, gives, nothing, opt, dropped, ◌⨾◌, ◌▹◌, ◌◃◌, ◌or◌}
-use Rattle.imap_grammar.specs.Tags.{tag, word, names, sp, maybe_space}
+use Rattle.imap_grammar.specs.Tags.{tag, word, sp, maybe_space}
 use Rattle.imap_grammar.specs.Lists.{nonempty_list_of}
 use Rattle.imap_bytes.specs.Numbers.{number, number_64}
 use Rattle.imap_bytes.specs.Strings.{nil_or, nstring, atom, in_utf8}

@@ -3,6 +3,8 @@
 
 pub mod at;
 pub mod laws;
+mod maps;
+mod owned;
 pub mod readers;
 pub mod spanned;
 mod types;
@@ -13,6 +15,7 @@ pub use imap_shapes::{
     ContentType, Envelope, PartsError, search, shapes, spans,
 };
 pub use imap_structure::{MAX_BODY_DEPTH, MAX_EXTENSION_DEPTH};
+pub use readers::attributes::msg_att_body_section;
 pub use readers::sections::{section, section_msgtext, section_part};
 pub use types::attributes::AttributeValue;
 pub use types::sections::{MessageSection, SectionPath};

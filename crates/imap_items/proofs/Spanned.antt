@@ -61,7 +61,7 @@ flag_decoded m rest v is = utf8_decoded flag m rest v flags_utf8 is
 pub flag_perm_decoded : (m rest v : Bytes) → step flag_perm m ≡ Ok (rest, v) → step (gives as_text flag_perm) m ≡ Ok (rest, decoded v)
 flag_perm_decoded m rest v is = utf8_decoded flag_perm m rest v flag_perms_utf8 is
 
-named_rests : (s : Span) (q : ℕ) (m : Bytes) → s.start ≤ s.end → s.end ≤ q → named_in (take q m) s ≡ named_in m s
+pub named_rests : (s : Span) (q : ℕ) (m : Bytes) → s.start ≤ s.end → s.end ≤ q → named_in (take q m) s ≡ named_in m s
 named_rests s q m ordered le = let e : Some (named_in (take q m) s) ≡ Some (named_in m s) = (some_rests s q ordered le).same m in cc
 
 pub text_rests : (s : Span) (q : ℕ) → s.start ≤ s.end → s.end ≤ q → Rests text_in q s

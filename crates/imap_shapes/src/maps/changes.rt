@@ -47,13 +47,13 @@ impl<'a> Change<CowStr<'a>> for Copying {
 
 /// Each text owned. The target's lifetime is this type's own.
 #[derive(Drop)]
-pub(crate) struct Owning<'b> {
-    alloc: Global,
+pub struct Owning<'b> {
+    pub alloc: Global,
     target: PhantomData<&'b u8>,
 }
 
 impl<'b> Owning<'b> {
-    pub(crate) fn new(alloc: Global) -> Owning<'b> {
+    pub fn new(alloc: Global) -> Owning<'b> {
         Owning {
             alloc,
             target: PhantomData,
@@ -96,8 +96,8 @@ impl<'a, 'b> Change<CowStr<'a>> for Owning<'b> {
 
 /// The byte strings that spans name in a message.
 #[derive(Drop)]
-pub(crate) struct NamedBytes<'a> {
-    pub(crate) m: &'a [u8],
+pub struct NamedBytes<'a> {
+    pub m: &'a [u8],
 }
 
 impl<'a> Change<Span> for NamedBytes<'a> {

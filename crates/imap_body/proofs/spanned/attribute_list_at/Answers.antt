@@ -1,5 +1,6 @@
 use Rattle.imap_grammar.proofs.Agreement.{answered_at}
 use Rattle.imap_grammar.proofs.PositionUnder.{nonempty_listed_at, advances_at}
+use Rattle.imap_grammar.proofs.PositionRests.{nonempty_listed_rests}
 use Rattle.imap_body.specs.Attributes.{attribute, attribute_list}
 use Rattle.imap_body.specs.SpannedAttributes.{attribute_in}
 use Rattle.imap_body.proofs.FirstBytes.{attribute_takes}
@@ -16,5 +17,8 @@ returns-clause-steps c = nonempty_listed_at (attribute_in c.args.m.now) attribut
 pub returns-clause-answer : goal.returns-clause-answer
 returns-clause-answer c = answered_at _ _ _ _ _ (returns-clause-steps c)
 
+pub returns-clause-rests : goal.returns-clause-rests
+returns-clause-rests c = nonempty_listed_rests attribute_in _ c.parenthesized_nonempty_list.ensures.follows (advances_at (attribute_in c.args.m.now) attribute (λ k r le h. h.0) (λ k r le h. h.1.0) attribute_takes) (λ k q x le h. h.1.1.0)
+
 pub returns-clause-spans : goal.returns-clause-spans
-returns-clause-spans c = listed_in_turn _ c.parenthesized_nonempty_list.ensures.follows (λ k q s le h. stands_there c.args.m.now k q s h.0 h.1.0 h.1.1.0 h.1.1.1)
+returns-clause-spans c = listed_in_turn _ c.parenthesized_nonempty_list.ensures.follows (λ k q s le h. stands_there c.args.m.now k q s h.0 h.1.0 h.1.1.1.0 h.1.1.1.1)
