@@ -2,3 +2,4 @@ pub mod Resting
 pub mod Factoring
 pub mod FirstBytes
 pub mod Standing
+pub mod SectionTexts

@@ -3,3 +3,4 @@ pub mod Sections
 pub mod AttributeValues
 pub mod Attributes
 pub mod SpannedAttributes
+pub mod SectionTexts
