@@ -1,2 +1,8 @@
+pub mod Resting
+pub mod Factoring
+pub mod AttributeFirstBytes
+pub mod SectionFirstBytes
+pub mod Standing
 pub mod SectionTexts
-pub mod FirstBytes
+pub mod AttributeFirstBytes
+pub mod SectionFirstBytes

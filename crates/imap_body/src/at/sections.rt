@@ -159,7 +159,7 @@ fn mime(m: &[u8], p: usize) -> Reached<MessageSection>
 }
 
 /// What of a message is meant (RFC 3501, section 9: section-msgtext). No memory: names of header fields are read and dropped.
-#[tactic(auto, using(crate::proofs::FirstBytes::msgtext_none, crate::proofs::FirstBytes::msgtext_is_header, crate::proofs::FirstBytes::msgtext_is_text, crate::proofs::FirstBytes::msgtext_other))]
+#[tactic(auto, using(crate::proofs::SectionFirstBytes::msgtext_none, crate::proofs::SectionFirstBytes::msgtext_is_header, crate::proofs::SectionFirstBytes::msgtext_is_text, crate::proofs::SectionFirstBytes::msgtext_other))]
 pub fn section_msgtext(m: &[u8], p: usize) -> Reached<MessageSection>
     requires { p ≤ length m.now }
     ensures steps { ExactlyAt (λ x. x) m.now result (step sections.section_msgtext (drop p m.now)) }

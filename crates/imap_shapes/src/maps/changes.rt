@@ -13,13 +13,13 @@ use std::marker::PhantomData;
 
 /// Each text owned. The target's lifetime is this type's own.
 #[derive(Drop)]
-pub(crate) struct Owning<'b> {
-    alloc: Global,
+pub struct Owning<'b> {
+    pub alloc: Global,
     target: PhantomData<&'b u8>,
 }
 
 impl<'b> Owning<'b> {
-    pub(crate) fn new(alloc: Global) -> Owning<'b> {
+    pub fn new(alloc: Global) -> Owning<'b> {
         Owning {
             alloc,
             target: PhantomData,
@@ -62,8 +62,8 @@ impl<'a, 'b> Change<CowStr<'a>> for Owning<'b> {
 
 /// The byte strings that spans name in a message.
 #[derive(Drop)]
-pub(crate) struct NamedBytes<'a> {
-    pub(crate) m: &'a [u8],
+pub struct NamedBytes<'a> {
+    pub m: &'a [u8],
 }
 
 impl<'a> Change<Span> for NamedBytes<'a> {
