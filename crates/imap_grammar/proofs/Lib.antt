@@ -21,6 +21,7 @@ pub mod Positions
 pub mod PositionJoins
 pub mod PositionUnder
 pub mod PositionRests
+pub mod Sliced
 pub mod Reading
 pub mod ReadingWords
 pub mod ReadingLists
