@@ -10,6 +10,7 @@ ghost use Rattle.imap_grammar.specs.Tags.{sp};
 ghost use Rattle.imap_grammar.specs.Lists.{Shortens, Follows, or_memory, separator as separator_rule, behind_means, list1_means, list0_means, list_means, nonempty_list_means, delimited_means, opt_opt_means, tried_of};
 
 use crate::answer::{Err, IResult};
+use crate::at::lists::ROOM;
 use crate::tags::{blanks0, blanks1, maybe_space, tag};
 use std::alloc::Global;
 
@@ -76,7 +77,7 @@ pub fn separated<'a, O: Drop, F: Fn(&'a [u8]) -> IResult<&'a [u8], O>>(
     ensures { Follows (λ a. or_memory (list1_means (meaning (separator_rule between)) a)) (FnReturnsAt F.Fn f) (λ x. x.items) i.now result }
 {
     let (mut rest, first) = f(i)?;
-    let mut items = Vec::new(alloc);
+    let mut items = Vec::with_capacity(alloc, ROOM)?;
     items.push(first)?;
     while let Some((next, item)) = tried(next_item(between, &f, rest))? {
         items.push(item)?;
