@@ -4,5 +4,3 @@ pub mod AttributeFirstBytes
 pub mod SectionFirstBytes
 pub mod Standing
 pub mod SectionTexts
-pub mod AttributeFirstBytes
-pub mod SectionFirstBytes
