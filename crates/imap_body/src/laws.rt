@@ -3,6 +3,7 @@
 ghost use Rattle.std.specs.Prelude.{ℕ};
 ghost use Rattle.imap_grammar.specs.Stable.{Stable};
 ghost use Rattle.imap_body.specs.Sections as sections;
+ghost use Rattle.imap_body.specs.Attributes as attributes;
 ghost use Rattle.imap_structure.specs.Envelopes as envelopes;
 ghost use Rattle.imap_structure.specs.Fields as fields;
 ghost use Rattle.imap_structure.specs.Extensions as extensions;
@@ -39,6 +40,26 @@ pub fn stable()
     ensures body_ext_mpart { Stable extensions.body_ext_mpart }
     ensures body { (level : ℕ) → Stable (bodies.body level) }
     ensures body_structure { Stable bodies.body_structure }
+    ensures msg_att_body_section { Stable attributes.msg_att_body_section }
+    ensures msg_att_body_structure { Stable attributes.msg_att_body_structure }
+    ensures msg_att_envelope { Stable attributes.msg_att_envelope }
+    ensures msg_att_internal_date { Stable attributes.msg_att_internal_date }
+    ensures msg_att_flags { Stable attributes.msg_att_flags }
+    ensures msg_att_mod_seq { Stable attributes.msg_att_mod_seq }
+    ensures msg_att_rfc822 { Stable attributes.msg_att_rfc822 }
+    ensures msg_att_rfc822_header { Stable attributes.msg_att_rfc822_header }
+    ensures msg_att_rfc822_size { Stable attributes.msg_att_rfc822_size }
+    ensures msg_att_rfc822_text { Stable attributes.msg_att_rfc822_text }
+    ensures msg_att_uid { Stable attributes.msg_att_uid }
+    ensures msg_att_gmail_labels { Stable attributes.msg_att_gmail_labels }
+    ensures msg_att_gmail_msgid { Stable attributes.msg_att_gmail_msgid }
+    ensures msg_att_gmail_thrid { Stable attributes.msg_att_gmail_thrid }
+    ensures object_id { Stable attributes.object_id }
+    ensures msg_att_email_id { Stable attributes.msg_att_email_id }
+    ensures msg_att_thread_id { Stable attributes.msg_att_thread_id }
+    ensures msg_att_unknown { Stable attributes.msg_att_unknown }
+    ensures attribute { Stable attributes.attribute }
+    ensures attribute_list { Stable attributes.attribute_list }
 {}
 
 /// What each rule takes spells the value that it yields. And a value that it yields on some bytes, it yields again on the value's canonical text, with all texts borrowed,
