@@ -42,48 +42,48 @@ name_other = by_other "78bBqQ" encoding_name never (λ m. refl)
 -- ---- encodings
 
 pub encoding_none : (m : List ℕ) → slice_get m 0 ≡ None → step body_fld_enc m ≡ Err (Incomplete Unknown)
-unfolding body_fld_enc nil_encoding nil
+unfolding body_fld_enc nil
 encoding_none m is = waits_without body_fld_enc m is refl
 
 pub encoding_is_in_quotes : AtAny "\"" body_fld_enc encoding_in_quotes
-unfolding body_fld_enc nil_encoding nil quoted_encoding other_encoding string_utf8 string quoted literal literal_header encoding_in_quotes
+unfolding body_fld_enc nil quoted_encoding string_utf8 string quoted literal literal_header other_encoding encoding_in_quotes
 encoding_is_in_quotes = by_any "\"" body_fld_enc encoding_in_quotes (λ m. refl)
 
 pub encoding_is_literal : AtAny "{" body_fld_enc other_encoding
-unfolding body_fld_enc nil_encoding nil quoted_encoding other_encoding string_utf8 string quoted literal literal_header
+unfolding body_fld_enc nil quoted_encoding string_utf8 string quoted literal literal_header other_encoding
 encoding_is_literal = by_any "{" body_fld_enc other_encoding (λ m. refl)
 
 pub encoding_is_nil : AtAny "nN" body_fld_enc nil_encoding
-unfolding body_fld_enc nil_encoding nil quoted_encoding other_encoding string_utf8 string quoted literal literal_header
+unfolding body_fld_enc nil quoted_encoding string_utf8 string quoted literal literal_header nil_encoding
 encoding_is_nil = by_any "nN" body_fld_enc nil_encoding (λ m. refl)
 
 pub encoding_other : AtOther "\"{nN" body_fld_enc never
-unfolding body_fld_enc nil_encoding nil quoted_encoding other_encoding string_utf8 string quoted literal literal_header
+unfolding body_fld_enc nil quoted_encoding string_utf8 string quoted literal literal_header
 encoding_other = by_other "\"{nN" body_fld_enc never (λ m. refl)
 
 -- ---- extensions, with lists of any level
 
 pub extension_none : (level : ℕ) (m : List ℕ) → slice_get m 0 ≡ None → step (extension_over (extension_list level)) m ≡ Err (Incomplete Unknown)
-unfolding extension_over number_extension number digits
+unfolding extension_over number digits
 extension_none level m is = waits_without (extension_over (extension_list level)) m is refl
 
 pub extension_is_string : (level : ℕ) → AtAny "\"{nN" (extension_over (extension_list level)) string_extension
-unfolding extension_over number_extension string_extension extension_list bracketed_extensions number digits nstring_utf8 nil string_utf8 string quoted literal literal_header
+unfolding extension_over extension_list bracketed_extensions number digits nstring_utf8 nil string_utf8 string quoted literal literal_header string_extension
 extension_is_string zero = by_any "\"{nN" (extension_over (extension_list zero)) string_extension (λ m. refl)
 extension_is_string (suc n) = by_any "\"{nN" (extension_over (extension_list (suc n))) string_extension (λ m. refl)
 
 pub extension_is_list : (level : ℕ) → AtAny "(" (extension_over (extension_list level)) (extension_list level)
-unfolding extension_over number_extension string_extension extension_list bracketed_extensions number digits nstring_utf8 nil string_utf8 string quoted literal literal_header
+unfolding extension_over extension_list bracketed_extensions number digits nstring_utf8 nil string_utf8 string quoted literal literal_header
 extension_is_list zero = by_any "(" (extension_over (extension_list zero)) (extension_list zero) (λ m. refl)
 extension_is_list (suc n) = by_any "(" (extension_over (extension_list (suc n))) (extension_list (suc n)) (λ m. refl)
 
 pub extension_is_number : (level : ℕ) → AtDigit (extension_over (extension_list level)) number_extension
-unfolding extension_over number_extension string_extension extension_list bracketed_extensions number digits nstring_utf8 nil string_utf8 string quoted literal literal_header
+unfolding extension_over extension_list bracketed_extensions number digits nstring_utf8 nil string_utf8 string quoted literal literal_header number_extension
 extension_is_number zero = by_digit (extension_over (extension_list zero)) number_extension (λ m. refl)
 extension_is_number (suc n) = by_digit (extension_over (extension_list (suc n))) number_extension (λ m. refl)
 
 pub extension_other : (level : ℕ) → AtOtherThanDigits "\"{nN(" (extension_over (extension_list level)) never
-unfolding extension_over number_extension string_extension extension_list bracketed_extensions number digits nstring_utf8 nil string_utf8 string quoted literal literal_header
+unfolding extension_over extension_list bracketed_extensions number digits nstring_utf8 nil string_utf8 string quoted literal literal_header
 extension_other zero = by_other_than_digits "\"{nN(" (extension_over (extension_list zero)) never (λ m. refl)
 extension_other (suc n) = by_other_than_digits "\"{nN(" (extension_over (extension_list (suc n))) never (λ m. refl)
 

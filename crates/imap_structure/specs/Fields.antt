@@ -30,16 +30,9 @@ encoding_name = names "7BIT" SevenBit or names "8BIT" EightBit or names "BINARY"
 unfoldable pub quoted_encoding : Rule EncodingValue
 quoted_encoding = tag "\"" ▹ encoding_name ◃ tag "\""
 
--- nil stands for 7BIT
-unfoldable pub nil_encoding : Rule EncodingValue
-nil_encoding = nil ▹ nothing SevenBit
-
-unfoldable pub other_encoding : Rule EncodingValue
-other_encoding = gives Other string_utf8
-
--- body-fld-enc = (DQUOTE ("7BIT" / "8BIT" / "BINARY" / "BASE64" / "QUOTED-PRINTABLE") DQUOTE) / string, or nil
+-- body-fld-enc = (DQUOTE ("7BIT" / "8BIT" / "BINARY" / "BASE64" / "QUOTED-PRINTABLE") DQUOTE) / string; nil stands for 7BIT
 unfoldable pub body_fld_enc : Rule EncodingValue
-body_fld_enc = nil_encoding or quoted_encoding or other_encoding
+body_fld_enc = nil ▹ nothing SevenBit or quoted_encoding or gives Other string_utf8
 
 -- of these those that start alike
 
@@ -54,6 +47,12 @@ binary_or_base64 = names "BINARY" Binary or names "BASE64" Base64
 
 unfoldable pub quoted_printable : Rule EncodingValue
 quoted_printable = names "QUOTED-PRINTABLE" QuotedPrintable
+
+unfoldable pub nil_encoding : Rule EncodingValue
+nil_encoding = nil ▹ nothing SevenBit
+
+unfoldable pub other_encoding : Rule EncodingValue
+other_encoding = gives Other string_utf8
 
 unfoldable pub encoding_in_quotes : Rule EncodingValue
 encoding_in_quotes = quoted_encoding or other_encoding
