@@ -1,5 +1,6 @@
 pub mod Resting
 pub mod Factoring
-pub mod FirstBytes
+pub mod AttributeFirstBytes
+pub mod SectionFirstBytes
 pub mod Standing
 pub mod SectionTexts

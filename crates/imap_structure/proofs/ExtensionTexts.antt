@@ -1,5 +1,5 @@
 -- Extension data of bodies reads back: extensions by induction over their levels.
-use Rattle.std.proofs.Common.{◌≡◌, ℕ, zero, suc, List, [], ◌∷◌, ◌++◌, Option, None, Some, sym, ◌∙◌, ap, subst, refl, inl, inr, map, codes}
+use Rattle.std.proofs.Common.{◌≡◌, ℕ, zero, suc, List, [], ◌∷◌, ◌++◌, Option, None, Some, sym, ap, subst, refl, inl, inr, map, codes}
 use Rattle.std.specs.Option.{option_map}
 use Rattle.imap_grammar.specs.Meaning.{Denies}
 use Rattle.imap_grammar.specs.Rule.{Rule, meaning, gives, ◌or◌}
@@ -14,9 +14,9 @@ use Rattle.imap_grammar.proofs.ReadingLists.{reads-nonempty_list_of, takes-text,
 use Rattle.imap_grammar.proofs.Spelling.{◌⨾ˢ◌, ◌▹ˢ◌, ◌◃ˢ◌, ◌orˢ◌, spells-gives, spells-wider, spells-never, spells-nothing, spells-tag, spells-nonempty_list_of}
 use Rattle.imap_grammar.proofs.ReadingChoices.{on-first, on-second, reads-either, reads-opt_opt}
 use Rattle.imap_bytes.specs.Numbers.{number}
-use Rattle.imap_bytes.specs.Strings.{nil, nil_or, string, quoted, literal_header, literal}
+use Rattle.imap_bytes.specs.Strings.{nil, string, quoted, literal_header, literal}
 use Rattle.imap_bytes.specs.Texts.{string_utf8, nstring_utf8}
-use Rattle.imap_bytes.proofs.ReadingTexts.{not_digit, reads-number, reads-string_utf8, reads-nstring_utf8, reads-nil_or}
+use Rattle.imap_bytes.proofs.ReadingTexts.{not_digit, reads-number, reads-string_utf8, reads-nstring_utf8, reads-nil_or, nil_or-none, nil_or-some}
 use Rattle.imap_bytes.proofs.ReadingCounts.{closes_space, denies-number}
 use Rattle.imap_bytes.proofs.SpellingTexts.{spells-nil_or, spells-number, spells-string_utf8, spells-nstring_utf8}
 use Rattle.imap_shapes.specs.ExtensionValues.{ExtensionValue, Num, Str, Listed, one_extension, extensions_of}
@@ -48,8 +48,8 @@ unfolding nstring_utf8 nil string_utf8 string quoted literal literal_header
 text_denied t = search denials depth 12
 
 nil_read : (t : Bytes) → (meaning nstring_utf8).yields (codes "NIL" ++ t) None t
-unfolding meaning nstring_utf8 nil
-nil_read t = inl ((codes "NIL", None), (t, (refl, refl), (refl, refl)), refl)
+unfolding nstring_utf8
+nil_read t = nil_or-none string_utf8 t
 
 reads_language_list : ReadsBack language_list lent_languages canonical_languages Any
 unfolding language_list some_languages
@@ -58,15 +58,6 @@ reads_language_list = reads-gives Some (reads-nonempty_list_of reads-string_utf8
 list_apart : Apart (gives single nstring_utf8) language_list canonical_languages Any
 unfolding language_list
 list_apart = apart-gives _ Some (λ x t g. denies-gives _ _ _ (text_denied _))
-
-some_text : (m rest : Bytes) (x : Text) → (meaning nstring_utf8).yields m (Some x) rest → (meaning string_utf8).yields m x rest
-unfolding meaning nstring_utf8
-some_text m rest x (inl y) =
-    let same : None ≡ Some x = y.1.2.0 ∙ y.2 in
-    absurd cc
-some_text m rest x (inr y) =
-    let same : y.1.0 ≡ x = cc in
-    subst (λ w. (meaning string_utf8).yields m w rest) same y.1.1
 
 -- a single language is written as a list of one
 list_read : (x : Text) (m rest : Bytes) → (meaning string_utf8).yields m x rest → Fits (literal_text x) → (t : Bytes) → (meaning language_list).yields (written (list_text literal_text (x ∷ [])) ++ t) (Some (lent_text x ∷ [])) t
@@ -78,9 +69,10 @@ list_read x m rest y f t =
 
 single_read : (x : Option Text) (m rest : Bytes) → (meaning nstring_utf8).yields m x rest → Fits (canonical_languages (single x)) → (t : Bytes)
     → (meaning (gives single nstring_utf8 or language_list)).yields (written (canonical_languages (single x)) ++ t) (lent_languages (single x)) t
+unfolding nstring_utf8
 single_read None m rest y f t = on-first (gives single nstring_utf8) language_list _ None t (gives-on single nstring_utf8 _ None t (nil_read t))
 single_read (Some x) m rest y f t =
-    on-second (gives single nstring_utf8) language_list _ (Some (lent_text x ∷ [])) t (denies-gives single nstring_utf8 _ (text_denied _)) (list_read x m rest (some_text m rest x y) f t)
+    on-second (gives single nstring_utf8) language_list _ (Some (lent_text x ∷ [])) t (denies-gives single nstring_utf8 _ (text_denied _)) (list_read x m rest (nil_or-some string_utf8 m rest x y) f t)
 
 pub reads_language : ReadsBack body_fld_lang lent_languages canonical_languages Any
 unfolding body_fld_lang
@@ -91,6 +83,14 @@ reads_language =
     subst (λ w. (meaning (gives single nstring_utf8 or language_list)).yields (written (canonical_languages w) ++ t) (lent_languages w) t) x.2
     (single_read x.0 m rest x.1 (subst (λ w. Fits (canonical_languages w)) (sym x.2) f) t))
     reads_language_list list_apart
+
+language_spells : Spells body_fld_lang spells_languages
+unfolding body_fld_lang language_list some_languages
+language_spells = spells-gives single (spells-wider spells-nstring_utf8 alone) orˢ spells-gives Some (spells-wider (spells-nonempty_list_of spells-string_utf8) (λ v c h. inl h))
+  where
+    alone : (x : Option Text) (c : Bytes) → spells_ntext x c → spells_languages (single x) c
+    alone None c h = h
+    alone (Some t) c h = inr (t, refl, h)
 
 -- ---- extensions
 
@@ -185,17 +185,13 @@ field_spelt S (Some x) c h = h
 field_spells : {A : Type 0} {a : Rule (Option A)} {S : Option A → Texts} → Spells a S → Spells (maybe_spaced a) (spells_field S)
 field_spells {S = S} h = spells-gives flat (spells-gives Some (spells-wider (spaced_spells h) (field_spelt S)) orˢ spells-nothing None (inl refl))
 
-nil_or_read : {A : Type 0} (a : Rule A) (t : Bytes) → (meaning (nil_or a)).yields (codes "NIL" ++ t) None t
-unfolding meaning nil
-nil_or_read a t = inl ((codes "NIL", None), (t, (refl, refl), (refl, refl)), refl)
-
 params_nil : (t : Bytes) → (meaning body_fld_param).yields (codes "NIL" ++ t) None t
 unfolding body_fld_param
-params_nil t = nil_or_read _ t
+params_nil t = nil_or-none _ t
 
 disposition_nil : (t : Bytes) → (meaning body_fld_dsp).yields (codes "NIL" ++ t) None t
 unfolding body_fld_dsp
-disposition_nil t = nil_or_read _ t
+disposition_nil t = nil_or-none _ t
 
 language_nil : (t : Bytes) → (meaning body_fld_lang).yields (codes "NIL" ++ t) None t
 unfolding body_fld_lang
@@ -223,14 +219,6 @@ reads_ext_mpart =
     (reads_field reads_params refl params_nil refl ⨾ʳ reads_field reads_disposition refl disposition_nil refl ⨾ʳ reads_field reads_language refl language_nil refl
     ⨾ʳ reads_field reads-nstring_utf8 refl nil_read refl ⨾ʳ reads_last)
     (λ x. refl)
-
-language_spells : Spells body_fld_lang spells_languages
-unfolding body_fld_lang language_list some_languages
-language_spells = spells-gives single (spells-wider spells-nstring_utf8 alone) orˢ spells-gives Some (spells-wider (spells-nonempty_list_of spells-string_utf8) (λ v c h. inl h))
-  where
-    alone : (x : Option Text) (c : Bytes) → spells_ntext x c → spells_languages (single x) c
-    alone None c h = h
-    alone (Some t) c h = inr (t, refl, h)
 
 pub ext_1part_spells : Spells body_ext_1part spells_ext_1part
 unfolding body_ext_1part

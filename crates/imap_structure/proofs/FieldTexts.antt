@@ -18,7 +18,7 @@ use Rattle.imap_bytes.proofs.SpellingTexts.{spells-nil_or, spells-number, spells
 use Rattle.imap_shapes.specs.declared.shapes.fields.ContentEncoding.TheVariants.{SevenBit, EightBit, Binary, Base64, QuotedPrintable, Other}
 use Rattle.imap_shapes.specs.FieldValues.{EncodingValue}
 use Rattle.imap_shapes.specs.Lent.{lent_pair, lent_params, lent_encoding, lent_fields}
-use Rattle.imap_structure.specs.Fields.{body_param, some_params, body_fld_param, plain_encoding, coded_encoding, encoding_name, quoted_encoding, body_fld_enc, fields_of, body_fields}
+use Rattle.imap_structure.specs.Fields.{body_param, some_params, body_fld_param, encoding_name, quoted_encoding, body_fld_enc, fields_of, body_fields}
 use Rattle.imap_structure.specs.FieldTexts.{canonical_pair, canonical_params, canonical_encoding, canonical_fields, spells_pair, spells_params, spells_encoding, spells_fields}
 use Rattle.imap_structure.proofs.EnvelopeTexts.{reads_spaced, spaced_spells}
 
@@ -55,27 +55,26 @@ abbrev IsNamed : EncodingValue → Type 0
 IsNamed e = (words "\"" then name_text e then words "\"") ≡ canonical_encoding e
 
 encoding_named : Yields IsNamed encoding_name
-unfolding encoding_name plain_encoding coded_encoding
-encoding_named = either_yields (either_yields (named_yields refl) (either_yields (named_yields refl) (named_yields refl))) (either_yields (named_yields refl) (named_yields refl))
+unfolding encoding_name
+encoding_named = either_yields (named_yields refl) (either_yields (named_yields refl) (either_yields (named_yields refl) (either_yields (named_yields refl) (named_yields refl))))
 
 reads_encoding_name : ReadsBack encoding_name lent_encoding name_text Any
-unfolding encoding_name plain_encoding coded_encoding
+unfolding encoding_name
 reads_encoding_name =
-    first
-    (first (reads-word _ _ SevenBit (codes "7BIT") refl refl refl) (search apart_forms depth 20)
+    first (reads-word _ _ SevenBit (codes "7BIT") refl refl refl) (search apart_forms depth 20)
     (first (reads-word _ _ EightBit (codes "8BIT") refl refl refl) (search apart_forms depth 20)
-    (reads-word _ _ Binary (codes "BINARY") refl refl refl)))
-    (search apart_forms depth 20)
-    (first (reads-word _ _ Base64 (codes "BASE64") refl refl refl) (search apart_forms depth 20) (reads-word _ _ QuotedPrintable (codes "QUOTED-PRINTABLE") refl refl refl))
+    (first (reads-word _ _ Binary (codes "BINARY") refl refl refl) (search apart_forms depth 20)
+    (first (reads-word _ _ Base64 (codes "BASE64") refl refl refl) (search apart_forms depth 20)
+    (reads-word _ _ QuotedPrintable (codes "QUOTED-PRINTABLE") refl refl refl))))
 
 reads_quoted_encoding : ReadsBack quoted_encoding lent_encoding canonical_encoding Any
 unfolding quoted_encoding
 reads_quoted_encoding = reads-where (right_yields (left_yields encoding_named)) (takes-text "\"" ▹ʳ reads_encoding_name ◃ʳ takes-text "\"") (λ v e. e)
 
 seven_bit_named : (meaning (quoted_encoding or gives Other string_utf8)).yields (codes "\"7BIT\"") SevenBit []
-unfolding meaning quoted_encoding encoding_name plain_encoding
+unfolding meaning quoted_encoding encoding_name
 seven_bit_named =
-    let name = inl (inl ((codes "7BIT", SevenBit), (34 ∷ [], (refl, refl), (refl, refl)), refl)) in
+    let name = inl ((codes "7BIT", SevenBit), (34 ∷ [], (refl, refl), (refl, refl)), refl) in
     inl ((34 ∷ [], SevenBit), (codes "7BIT\"", (refl, refl), ((SevenBit, 34 ∷ []), (34 ∷ [], name, (refl, refl)), refl)), refl)
 
 -- no encoding that stands in quotes begins as nil does
@@ -106,10 +105,10 @@ spells_name QuotedPrintable = in_any_case "QUOTED-PRINTABLE"
 spells_name (Other name) = λ c. ⊥
 
 encoding_name_spells : Spells encoding_name spells_name
-unfolding encoding_name plain_encoding coded_encoding
+unfolding encoding_name
 encoding_name_spells =
-    (spells-names SevenBit (spells-word "7BIT") orˢ spells-names EightBit (spells-word "8BIT") orˢ spells-names Binary (spells-word "BINARY"))
-    orˢ (spells-names Base64 (spells-word "BASE64") orˢ spells-names QuotedPrintable (spells-word "QUOTED-PRINTABLE"))
+    spells-names SevenBit (spells-word "7BIT") orˢ spells-names EightBit (spells-word "8BIT") orˢ spells-names Binary (spells-word "BINARY")
+    orˢ spells-names Base64 (spells-word "BASE64") orˢ spells-names QuotedPrintable (spells-word "QUOTED-PRINTABLE")
 
 in_quotes : (e : EncodingValue) (c : Bytes) → (exactly "\"" and spells_name e and exactly "\"") c → spells_encoding e c
 in_quotes SevenBit c h = inl h

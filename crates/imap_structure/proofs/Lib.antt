@@ -7,3 +7,4 @@ pub mod EnvelopeTexts
 pub mod FieldTexts
 pub mod ExtensionTexts
 pub mod BodyTexts
+pub mod FirstBytes

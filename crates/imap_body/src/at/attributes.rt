@@ -566,7 +566,7 @@ fn attribute_of_x(alloc: Global, m: &[u8], p: usize) -> Result<(usize, Attribute
 /// An attribute (RFC 3501, section 9: msg-att): of the alternatives those are tried, in order, that may start with the first byte.
 ///
 /// It takes memory for lists, envelopes and body structures.
-#[tactic(auto, using(crate::proofs::FirstBytes::attribute_none, crate::proofs::FirstBytes::attribute_is_of_b, crate::proofs::FirstBytes::attribute_is_of_e, crate::proofs::FirstBytes::attribute_is_of_f, crate::proofs::FirstBytes::attribute_is_of_i, crate::proofs::FirstBytes::attribute_is_of_m, crate::proofs::FirstBytes::attribute_is_of_r, crate::proofs::FirstBytes::attribute_is_of_t, crate::proofs::FirstBytes::attribute_is_of_u, crate::proofs::FirstBytes::attribute_is_of_x, crate::proofs::FirstBytes::attribute_other))]
+#[tactic(auto, using(crate::proofs::AttributeFirstBytes::attribute_none, crate::proofs::AttributeFirstBytes::attribute_is_of_b, crate::proofs::AttributeFirstBytes::attribute_is_of_e, crate::proofs::AttributeFirstBytes::attribute_is_of_f, crate::proofs::AttributeFirstBytes::attribute_is_of_i, crate::proofs::AttributeFirstBytes::attribute_is_of_m, crate::proofs::AttributeFirstBytes::attribute_is_of_r, crate::proofs::AttributeFirstBytes::attribute_is_of_t, crate::proofs::AttributeFirstBytes::attribute_is_of_u, crate::proofs::AttributeFirstBytes::attribute_is_of_x, crate::proofs::AttributeFirstBytes::attribute_other))]
 pub fn attribute(alloc: Global, m: &[u8], p: usize) -> Result<(usize, AttributeSpans), Err>
     requires { p ≤ length m.now }
     ensures steps { GivesAt (λ x. parts_in m.now x) m.now result (step rules.attribute (drop p m.now)) }

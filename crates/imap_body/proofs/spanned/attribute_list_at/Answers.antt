@@ -3,7 +3,7 @@ use Rattle.imap_grammar.proofs.PositionUnder.{nonempty_listed_at, advances_at}
 use Rattle.imap_grammar.proofs.PositionRests.{nonempty_listed_rests}
 use Rattle.imap_body.specs.Attributes.{attribute, attribute_list}
 use Rattle.imap_body.specs.SpannedAttributes.{attribute_in}
-use Rattle.imap_body.proofs.FirstBytes.{attribute_takes}
+use Rattle.imap_body.proofs.AttributeFirstBytes.{attribute_takes}
 use Rattle.imap_body.proofs.Standing.{listed_in_turn, stands_there}
 use Rattle.imap_body.proofs.spanned.attribute_list_at.Goals as goal
 
