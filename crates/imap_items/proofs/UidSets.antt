@@ -10,15 +10,15 @@ use Rattle.imap_grammar.specs.declared.answer.Err.TheVariants.{Incomplete, Error
 use Rattle.imap_grammar.specs.Rule.{Rule, gives, opt, ◌▹◌}
 use Rattle.imap_grammar.specs.Step.{Step, step, ◌>>=◌, beside, and_then, or_else}
 use Rattle.imap_grammar.specs.Tags.{tag}
-use Rattle.imap_bytes.specs.Numbers.{number}
-use Rattle.imap_bytes.specs.Sets.{sequence_range}
 use Rattle.imap_grammar.specs.Answer.{Returned, Gives}
 use Rattle.imap_grammar.proofs.Agreement.{reads}
+use Rattle.imap_grammar.proofs.Yields.{Yields, either_yields, made_yields, list_yields}
+use Rattle.imap_bytes.specs.Numbers.{number}
 use Rattle.imap_items.specs.UidSets.{MemberValue, UidRange, Uid, Spent, member_value, range_value, range_of, IsOrdered, uid_set, uid_set_member, maybe_range, member_of}
 use Rattle.imap_items.specs.declared.types.uid_sets.UidSetMember.{UidSetMember}
 use Rattle.imap_items.specs.declared.types.uid_sets.UidSetMember.TheVariants as member
 use Rattle.imap_items.specs.contracts.types.uid_sets.UidSetMemberPartialEq.TheImpl as member_eq
-use Rattle.imap_grammar.proofs.Yields.{Yields, either_yields, made_yields, list_yields}
+use Rattle.imap_bytes.specs.Sets.{sequence_range}
 
 -- ---- a number in front of a colon is read once
 

@@ -1,36 +1,36 @@
 -- A line that is read as a FETCH is one of the whole grammar, and one that is not is none there.
-use Rattle.std.proofs.Common.{◌≡◌, ◌⊎◌, ℕ, ◌<◌, ◌≤◌, Bool, true, false, List, [], ◌∷◌, ◌++◌, length, take, drop, map, codes, Option, Some, None, Result, Ok, Err, refl, sym, ap, subst, ◌∙◌, inl, inr, arith}
-use Rattle.std.specs.Prelude.{◌==◌, ◌&&◌, slice_get}
+use Rattle.std.proofs.Common.{◌≡◌, ◌⊎◌, ℕ, ◌<◌, Bool, true, false, List, [], ◌∷◌, ◌++◌, take, drop, codes, Some, None, Ok, Err, refl, sym, ap, subst, ◌∙◌, inl, inr, arith}
+use Rattle.std.specs.Prelude.{◌==◌, nat_lt}
 use Rattle.std.specs.Global.{Vec}
-use Rattle.std.specs.declared.alloc.Global.{Global}
 use Rattle.std.specs.Char.{to_ascii_lowercase}
-use Rattle.std.proofs.lemmas.Bool.{eqb-true, eqb-false, and_parts, ltb-true}
+use Rattle.std.proofs.lemmas.Bool.{eqb-true, and_parts, ltb-true}
 use Rattle.std.proofs.lemmas.List.{take-append-drop}
 use Rattle.imap_grammar.specs.declared.answer.Err.{Err as Fault}
 use Rattle.imap_grammar.specs.declared.answer.Err.TheVariants.{Incomplete, Error, Failure}
 use Rattle.imap_grammar.specs.declared.answer.Needed.TheVariants.{Unknown}
-use Rattle.imap_grammar.specs.Answer.{Answers, Stops, Refuses}
+use Rattle.imap_grammar.specs.Answer.{Answers, Returned, Stops, Refuses}
 use Rattle.imap_grammar.specs.Classes.{is_digit}
 use Rattle.imap_grammar.specs.Meaning.{differs, is_begun}
 use Rattle.imap_grammar.specs.Positions.{Rests}
-use Rattle.imap_grammar.specs.Rule.{Rule, meaning, tag_by, gives, ◌⨾◌, ◌▹◌, ◌◃◌, ◌or◌}
+use Rattle.imap_grammar.specs.Rule.{Rule, meaning, tag_by, gives, ◌⨾◌, ◌or◌}
 use Rattle.imap_grammar.specs.Starts.{may_start}
-use Rattle.imap_grammar.specs.Step.{Step, step, ◌>>=◌, beside, and_then, or_else}
+use Rattle.imap_grammar.specs.Step.{Step, step, ◌>>=◌, and_then}
 use Rattle.imap_grammar.specs.Tags.{same_letter, tag, word, crlf}
 use Rattle.imap_grammar.specs.Text.{Bytes}
 use Rattle.imap_grammar.proofs.Agreement.{agrees, answered}
 use Rattle.imap_grammar.proofs.Starts.{denied, waited}
-use Rattle.imap_grammar.proofs.Yields.{Yields, either_yields, made_yields, left_yields, right_yields}
+use Rattle.imap_grammar.proofs.Yields.{Yields, either_yields, made_yields}
 use Rattle.imap_bytes.specs.Numbers.{number, digits}
 use Rattle.imap_body.specs.declared.spanned.SpannedAttribute.{SpannedAttribute}
 use Rattle.imap_data.specs.MailboxData.{exists, recent}
 use Rattle.imap_data.specs.Annotations.{metadata_solicited, metadata_unsolicited}
 use Rattle.imap_items.specs.Capabilities.{capability_data, enabled_data}
 use Rattle.imap_items.specs.Statuses.{status}
-use Rattle.imap_proto.specs.Responses.{ResponseValue, Capabilities, Fetch, MailboxData, IsFetch, fetch_in}
+use Rattle.imap_proto.specs.Responses.{ResponseValue, Capabilities, Fetch, MailboxData, IsFetch, fetch_in, response_value}
+use Rattle.imap_proto.specs.declared.response.Response.{Response}
 use Rattle.imap_proto.specs.declared.kept.KeptFetch.{KeptFetch}
-use Rattle.imap_proto.specs.Kept.{Keeps, attributes_of}
-use Rattle.imap_proto.specs.Lines.{continuation, status_data, vanished_data, expunge, fetched, fetch, fetch_of, state_datum, extension_datum, datum, spaces, ended, ended_datum, numbered_line, data_line, fetch_line, request_tag, tagged, response}
+use Rattle.imap_proto.specs.Kept.{Keeps, attributes_of, without_value}
+use Rattle.imap_proto.specs.Lines.{continuation, status_data, vanished_data, expunge, fetched, fetch, state_datum, extension_datum, datum, spaces, ended, ended_datum, numbered_line, data_line, fetch_line, tagged, response}
 use Rattle.imap_proto.proofs.FirstBytes.{response_star, datum_of_number}
 
 -- ---- what yields no FETCH
@@ -195,10 +195,10 @@ no_star b h = h
 -- the same with the end of the line
 digit_decides : (b : ℕ) (m : List ℕ) (t : Bool) → is_digit b ≡ t → Decides (step (ended fetch) (b ∷ m)) (step ended_datum (b ∷ m))
 unfolding numbered_line
-digit_decides b m false no = inl (denied (ended fetch) b m (no_digit b no))
-digit_decides b m true yes =
-    let small : b < 256 = (let p = and_parts _ _ yes in omega (arith, ltb-true _ _ p.1)) in
-    let same = datum_of_number (b ∷ m) small yes in
+digit_decides b m false out = inl (denied (ended fetch) b m (no_digit b out))
+digit_decides b m true digit =
+    let small : b < 256 = (let p = and_parts (nat_lt 47 b) (nat_lt b 58) digit in omega (arith, ltb-true b 58 p.1)) in
+    let same = datum_of_number (b ∷ m) small digit in
     elim (ended_decides (step fetch (b ∷ m)) (step numbered (b ∷ m)) (step (spaces ⨾ crlf)) (fetch_decides (b ∷ m))) [ inl e ↦ inl e | inr e ↦ inr (same ∙ e) ]
 
 datum_decides : (m : List ℕ) → Decides (step (ended fetch) m) (step ended_datum m)
@@ -211,9 +211,9 @@ unfolding fetch_line data_line
 data_decides m = behind_decides (step (tag "* ") m) (step (ended fetch)) (step ended_datum) datum_decides
 
 star_decides : (b : ℕ) (m : List ℕ) (t : Bool) → (42 == b) ≡ t → Decides (step fetch_line (b ∷ m)) (step response (b ∷ m))
-star_decides b m false no = inl (denied fetch_line b m (no_star b no))
-star_decides b m true yes =
-    let is : 42 ≡ b = eqb-true 42 b yes in
+star_decides b m false out = inl (denied fetch_line b m (no_star b out))
+star_decides b m true star =
+    let is : 42 ≡ b = eqb-true 42 b star in
     let same = response_star (b ∷ m) (ap (λ x. Some x) (sym is)) in
     elim (data_decides (b ∷ m)) [ inl e ↦ inl e | inr e ↦ inr (same ∙ e) ]
 
@@ -237,13 +237,23 @@ line_refuses (Incomplete n) m other g = elim (response_decides m) [ inl e ↦ ab
 line_refuses Failure m other g = tt
 
 -- where the line is denied, no response is a FETCH
-pub line_denied : (m : Bytes) (v : ResponseValue) (rest : Bytes) → step fetch_line m ≡ Err Error → (meaning response).yields m v rest → ¬ (IsFetch v)
-line_denied m v rest no y is = let both = sym no ∙ (agrees fetch_line m).yields v rest (response_fetched m v rest y is) in cc
+line_denied : (m : Bytes) (v : ResponseValue) (rest : Bytes) → step fetch_line m ≡ Err Error → (meaning response).yields m v rest → ¬ (IsFetch v)
+line_denied m v rest out y is = let both = sym out ∙ (agrees fetch_line m).yields v rest (response_fetched m v rest y is) in cc
 
-pub kept : (m : Bytes) (q : ℕ) (x : ℕ × Vec SpannedAttribute Global) (k : KeptFetch) → step fetch_line m ≡ Ok (drop q m, fetch_in m x) → Rests fetch_in q x → k.bytes.items ≡ take q m → k.number ≡ x.0 → k.attributes ≡ x.1 → Keeps m (Ok (Some k))
-kept m q x k reads rests bytes number attributes =
-    let says : fetch_in m x ≡ Fetch k.number (attributes_of k) = sym (rests.same m) ∙ rw (bytes, number, attributes) refl in (
+pub none_kept : (m : Bytes) (r : Returned Response) → step fetch_line m ≡ Err Error → Answers response response_value m r → without_value r ≡ Ok tt → Keeps m (Ok None)
+unfolding Answers
+none_kept m (Ok x) out h is = (response_value x.1, x.0.now, h, line_denied m (response_value x.1) x.0.now out h)
+none_kept m (Err e) out h is = absurd cc
+
+pub fault_kept : (m : Bytes) (r : Returned Response) (e : Fault) → Answers response response_value m r → without_value r ≡ Err e → Refuses (meaning response) m e
+unfolding Answers
+fault_kept m (Ok x) e h is = absurd cc
+fault_kept m (Err d) e h is = let same : d ≡ e = cc in subst (Refuses (meaning response) m) same h
+
+pub kept : (m : Bytes) (q : ℕ) (x : ℕ × Vec SpannedAttribute) (k : KeptFetch) → step fetch_line m ≡ Ok (drop q m, fetch_in m x) → Rests fetch_in q x → k.bytes.items ≡ take q m → k.number ≡ x.0 → k.attributes ≡ x.1 → Keeps m (Ok (Some k))
+kept m q x k reads rests same_bytes same_number same_attributes =
+    let says : fetch_in m x ≡ Fetch k.number (attributes_of k) = sym (rests.same m) ∙ rw (same_bytes, same_number, same_attributes) refl in (
       drop q m,
-      sym (take-append-drop q m) ∙ ap (λ front. front ++ drop q m) (sym bytes),
+      sym (take-append-drop q m) ∙ ap (λ front. front ++ drop q m) (sym same_bytes),
       subst (λ v. (meaning response).yields m v (drop q m)) says (elim (response_decides m) [ inl e ↦ absurd (let both = sym reads ∙ e in cc) | inr same ↦ (agrees response m).yielded (fetch_in m x) (drop q m) (same ∙ reads) ]),
     )

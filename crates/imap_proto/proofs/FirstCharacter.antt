@@ -1,6 +1,5 @@
 -- A text without its first character.
 use Rattle.std.proofs.Common.{◌≡◌, ℕ, List, [], ◌∷◌, ◌++◌, length, Option, Some, None, sym, ap, ◌∙◌, IsUtf8, encode_utf8, encode_utf8_all, drop, arith}
-use Rattle.std.specs.Prelude.{chars}
 use Rattle.std.specs.Str.Iter.{chars_rest, chars_steps}
 use Rattle.std.specs.declared.str.Chars.{Chars}
 use Rattle.std.proofs.lemmas.Str.{chars_past_char, IsUtf8-past_char, encodes-chars, chars-nil}

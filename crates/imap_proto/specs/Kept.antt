@@ -3,7 +3,7 @@ use Rattle.std.specs.Prelude.{◌≡◌, List, ◌++◌, map, Option, None, Some
 use Rattle.imap_grammar.specs.declared.answer.Err.{Err as Fault}
 use Rattle.imap_grammar.specs.Text.{Bytes}
 use Rattle.imap_grammar.specs.Rule.{meaning}
-use Rattle.imap_grammar.specs.Answer.{Refuses}
+use Rattle.imap_grammar.specs.Answer.{Refuses, Returned}
 use Rattle.imap_body.specs.AttributeValues.{AttributeValue}
 use Rattle.imap_body.specs.SpannedAttributes.{attribute_in}
 use Rattle.imap_proto.specs.declared.kept.KeptFetch.{KeptFetch}
@@ -20,3 +20,8 @@ abbrev pub Keeps : Bytes → Result (Option KeptFetch) Fault → Type 0
 Keeps m (Ok (Some k)) = (rest : Bytes) × (m ≡ k.bytes.items ++ rest) × (meaning response).yields m (Fetch k.number (attributes_of k)) rest
 Keeps m (Ok None) = (v : ResponseValue) × (rest : Bytes) × (meaning response).yields m v rest × ¬ (IsFetch v)
 Keeps m (Err e) = Refuses (meaning response) m e
+
+-- an answer, its value dropped
+abbrev pub without_value : {A : Type 0} → Returned A → Result (Unit {0}) Fault
+without_value (Ok x) = Ok tt
+without_value (Err e) = Err e

@@ -7,7 +7,7 @@ ghost use Rattle.imap_grammar.specs.Step.{step};
 ghost use Rattle.imap_grammar.specs.Tags.{crlf};
 ghost use Rattle.imap_body.specs.AttributeValues.{attribute_value};
 ghost use Rattle.imap_body.specs.SpannedAttributes.{attribute_in};
-ghost use Rattle.imap_proto.specs.Kept.{Keeps, attributes_of};
+ghost use Rattle.imap_proto.specs.Kept.{Keeps, attributes_of, without_value};
 ghost use Rattle.imap_proto.specs.Responses.{fetch_in};
 ghost use Rattle.imap_proto.specs.Lines as rule;
 
@@ -15,10 +15,10 @@ use crate::data::spaces_end;
 use crate::response::Response;
 use imap_body::AttributeValue;
 use imap_body::spanned::{SpannedAttribute, attribute_list_at};
-use imap_bytes::Err;
 use imap_bytes::at::numbers::number;
 use imap_bytes::at::span::Span;
 use imap_bytes::at::tags::{cut0, tag, word};
+use imap_bytes::{Err, IResult};
 use std::alloc::{AllocError, Global};
 
 #[tactic(auto, unfolding(crate::specs::Lines::spaces))]
@@ -57,6 +57,16 @@ fn fetch_line(alloc: Global, m: &[u8]) -> Result<(usize, (u32, Vec<SpannedAttrib
     Ok((p, (number, attributes)))
 }
 
+// An answer, its value dropped.
+fn valueless<T: Drop>(answer: IResult<&[u8], T>) -> Result<(), Err>
+    ensures { result ≡ without_value answer.entry }
+{
+    match answer {
+        Ok(_) => Ok(()),
+        Err(e) => Err(e),
+    }
+}
+
 /// A `FETCH` that is kept: what it consumed, once, and where its attributes stand in that.
 #[derive(Drop)]
 pub struct KeptFetch {
@@ -70,7 +80,6 @@ impl KeptFetch {
     /// Keeps the `FETCH` at the front of the message; `None` where another response stands there.
     ///
     /// `Error`, `Incomplete` and `Failure` as `Response::parse`. It answers for the whole message: what the `FETCH` consumed may wait by itself.
-    #[tactic(auto, using(crate::proofs::Fetching::kept, crate::proofs::Fetching::other, crate::proofs::Fetching::refused, crate::proofs::Fetching::parse_refused))]
     pub fn keep(alloc: Global, msg: &[u8]) -> Result<Option<KeptFetch>, Err>
         ensures { Keeps msg.now result }
     {
@@ -85,11 +94,12 @@ impl KeptFetch {
                     bytes,
                 }))
             }
-            Err(Err::Error) => match Response::parse(alloc, msg) {
-                Ok(_) => Ok(None),
+            Err(Err::Error) => match valueless(Response::parse(alloc, msg)) {
+                Ok(()) => Ok(None),
                 Err(e) => Err(e),
             },
-            Err(e) => Err(e),
+            Err(Err::Incomplete(needed)) => Err(Err::Incomplete(needed)),
+            Err(Err::Failure) => Err(Err::Failure),
         }
     }
 

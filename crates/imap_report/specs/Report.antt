@@ -5,7 +5,7 @@ use Rattle.imap_report.specs.Devices.{AppendsFront}
 use Rattle.std.specs.Fmt.{decimal}
 use Rattle.imap_grammar.specs.Rule.{meaning}
 use Rattle.imap_grammar.specs.Meaning.{Denies}
-use Rattle.imap_proto.specs.Responses.{ResponseValue, Capabilities, Continue, Done, Data, Expunge, Vanished, MailboxData, Quota, QuotaRoot, Id, Acl, ListRights, MyRights}
+use Rattle.imap_proto.specs.Responses.{ResponseValue, Capabilities, Continue, Done, Data, Expunge, Vanished, Fetch, MailboxData, Quota, QuotaRoot, Id, Acl, ListRights, MyRights}
 use Rattle.imap_proto.specs.Lines.{response}
 use Rattle.std.specs.String.{string_bytes}
 use Rattle.imap_report.specs.declared.telling.Turn.{Turn}
@@ -21,6 +21,7 @@ name_of (Done tag status o) = codes "done"
 name_of (Data status o) = codes "data"
 name_of (Expunge n) = codes "expunge"
 name_of (Vanished earlier uids) = codes "vanished"
+name_of (Fetch n attributes) = codes "fetch"
 name_of (MailboxData datum) = codes "mailboxdata"
 name_of (Quota quota) = codes "quota"
 name_of (QuotaRoot root) = codes "quotaroot"

@@ -20,6 +20,7 @@ fn name(response: &Response<'_>) -> &'static str
         Response::Data { .. } => "data",
         Response::Expunge(_) => "expunge",
         Response::Vanished { .. } => "vanished",
+        Response::Fetch(_, _) => "fetch",
         Response::MailboxData(_) => "mailboxdata",
         Response::Quota(_) => "quota",
         Response::QuotaRoot(_) => "quotaroot",

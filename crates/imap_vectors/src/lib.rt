@@ -20,6 +20,8 @@ mod envelopes;
 #[cfg(test)]
 mod extensions;
 #[cfg(test)]
+mod fetches;
+#[cfg(test)]
 mod lists;
 #[cfg(test)]
 mod mailboxes;
