@@ -40,8 +40,8 @@ const FLAGS_AND_NUMBERS: Rows = &[
         r#"Fetch(1, [GmailLabels(["\\\\", "\\Important", "a"]), GmailMsgId(1278455344230334865), GmailThrId(3)])"#,
     ),
     (
-        b"* 1 FETCH (EMAILID (M1) THREADID (T1) THREADID NIL EMAILID NIL)\r\n",
-        r#"Fetch(1, [EmailId("M1"), ThreadId(Some("T1")), ThreadId(None), Unknown])"#,
+        b"* 1 FETCH (EMAILID (M1) THREADID (T6d) THREADID NIL EMAILID NIL)\r\n",
+        r#"Fetch(1, [EmailId("M1"), ThreadId(Some("T6d")), ThreadId(None), Unknown])"#,
     ),
     (b"* 1 FETCH (FLAGS (\xff))\r\n", "Fetch(1, [Unknown])"),
 ];

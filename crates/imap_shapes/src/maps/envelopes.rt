@@ -52,11 +52,7 @@ fn mapped_addresses<B, C: Change<B>>(
 impl<B> Envelope<B> {
     /// The same envelope with each text changed.
     #[tactic(auto, unfolding(crate::specs::EnvelopeValues::envelope_seen))]
-    pub fn try_map<C: Change<B>>(
-        &self,
-        alloc: Global,
-        c: &C,
-    ) -> Result<Envelope<C::To>, AllocError>
+    pub fn try_map<C: Change<B>>(&self, alloc: Global, c: &C) -> Result<Envelope<C::To>, AllocError>
         ensures { IfOk result (λ e. envelope_seen C.after e ≡ envelope_seen (C.before c.now) self.now) }
     {
         Ok(Envelope {

@@ -8,10 +8,7 @@ use super::change::Change;
 use std::alloc::{AllocError, Global};
 
 /// A text that may be missing, changed.
-pub fn mapped_text<X, C: Change<X>>(
-    c: &C,
-    text: &Option<X>,
-) -> Result<Option<C::To>, AllocError>
+pub fn mapped_text<X, C: Change<X>>(c: &C, text: &Option<X>) -> Result<Option<C::To>, AllocError>
     ensures { IfOk result (λ t. option_map C.after t ≡ option_map (C.before c.now) text.now) }
 {
     match text {
