@@ -4,9 +4,10 @@ ghost use Rattle.std.specs.Prelude.{◌≡◌, ◌<◌, length, position, IfSome
 ghost use Rattle.imap_grammar.specs.Answer.{Exactly, Gives};
 ghost use Rattle.imap_grammar.specs.Meaning.{outside};
 ghost use Rattle.imap_grammar.specs.Rule.{◌⨾◌};
+ghost use Rattle.imap_grammar.specs.Memory.{SucceedsFor};
 ghost use Rattle.imap_grammar.specs.Step.{step};
 ghost use Rattle.imap_grammar.specs.Tags.{crlf};
-ghost use Rattle.imap_proto.specs.Responses.{response_value};
+ghost use Rattle.imap_proto.specs.Responses.{response_value, NeedsNoMemory};
 ghost use Rattle.imap_proto.specs.Lines as rule;
 
 use crate::outcomes::spaced_outcome;
@@ -65,11 +66,17 @@ macro_rules! line {
 
 #[tactic(auto, unfolding(crate::specs::Lines::status_line, crate::specs::Lines::status_data))]
 fn status_line(alloc: Global, i: &[u8]) -> IResult<&[u8], Response<'_>>
-    ensures { Gives response_value result (step rule.status_line i.now) }
+    ensures steps { Gives response_value result (step rule.status_line i.now) }
+    ensures memory { SucceedsFor NeedsNoMemory rule.status_line i.now result }
 {
     let (i, status) = status(i)?;
-    line!(spaced_outcome(alloc, i), outcome => Response::Data { status, outcome });
-    Err(Err::Error)
+    match spaced_outcome(alloc, i) {
+        Ok((i, outcome)) => {
+            let (rest, _) = line_end(i)?;
+            Ok((rest, Response::Data { status, outcome }))
+        }
+        Err(e) => Err(e),
+    }
 }
 
 // The number is read once, whichever word stands behind it.
@@ -86,7 +93,8 @@ fn numbered_line(i: &[u8]) -> IResult<&[u8], Response<'_>>
 
 #[tactic(auto, unfolding(crate::specs::Lines::mailbox_line))]
 fn mailbox_line(alloc: Global, i: &[u8]) -> IResult<&[u8], Response<'_>>
-    ensures { Gives response_value result (step rule.mailbox_line i.now) }
+    ensures steps { Gives response_value result (step rule.mailbox_line i.now) }
+    ensures memory { SucceedsFor NeedsNoMemory rule.mailbox_line i.now result }
 {
     line!(mailbox_datum(alloc, i), found => Response::MailboxData(found));
     Err(Err::Error)
@@ -163,7 +171,8 @@ fn acl_line(alloc: Global, i: &[u8]) -> IResult<&[u8], Response<'_>>
 /// A datum and the end of its line: of the alternatives those are tried, in order, that may start with the first byte.
 #[tactic(auto, using(crate::proofs::FirstBytes::datum_none, crate::proofs::FirstBytes::datum_of_status, crate::proofs::FirstBytes::datum_of_number, crate::proofs::FirstBytes::datum_of_mailbox, crate::proofs::FirstBytes::datum_of_list, crate::proofs::FirstBytes::datum_of_capability, crate::proofs::FirstBytes::datum_of_enabled, crate::proofs::FirstBytes::datum_of_annotation, crate::proofs::FirstBytes::datum_of_vanished, crate::proofs::FirstBytes::datum_of_quota, crate::proofs::FirstBytes::datum_of_id, crate::proofs::FirstBytes::datum_of_acl, crate::proofs::FirstBytes::datum_other))]
 pub(crate) fn datum_line(alloc: Global, i: &[u8]) -> IResult<&[u8], Response<'_>>
-    ensures { Gives response_value result (step rule.ended_datum i.now) }
+    ensures steps { Gives response_value result (step rule.ended_datum i.now) }
+    ensures memory { SucceedsFor NeedsNoMemory rule.ended_datum i.now result }
 {
     match i.first() {
         None => Err(Err::Incomplete(Needed::Unknown)),
