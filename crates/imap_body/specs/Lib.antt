@@ -1,2 +1,6 @@
 pub mod SectionValues
 pub mod Sections
+pub mod AttributeValues
+pub mod Attributes
+pub mod SpannedAttributes
+pub mod SectionTexts

@@ -31,6 +31,14 @@ header_fields = fields_word ▹ opt not_word ▹ sp ▹ header_list ▹ nothing 
 unfoldable pub section_msgtext : Rule MessageSection
 section_msgtext = header_fields or names "HEADER" Header or names "TEXT" Text
 
+-- of these those that start alike
+
+unfoldable pub header_text : Rule MessageSection
+header_text = header_fields or names "HEADER" Header
+
+unfoldable pub body_text : Rule MessageSection
+body_text = names "TEXT" Text
+
 -- section-text = section-msgtext / "MIME"
 unfoldable pub section_text : Rule MessageSection
 section_text = section_msgtext or names "MIME" Mime

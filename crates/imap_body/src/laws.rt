@@ -3,10 +3,19 @@
 ghost use Rattle.std.specs.Prelude.{ℕ};
 ghost use Rattle.imap_grammar.specs.Stable.{Stable};
 ghost use Rattle.imap_body.specs.Sections as sections;
+ghost use Rattle.imap_body.specs.Attributes as attributes;
 ghost use Rattle.imap_structure.specs.Envelopes as envelopes;
 ghost use Rattle.imap_structure.specs.Fields as fields;
 ghost use Rattle.imap_structure.specs.Extensions as extensions;
 ghost use Rattle.imap_structure.specs.Bodies as bodies;
+ghost use Rattle.std.specs.Option.{option_map};
+ghost use Rattle.imap_grammar.specs.ReadBack.{Keeps, Closes, as_is};
+ghost use Rattle.imap_shapes.specs.Lent.{lent_address, lent_addresses, lent_envelope, lent_params, lent_encoding, lent_fields, lent_disposition, lent_languages, lent_extension, lent_ext_1part, lent_ext_mpart, lent_body};
+ghost use Rattle.imap_body.specs.SectionTexts.{canonical_text, canonical_part, canonical_path, canonical_section, spells_message_text, spells_text, spells_part, spells_path, spells_section};
+ghost use Rattle.imap_structure.specs.EnvelopeTexts.{canonical_address, canonical_addresses, canonical_envelope, spells_address, spells_addresses, spells_envelope};
+ghost use Rattle.imap_structure.specs.FieldTexts.{canonical_params, canonical_encoding, canonical_fields, spells_params, spells_encoding, spells_fields};
+ghost use Rattle.imap_structure.specs.ExtensionTexts.{canonical_disposition, canonical_languages, canonical_extension, canonical_ext_1part, canonical_ext_mpart, spells_disposition, spells_languages, spells_extension, spells_ext_1part, spells_ext_mpart};
+ghost use Rattle.imap_structure.specs.BodyTexts.{canonical_body, spells_body};
 
 /// Each rule has one answer, and appended bytes change neither a value nor a denial, and make what is lacking as much smaller.
 #[tactic(auto, using(imap_grammar::proofs::Stability::is_stable))]
@@ -31,4 +40,49 @@ pub fn stable()
     ensures body_ext_mpart { Stable extensions.body_ext_mpart }
     ensures body { (level : ℕ) → Stable (bodies.body level) }
     ensures body_structure { Stable bodies.body_structure }
+    ensures msg_att_body_section { Stable attributes.msg_att_body_section }
+    ensures msg_att_body_structure { Stable attributes.msg_att_body_structure }
+    ensures msg_att_envelope { Stable attributes.msg_att_envelope }
+    ensures msg_att_internal_date { Stable attributes.msg_att_internal_date }
+    ensures msg_att_flags { Stable attributes.msg_att_flags }
+    ensures msg_att_mod_seq { Stable attributes.msg_att_mod_seq }
+    ensures msg_att_rfc822 { Stable attributes.msg_att_rfc822 }
+    ensures msg_att_rfc822_header { Stable attributes.msg_att_rfc822_header }
+    ensures msg_att_rfc822_size { Stable attributes.msg_att_rfc822_size }
+    ensures msg_att_rfc822_text { Stable attributes.msg_att_rfc822_text }
+    ensures msg_att_uid { Stable attributes.msg_att_uid }
+    ensures msg_att_gmail_labels { Stable attributes.msg_att_gmail_labels }
+    ensures msg_att_gmail_msgid { Stable attributes.msg_att_gmail_msgid }
+    ensures msg_att_gmail_thrid { Stable attributes.msg_att_gmail_thrid }
+    ensures object_id { Stable attributes.object_id }
+    ensures msg_att_email_id { Stable attributes.msg_att_email_id }
+    ensures msg_att_thread_id { Stable attributes.msg_att_thread_id }
+    ensures msg_att_unknown { Stable attributes.msg_att_unknown }
+    ensures attribute { Stable attributes.attribute }
+    ensures attribute_list { Stable attributes.attribute_list }
+{}
+
+/// What each rule takes spells the value that it yields. And a value that it yields on some bytes, it yields again on the value's canonical text, with all texts borrowed,
+/// and leaves exactly what follows: any bytes that begin with `)` or CR. A text too long for its length to be told as a literal is excepted.
+#[tactic(auto, using(crate::proofs::SectionTexts::keeps_section_msgtext, crate::proofs::SectionTexts::keeps_section_text, crate::proofs::SectionTexts::keeps_section_part, crate::proofs::SectionTexts::keeps_section_spec, crate::proofs::SectionTexts::keeps_section, imap_structure::proofs::EnvelopeTexts::keeps_address, imap_structure::proofs::EnvelopeTexts::keeps_addresses, imap_structure::proofs::EnvelopeTexts::keeps_envelope, imap_structure::proofs::FieldTexts::keeps_params, imap_structure::proofs::FieldTexts::keeps_encoding, imap_structure::proofs::FieldTexts::keeps_fields, imap_structure::proofs::ExtensionTexts::keeps_disposition, imap_structure::proofs::ExtensionTexts::keeps_language, imap_structure::proofs::ExtensionTexts::keeps_body_extension, imap_structure::proofs::ExtensionTexts::keeps_ext_1part, imap_structure::proofs::ExtensionTexts::keeps_ext_mpart, imap_structure::proofs::BodyTexts::keeps_body_structure))]
+pub fn read_back()
+    ensures section_msgtext { Keeps sections.section_msgtext as_is canonical_text spells_message_text Closes }
+    ensures section_text { Keeps sections.section_text as_is canonical_text spells_text Closes }
+    ensures section_part { Keeps sections.section_part as_is canonical_part spells_part Closes }
+    ensures section_spec { Keeps sections.section_spec as_is canonical_path spells_path Closes }
+    ensures section { Keeps sections.section as_is canonical_section spells_section Closes }
+    ensures address { Keeps envelopes.address lent_address canonical_address spells_address Closes }
+    ensures addresses { Keeps envelopes.addresses lent_addresses canonical_addresses spells_addresses Closes }
+    ensures envelope { Keeps envelopes.envelope lent_envelope canonical_envelope spells_envelope Closes }
+    ensures body_fld_param { Keeps fields.body_fld_param lent_params canonical_params spells_params Closes }
+    ensures body_fld_enc { Keeps fields.body_fld_enc lent_encoding canonical_encoding spells_encoding Closes }
+    ensures body_fields { Keeps fields.body_fields lent_fields canonical_fields spells_fields Closes }
+    ensures body_fld_dsp { Keeps extensions.body_fld_dsp (option_map lent_disposition) canonical_disposition spells_disposition Closes }
+    ensures body_fld_lang { Keeps extensions.body_fld_lang lent_languages canonical_languages spells_languages Closes }
+    ensures extension { (level : ℕ) → Keeps (extensions.extension level) lent_extension canonical_extension spells_extension Closes }
+    ensures body_extension { Keeps extensions.body_extension lent_extension canonical_extension spells_extension Closes }
+    ensures body_ext_1part { Keeps extensions.body_ext_1part lent_ext_1part canonical_ext_1part spells_ext_1part Closes }
+    ensures body_ext_mpart { Keeps extensions.body_ext_mpart lent_ext_mpart canonical_ext_mpart spells_ext_mpart Closes }
+    ensures body { (level : ℕ) → Keeps (bodies.body level) lent_body canonical_body spells_body Closes }
+    ensures body_structure { Keeps bodies.body_structure lent_body canonical_body spells_body Closes }
 {}

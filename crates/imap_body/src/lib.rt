@@ -1,9 +1,12 @@
-//! Bodies of messages: sections, envelopes, body structures with their levels, and part search.
+//! What a server tells of a message: attributes and sections; re-exports envelopes, body structures and part search.
 #![tactic(auto)]
 
 pub mod at;
 pub mod laws;
+mod maps;
+mod owned;
 pub mod readers;
+pub mod spanned;
 mod types;
 
 pub use imap_shapes::{
@@ -12,5 +15,7 @@ pub use imap_shapes::{
     ContentType, Envelope, PartsError, search, shapes, spans,
 };
 pub use imap_structure::{MAX_BODY_DEPTH, MAX_EXTENSION_DEPTH};
+pub use readers::attributes::msg_att_body_section;
 pub use readers::sections::{section, section_msgtext, section_part};
+pub use types::attributes::AttributeValue;
 pub use types::sections::{MessageSection, SectionPath};

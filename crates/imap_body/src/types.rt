@@ -1,3 +1,4 @@
-//! The public types of sections.
+//! The public types of attributes and sections.
 
+pub mod attributes;
 pub mod sections;

@@ -6,17 +6,17 @@ use Rattle.std.proofs.lemmas.Bool.Decides.{nat_tests}
 use Rattle.std.proofs.lemmas.List.{map-id}
 use Rattle.std.specs.Char.{to_ascii_lowercase, to_ascii_uppercase}
 use Rattle.imap_grammar.specs.Meaning.{Denies, differs, outside}
-use Rattle.imap_grammar.specs.Rule.{Rule, meaning, gives, many, ◌▹◌, ◌◃◌}
+use Rattle.imap_grammar.specs.Rule.{Rule, tag_by, meaning, gives, many, ◌▹◌, ◌◃◌}
 use Rattle.imap_grammar.specs.Text.{Bytes}
 use Rattle.imap_grammar.specs.Classes.{is_digit, is_blank}
 use Rattle.imap_grammar.specs.Tags.{same_letter, word, sp, blanks1}
 use Rattle.imap_grammar.specs.Pieces.{Pieces, written, words, space, number_text, range_text, ranges_text, each, ◌then◌}
 use Rattle.imap_grammar.specs.ReadBack.{ReadsBack, Apart, Takes, Starts, Closes, as_is}
 use Rattle.imap_grammar.proofs.Yields.{Yields, either_yields, given_yields}
-use Rattle.imap_grammar.proofs.Reading.{test-has, reads-gives, reads-same, reads-before, reads-many, reads-after_where, reads-as, first_yields, denies-run1, denies-tag, denies-after, closes-in, ◌▹ʳ◌}
+use Rattle.imap_grammar.proofs.Reading.{test-has, reads-gives, reads-same, reads-before, reads-many, reads-after_where, reads-as, first_yields, denies-gives, denies-test, denies-run1, denies-tag, denies-after, closes-in, ◌▹ʳ◌}
 use Rattle.imap_grammar.proofs.ReadingWords.{first-apart}
 use Rattle.imap_grammar.proofs.ReadingLists.{takes-text, takes-blanks}
-use Rattle.imap_bytes.specs.Numbers.{number, number_64}
+use Rattle.imap_bytes.specs.Numbers.{digits, number, number_64}
 use Rattle.imap_bytes.specs.Sets.{single, sequence_item, sequence_set}
 use Rattle.imap_bytes.proofs.ReadingTexts.{not_digit, number_on, number_first, reads-number}
 use Rattle.imap_bytes.proofs.ReadingSets.{number_bound, range_bounds}
@@ -45,6 +45,15 @@ numbers_64_yield = record { each = λ m n rest y. ltb-true n (2 ^ 64) (test-has 
 -- a word that begins with no digit differs from a number
 pub word_no_number : (x : ℕ) (k : Bytes) → (not_digit (to_ascii_lowercase x) && not_digit (to_ascii_uppercase (to_ascii_lowercase x))) ≡ true → (b : ℕ) (t : Bytes) → is_digit b ≡ true → differs same_letter (x ∷ k) (b ∷ t) ≡ true
 word_no_number x k h b t d = first-apart not_digit x k b t h (ap not d)
+
+pub denies-number : (m : Bytes) → Starts not_digit m → Denies (meaning number) m
+unfolding number digits
+denies-number m s = denies-test _ _ _ (denies-gives _ _ _ (denies-run1 _ _ s))
+
+-- a word that begins with no digit, on what does
+pub denies-word_at_digit : (x : ℕ) (k : Bytes) → (not_digit (to_ascii_lowercase x) && not_digit (to_ascii_uppercase (to_ascii_lowercase x))) ≡ true → (m : Bytes) → Starts is_digit m → Denies (meaning (tag_by same_letter (x ∷ k))) m
+denies-word_at_digit x k h [] g = absurd (false≢true g)
+denies-word_at_digit x k h (b ∷ m) g = denies-tag _ _ _ (word_no_number x k h b m g)
 
 -- ---- a number and a word
 

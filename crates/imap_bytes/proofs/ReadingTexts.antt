@@ -1,5 +1,5 @@
 -- Numbers, strings and texts read back.
-use Rattle.std.proofs.Common.{◌≡◌, ℕ, ◌<◌, ◌≤◌, ◌^◌, Bool, true, [], ◌∷◌, ◌++◌, length, IsTrue, Option, None, Some, sym, subst, refl, inr, append_assoc, append-nil, arith, codes, decimal, ap₂, nat_lt, IsUtf8}
+use Rattle.std.proofs.Common.{◌≡◌, ℕ, ◌<◌, ◌≤◌, ◌^◌, Bool, true, [], ◌∷◌, ◌++◌, length, IsTrue, Option, None, Some, sym, ◌∙◌, subst, refl, inl, inr, append_assoc, append-nil, arith, codes, decimal, ap₂, nat_lt, IsUtf8}
 use Rattle.std.proofs.lemmas.Bool.{and_from, lt-ltb, ltb-true}
 use Rattle.std.proofs.lemmas.Bool.Decides.{nat_tests}
 use Rattle.std.proofs.lemmas.Fmt.{decimal_is_IsNumeral}
@@ -141,6 +141,20 @@ unfolding nil
 reads-nil_or e h apart none some =
     reads-alt (reads-names None (takes-tag _ _ (codes "NIL") refl) e none) (reads-gives Some h some)
     (apart-gives _ Some (λ x t g. denies-after _ _ _ (denies-tag _ _ _ (apart x t g))))
+
+-- NIL is read as no value, and what is read with a value is read by a
+pub nil_or-none : {A : Type 0} (a : Rule A) (t : Bytes) → (meaning (nil_or a)).yields (codes "NIL" ++ t) None t
+unfolding meaning nil
+nil_or-none a t = inl ((codes "NIL", None), (t, (refl, refl), (refl, refl)), refl)
+
+pub nil_or-some : {A : Type 0} (a : Rule A) (m rest : Bytes) (x : A) → (meaning (nil_or a)).yields m (Some x) rest → (meaning a).yields m x rest
+unfolding meaning
+nil_or-some a m rest x (inl y) =
+    let none : None ≡ Some x = y.1.2.0 ∙ y.2 in
+    absurd cc
+nil_or-some a m rest x (inr y) =
+    let same : y.1.0 ≡ x = cc in
+    subst (λ w. (meaning a).yields m w rest) same y.1.1
 
 pub reads-nstring : ReadsBack nstring as_is nstring_text Any
 unfolding nstring

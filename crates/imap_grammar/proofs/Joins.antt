@@ -1,39 +1,13 @@
 -- Readers over a reader that is passed: how the answers of their parts are joined.
-use Rattle.std.proofs.Common.{◌≡◌, ◌≢◌, ℕ, List, [], ◌∷◌, ◌++◌, length, inl, inr, Option, Some, None, Result, Ok, Err, refl, sym, ap, subst, ◌∙◌, ◌<◌, arith}
-use Rattle.std.proofs.lemmas.List.{length-append}
-use Rattle.std.specs.Borrow.{Bor}
+use Rattle.std.proofs.Common.{◌≡◌, ◌≢◌, ℕ, List, [], ◌∷◌, ◌++◌, inl, inr, Option, Some, None, Result, Ok, Err, refl, sym, ap, subst, ◌∙◌}
 use Rattle.imap_grammar.specs.declared.answer.Err.{Err as Fault}
 use Rattle.imap_grammar.specs.declared.answer.Err.TheVariants.{Incomplete, Error, Failure}
 use Rattle.imap_grammar.specs.Meaning.{Meaning, Cuts, seq_means, many_means, gives_means}
-use Rattle.imap_grammar.specs.Rule.{Rule, meaning, ◌⨾◌}
+use Rattle.imap_grammar.specs.Rule.{Rule, ◌⨾◌}
 use Rattle.imap_grammar.specs.Step.{step}
-use Rattle.imap_grammar.specs.Answer.{Returned}
 use Rattle.imap_grammar.specs.Tags.{tag}
-use Rattle.imap_grammar.specs.Lists.{called, Shortens, Allows, Follows, behind_means, enclosed_means, tried_of}
-use Rattle.imap_grammar.proofs.Agreement.{shrinks, reads, fails}
-
--- an exit by a fault
-pub stopped : {O V A : Type 0} {form : Meaning O → Meaning V} {answers : List ℕ → Returned O → Type 0} {view : A → V} {m : List ℕ} {result : Returned A} (d : Fault)
-    → result ≡ Err d → (form (called answers)).fails m d → Follows form answers view m result
-stopped {form = form} {answers = answers} {view = view} {m = m} d is f = subst (Follows form answers view m) (sym is) (record { met = f })
-
--- what such an answer says
-pub fault_of : {O V A : Type 0} {form : Meaning O → Meaning V} {answers : List ℕ → Returned O → Type 0} {view : A → V} {m : List ℕ} {result : Returned A} (d : Fault)
-    → Follows form answers view m result → result ≡ Err d → (form (called answers)).fails m d
-fault_of {form = form} {answers = answers} {view = view} {m = m} d h is = (subst (Follows form answers view m) is h).met
-
-pub found_of : {O V A : Type 0} {form : Meaning O → Meaning V} {answers : List ℕ → Returned O → Type 0} {view : A → V} {m : List ℕ} {result : Returned A} (x : Bor (List ℕ) × A)
-    → Follows form answers view m result → result ≡ Ok x → (form (called answers)).yields m (view x.1) x.0.now
-found_of {form = form} {answers = answers} {view = view} {m = m} x h is = (subst (Follows form answers view m) is h).met
-
--- the answer of the reader that was passed, behind what f reads
-pub told : {O V A : Type 0} {form : Meaning O → Meaning V} {answers : List ℕ → Returned O → Type 0} {view : A → V} {m : List ℕ} {result : Returned A}
-    → Allows (form (called answers)) view m result → Follows form answers view m result
-told h = record { met = h }
-
-pub behind_told : {S O : Type 0} (s : Meaning S) (answers : List ℕ → Returned O → Type 0) (m mid : List ℕ) (x : S) (result : Returned O) → s.yields m x mid → answers mid result → Follows (behind_means s) answers (λ y. y) m result
-behind_told s answers m mid x (Ok y) one two = record { met = ((x, y.1), (mid, one, (y.0, refl, two)), refl) }
-behind_told s answers m mid x (Err d) one two = record { met = inr (x, mid, one, two) }
+use Rattle.imap_grammar.specs.Lists.{enclosed_means, tried_of}
+use Rattle.imap_grammar.proofs.Agreement.{reads, fails}
 
 -- what an answer that was tried says of it
 some_of : {A : Type 0} (r : Result A Fault) (x : A) → tried_of r ≡ Ok (Some x) → r ≡ Ok x
@@ -89,12 +63,6 @@ begun_ends a b m items rest h y = ((h.first, h.more), (h.start, h.reads, (h.cuts
 
 pub begun_stops : {A : Type 0} (a b : Meaning A) (m : List ℕ) (items : List A) (rest : List ℕ) (d : Fault) → Begun a b m items rest → b.fails rest d → d ≢ Error → (then_many_means a b).fails m d
 begun_stops a b m items rest d h f other = inr (h.first, h.start, h.reads, (h.more, rest, h.cuts, inl (f, other)))
-
--- what is read behind a separator leaves less
-pub behind_shorter : {S O : Type 0} (s : Rule S) (answers : List ℕ → Returned O → Type 0) (m rest : List ℕ) (v : O) → Shortens answers → (behind_means (meaning s) (called answers)).yields m v rest → length rest < length m
-behind_shorter s answers m rest v short h =
-    let front = shrinks s m h.0.0 h.1.0 h.1.1 in
-    omega (arith, ap length front.1, length-append front.0 h.1.0, ap length h.1.2.1, short.shorter h.1.0 h.1.2.0 h.0.1 h.1.2.2)
 
 -- ---- in brackets
 

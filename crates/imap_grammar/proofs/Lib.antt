@@ -22,7 +22,10 @@ pub mod Positions
 pub mod PositionJoins
 pub mod PositionUnder
 pub mod PositionRests
+pub mod Sliced
 pub mod Reading
 pub mod ReadingWords
 pub mod ReadingLists
 pub mod Spelling
+pub mod ReadingChoices
+pub mod ReadingIf

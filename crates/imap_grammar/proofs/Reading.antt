@@ -49,6 +49,11 @@ pub denies-after : {A B : Type 0} (a : Rule A) (b : Rule B) (m : Bytes) → Deni
 unfolding meaning
 denies-after a b m d = inl d
 
+-- behind what the first part yields
+pub denies-behind : {A B : Type 0} (a : Rule A) (b : Rule B) (m : Bytes) (x : A) (mid : Bytes) → (meaning a).yields m x mid → Denies (meaning b) mid → Denies (meaning (a ▹ b)) m
+unfolding meaning
+denies-behind a b m x mid y d = inr (x, mid, y, d)
+
 pub denies-before : {A B : Type 0} (a : Rule A) (b : Rule B) (m : Bytes) → Denies (meaning a) m → Denies (meaning (a ◃ b)) m
 unfolding meaning
 denies-before a b m d = inl d
@@ -228,12 +233,12 @@ module _ {A : Type 0} {a : Rule A} {l : A → A} {c : A → Pieces} {F G : Bytes
   reads-many h next end stop = record { again = λ m v rest y fits t g. (again-each h next end v m rest y.0 fits t g, stop t g) }
 
 module _ {A S : Type 0} {a : Rule A} {s : Rule S} {l : A → A} {c : A → Pieces} {p : Pieces} {F G H : Bytes → Type 0} where
-  -- an element may follow what separates; what separates may follow an element, and t may too, which s denies
-  pub reads-list1 : Takes s p H → ReadsBack a l c F → ((y : A) (t : Bytes) → H (written (c y) ++ t)) → ((t : Bytes) → F (written p ++ t)) → ((t : Bytes) → G t → F t) → ((t : Bytes) → G t → Denies (meaning s) t)
+  -- an element may follow what separates; what separates may follow an element, and t may too, on which s or an element behind it is denied
+  pub reads-list1_until : Takes s p H → ReadsBack a l c F → ((y : A) (t : Bytes) → H (written (c y) ++ t)) → ((t : Bytes) → F (written p ++ t)) → ((t : Bytes) → G t → F t) → ((t : Bytes) → G t → Denies (meaning (s ▹ a)) t)
       → ReadsBack (list1 s a) (map l) (separated p c) G
-  reads-list1 takes h begin sep end stop =
+  reads-list1_until takes h begin sep end stop =
       reads-gives _ (reads-seq h
-      (reads-many (reads-after takes h (λ y t f. begin y t)) (λ y t. subst F (sym (written_on p (c y) t)) (sep (written (c y) ++ t))) end (λ t g. denies-after s a t (stop t g)))
+      (reads-many (reads-after takes h (λ y t f. begin y t)) (λ y t. subst F (sym (written_on p (c y) t)) (sep (written (c y) ++ t))) end stop)
       follow) (λ x. refl)
     where
       follow : (ys : List A) (t : Bytes) → G t → F (written (each (λ y. p then c y) ys) ++ t)
@@ -241,6 +246,10 @@ module _ {A S : Type 0} {a : Rule A} {s : Rule S} {l : A → A} {c : A → Piece
       follow (y ∷ ys) t g =
           subst F (sym (written_on (p then c y) (each (λ y. p then c y) ys) t ∙ written_on p (c y) (written (each (λ y. p then c y) ys) ++ t)))
           (sep (written (c y) ++ (written (each (λ y. p then c y) ys) ++ t)))
+
+  pub reads-list1 : Takes s p H → ReadsBack a l c F → ((y : A) (t : Bytes) → H (written (c y) ++ t)) → ((t : Bytes) → F (written p ++ t)) → ((t : Bytes) → G t → F t) → ((t : Bytes) → G t → Denies (meaning s) t)
+      → ReadsBack (list1 s a) (map l) (separated p c) G
+  reads-list1 takes h begin sep end stop = reads-list1_until takes h begin sep end (λ t g. denies-after s a t (stop t g))
 
   -- maybe none, where a denies what may follow
   pub reads-list0 : Takes s p H → ReadsBack a l c F → ((y : A) (t : Bytes) → H (written (c y) ++ t)) → ((t : Bytes) → F (written p ++ t)) → ((t : Bytes) → G t → F t) → ((t : Bytes) → G t → Denies (meaning s) t)
@@ -465,6 +474,11 @@ module _ {A : Type 0} {a : Rule A} {l : A → A} {c : A → Pieces} {F : Bytes �
         let same = e v (p.each m v rest y) in
         subst (λ q. (meaning a).yields (written q ++ t) (l v) t) same (h.again m v rest y (subst Fits (sym same) f) t g);
   }
+
+module _ {V W : Type 0} {a : Rule V} {b : Rule W} {c : W → Pieces} {F : Bytes → Type 0} where
+  -- what the first denies, by what is known of the second's values
+  pub apart-where : {P : W → Type 0} → Yields P b → ((v : W) (t : Bytes) → P v → F t → Denies (meaning a) (written (c v) ++ t)) → Apart a b c F
+  apart-where known h = record { denied = λ m v rest d y f t g. h v t (known.each m v rest y) g }
 
 -- a word that stands for a value is denied where the word is
 pub names-denied : {A S : Type 0} (s : Rule S) (x : A) (m : Bytes) → Denies (meaning (s ▹ nothing x)) m → Denies (meaning s) m

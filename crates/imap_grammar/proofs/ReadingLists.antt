@@ -1,12 +1,12 @@
 -- Words, blanks and lists in brackets read back.
-use Rattle.std.proofs.Common.{◌≡◌, ℕ, Bool, true, ◌==◌, [], ◌∷◌, refl, arith, codes, map}
+use Rattle.std.proofs.Common.{◌≡◌, ℕ, Bool, true, ◌==◌, [], ◌∷◌, inl, refl, arith, codes, map}
 use Prim.Native.String.{String}
 use Rattle.std.proofs.lemmas.Bool.{eq-eqb, and_from}
 use Rattle.imap_grammar.specs.Meaning.{Denies, is_word, outside}
-use Rattle.imap_grammar.specs.Rule.{Rule, run0, meaning}
+use Rattle.imap_grammar.specs.Rule.{Rule, run0, list1, meaning}
 use Rattle.imap_grammar.specs.Text.{Bytes}
 use Rattle.imap_grammar.specs.Classes.{is_blank}
-use Rattle.imap_grammar.specs.Tags.{same_letter, tag, word, blanks0, blanks1}
+use Rattle.imap_grammar.specs.Tags.{same_letter, sp, tag, word, blanks0, blanks1}
 use Rattle.imap_grammar.specs.Lists.{list_of, nonempty_list_of}
 use Rattle.imap_grammar.specs.Pieces.{Pieces, words, space, list_text}
 use Rattle.imap_grammar.specs.ReadBack.{ReadsBack, Takes, Any, Starts}
@@ -56,3 +56,10 @@ module _ {A : Type 0} {a : Rule A} {l : A → A} {c : A → Pieces} {F : Bytes �
       (reads-list1 {G = Begins 41} (takes-text " ") h (λ y t. tt) gap (begun _ bracket) (begun _ (λ t. denies-tag _ _ _ refl)))
       (takes-seq (takes-none {F = Begins 41} is_blank (begun _ (λ t. refl))) (takes-text ")") (λ t g. (t, refl)))
       (λ t g. (t, refl))
+
+-- a list of one
+pub list_on_one : {A : Type 0} (a : Rule A) (m : Bytes) (x : A) (t : Bytes) → (meaning a).yields m x (41 ∷ t) → (meaning (nonempty_list_of a)).yields (40 ∷ m) (x ∷ []) t
+unfolding meaning
+list_on_one a m x t y =
+    let one : (meaning (list1 sp a)).yields m (x ∷ []) (41 ∷ t) = ((x, []), (41 ∷ t, y, (refl, inl refl)), refl) in
+    ((40 ∷ [], x ∷ []), (m, (refl, refl), ((x ∷ [], ([], 41 ∷ [])), (41 ∷ t, one, (41 ∷ t, (refl, refl, refl), (refl, refl))), refl)), refl)

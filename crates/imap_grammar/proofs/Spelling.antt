@@ -3,7 +3,7 @@ use Rattle.std.proofs.Common.{◌≡◌, ℕ, ◌⊎◌, Bool, true, ◌==◌, L
 use Prim.Native.String.{String}
 use Rattle.std.proofs.lemmas.List.{append_cancel_right}
 use Rattle.imap_grammar.specs.Meaning.{Cuts}
-use Rattle.imap_grammar.specs.Rule.{Rule, tag_by, run0, run1, gives, test, raw, nothing, never, opt, many, counted, ◌⨾◌, ◌▹◌, ◌◃◌, ◌or◌, list1, list0, meaning}
+use Rattle.imap_grammar.specs.Rule.{Rule, tag_by, run0, run1, gives, test, raw, nothing, never, opt, many, counted, ◌⨾◌, ◌▹◌, ◌◃◌, ◌or◌, some1, list1, list0, meaning}
 use Rattle.imap_grammar.specs.Text.{Bytes}
 use Rattle.imap_grammar.specs.Classes.{is_blank}
 use Rattle.imap_grammar.specs.Tags.{tag, word, maybe_space, blanks0, blanks1, crlf}
@@ -163,6 +163,9 @@ module _ {A : Type 0} {a : Rule A} {S : A → Texts} where
   spells-many h = record { consumed = λ m v rest y. cuts h v m rest y.0 }
 
 module _ {A : Type 0} {a : Rule A} {S : A → Texts} where
+  pub spells-some1 : Spells a S → Spells (some1 a) (each_of S)
+  spells-some1 h = spells-gives _ (h ⨾ˢ spells-many h)
+
   pub spells-list1 : {P : Texts} {K : Type 0} {s : Rule K} → Spells s (λ _. P) → Spells a S → Spells (list1 s a) (with_between P S)
   spells-list1 k h = spells-gives _ (h ⨾ˢ spells-many (k ▹ˢ h))
 

@@ -8,8 +8,8 @@ use Rattle.imap_grammar.specs.Rule.{Rule, meaning}
 use Rattle.imap_grammar.specs.Step.{step}
 use Rattle.imap_grammar.specs.Answer.{Returned, Gives, Exactly}
 use Rattle.imap_grammar.specs.Tags.{tag}
-use Rattle.imap_grammar.specs.Lists.{called, Shortens, or_memory, flat, Allows, behind_means, some1_means, list1_means, list0_means, opt_means, enclosed_means, opt_opt_means}
-use Rattle.imap_grammar.proofs.Agreement.{agrees, exactly_gives}
+use Rattle.imap_grammar.specs.Lists.{called, Shortens, Ends, or_memory, flat, Allows, behind_means, some1_means, list1_means, list0_means, opt_means, enclosed_means, opt_opt_means}
+use Rattle.imap_grammar.proofs.Agreement.{agrees, shrinks, exactly_gives}
 use Rattle.imap_grammar.proofs.Consumption.{consumes, less}
 
 pub record Under {A B : Type 0} (P : Fault → Type 0) (v : A → B) (a : Meaning A) (b : Meaning B) : Type 0 where
@@ -61,7 +61,7 @@ many_under v a b p = record {
 
 -- ---- the forms of lists
 
-opt_under : {A B : Type 0} {P : Fault → Type 0} (v : A → B) (a : Meaning A) (b : Meaning B) → Under P v a b → Under P (option_map v) (opt_means a) (opt_means b)
+pub opt_under : {A B : Type 0} {P : Fault → Type 0} (v : A → B) (a : Meaning A) (b : Meaning B) → Under P v a b → Under P (option_map v) (opt_means a) (opt_means b)
 opt_under v a b p = alt_under (option_map v) (gives_means Some a) (gives_means Some b) (nothing_means None) (nothing_means None) (gives_under v (option_map v) Some Some a b (λ x. refl) p) (nothing_under (option_map v) None None refl p.error)
 
 -- behind what a meaning takes alike
@@ -146,9 +146,12 @@ pub memory_aside : {A X : Type 0} (a : Meaning A) (view : X → A) (m : List ℕ
 memory_aside a view m (Ok x) h = h
 memory_aside a view m (Err e) h = inl h
 
--- what a reader with the clause of a rule hands back is shorter, where the rule takes a byte
-pub kept_shortens : {O V : Type 0} {answers : List ℕ → Returned O → Type 0} (v : O → V) (b : Rule V) → Keeps answers v b → consumes b ≡ true → Shortens answers
-kept_shortens v b says c = record { shorter = λ m k x h. less b m k.now (v x) c (says m (Ok (k, x)) h) }
+-- what a reader with the clause of a rule hands back is an end of its input, and shorter, where the rule takes a byte
+pub kept_ends : {O V : Type 0} {answers : List ℕ → Returned O → Type 0} (v : O → V) (b : Rule V) → Keeps answers v b → Ends answers
+kept_ends v b says = record { cut = λ m k x h. shrinks b m (v x) k.now ((agrees b m).yielded (v x) k.now (says m (Ok (k, x)) h)) }
+
+pub shorter_ends : {O V : Type 0} {answers : List ℕ → Returned O → Type 0} (v : O → V) (b : Rule V) → Keeps answers v b → consumes b ≡ true → Shortens answers × Ends answers
+shorter_ends v b says c = (record { shorter = λ m k x h. less b m k.now (v x) c (says m (Ok (k, x)) h) }, kept_ends v b says)
 
 pub exactly_kept : {O V : Type 0} {answers : List ℕ → Returned O → Type 0} (v : O → V) (b : Rule V) → KeepsExactly answers v b → Keeps answers v b
 exactly_kept v b says m r h = exactly_gives v r (step b m) (says m r h)

@@ -1,5 +1,5 @@
 -- Lists and brackets, over rules and over readers that are passed.
-use Rattle.std.specs.Prelude.{◌≡◌, ℕ, ◌<◌, ◌⊎◌, List, [], ◌∷◌, length, Option, None, Some, Result, Ok, Err}
+use Rattle.std.specs.Prelude.{◌≡◌, ℕ, ◌<◌, ◌⊎◌, List, [], ◌∷◌, ◌++◌, length, Option, None, Some, Result, Ok, Err}
 use Rattle.std.specs.Borrow.{Bor}
 use Rattle.imap_grammar.specs.declared.answer.Err.{Err as Fault}
 use Rattle.imap_grammar.specs.declared.answer.Err.TheVariants.{Incomplete, Error, Failure}
@@ -87,6 +87,10 @@ called {O} answers =
 -- each rest that a call hands back is shorter than what it was given
 pub record Shortens {O : Type 0} (answers : List ℕ → Returned O → Type 0) : Type 0 where
   pub shorter : (m : List ℕ) (left : Bor (List ℕ)) (v : O) → answers m (Ok (left, v)) → length left.now < length m
+
+-- each rest that a call hands back is an end of what it was given
+pub record Ends {O : Type 0} (answers : List ℕ → Returned O → Type 0) : Type 0 where
+  pub cut : (m : List ℕ) (left : Bor (List ℕ)) (v : O) → answers m (Ok (left, v)) → (front : List ℕ) × (m ≡ front ++ left.now)
 
 -- the same answers, where memory may run out as well
 abbrev pub or_memory : {A : Type 0} → Meaning A → Meaning A

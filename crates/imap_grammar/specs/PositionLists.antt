@@ -1,6 +1,8 @@
 -- Lists over a reader of positions that is passed.
 use Rattle.std.specs.Prelude.{◌≡◌, ℕ, ◌<◌, ◌≤◌, List, length, drop, Ok, Err}
+use Rattle.std.specs.Borrow.{Bor}
 use Rattle.imap_grammar.specs.Meaning.{Meaning}
+use Rattle.imap_grammar.specs.Answer.{Returned}
 use Rattle.imap_grammar.specs.Positions.{Reached}
 
 -- what the calls of a reader may answer at positions of m, as a meaning
@@ -31,3 +33,8 @@ pub record FollowsAt {O V A : Type 0} (form : Meaning O → Meaning V) (answers 
 abbrev pub Onward : {A : Type 0} → List ℕ → ℕ → Reached A → Type 0
 Onward m p (Ok x) = (p < x.0) × (x.0 ≤ length m)
 Onward m p (Err e) = Unit {0}
+
+-- what a reader of slices answers that is called on m from p, the rest being a position
+abbrev pub CalledAt : {O : Type 0} → (List ℕ → Returned O → Type 0) → List ℕ → ℕ → Reached O → Type 0
+CalledAt answers m p (Ok x) = (left : Bor (List ℕ)) × (drop x.0 m ≡ left.now) × answers (drop p m) (Ok (left, x.1))
+CalledAt answers m p (Err e) = answers (drop p m) (Err e)

@@ -1,16 +1,16 @@
-//! Readers of lists, over a reader that is passed.
+//! Readers of lists, over a reader of slices that is passed: by the readers of `at::lists`, and what f reads from a position on.
 
-ghost use Rattle.std.specs.Prelude.{◌≡◌};
+ghost use Rattle.std.specs.Prelude.{◌≡◌, ◌≤◌, length};
 ghost use Rattle.std.specs.Fn.{FnReturnsAt};
-ghost use Rattle.imap_grammar.specs.Answer.{Exactly};
-ghost use Rattle.imap_grammar.specs.Step.{step};
 ghost use Rattle.imap_grammar.specs.Rule.{meaning};
 ghost use Rattle.imap_grammar.specs.Meaning.{many_means};
-ghost use Rattle.imap_grammar.specs.Tags.{sp};
-ghost use Rattle.imap_grammar.specs.Lists.{Shortens, Follows, or_memory, separator as separator_rule, behind_means, list1_means, list0_means, list_means, nonempty_list_means, delimited_means, opt_opt_means, tried_of};
+ghost use Rattle.imap_grammar.specs.Positions.{Ahead};
+ghost use Rattle.imap_grammar.specs.PositionLists.{CalledAt};
+ghost use Rattle.imap_grammar.specs.Lists.{Shortens, Ends, Follows, or_memory, separator as separator_rule, list1_means, list0_means, list_means, nonempty_list_means, delimited_means, opt_opt_means, tried_of};
 
 use crate::answer::{Err, IResult};
-use crate::tags::{blanks0, blanks1, maybe_space, tag};
+use crate::at;
+use crate::at::span::rest;
 use std::alloc::Global;
 
 /// What stands between the elements of a list.
@@ -26,17 +26,6 @@ pub enum Separator {
     Blanks,
 }
 
-fn read_separator(between: Separator, i: &[u8]) -> IResult<&[u8], &[u8]>
-    ensures { Exactly (λ x. x.now) result (step (separator_rule between) i.now) }
-{
-    match between {
-        Separator::Space => tag(b" ", i),
-        Separator::Comma => tag(b",", i),
-        Separator::Dot => tag(b".", i),
-        Separator::Blanks => blanks1(i),
-    }
-}
-
 /// The answer of a reader, where a denial is `None`. It takes no memory.
 pub fn tried<I, T>(answer: IResult<I, T>) -> Result<Option<(I, T)>, Err>
     ensures { result ≡ tried_of answer }
@@ -49,17 +38,20 @@ pub fn tried<I, T>(answer: IResult<I, T>) -> Result<Option<(I, T)>, Err>
     }
 }
 
-// What f reads behind a separator.
-fn next_item<'a, O: Drop, F: Fn(&'a [u8]) -> IResult<&'a [u8], O>>(
-    between: Separator,
+// What f reads of m from p on.
+fn read_at<'a, O: Drop, F: Fn(&'a [u8]) -> IResult<&'a [u8], O>>(
     f: &F,
-    i: &'a [u8],
-) -> IResult<&'a [u8], O>
-    requires { F.IsAlwaysCallable f.now }
-    ensures { Follows (behind_means (meaning (separator_rule between))) (FnReturnsAt F.Fn f.now) (λ x. x) i.now result }
+    m: &'a [u8],
+    p: usize,
+) -> Result<(usize, O), Err>
+    requires start { p ≤ length m.now }
+    requires may { F.IsAlwaysCallable f.now }
+    requires ends { Ends (FnReturnsAt F.Fn f.now) }
+    ensures answers { CalledAt (FnReturnsAt F.Fn f.now) m.now p result }
+    ensures ahead { Ahead m.now p result }
 {
-    let (rest, _) = read_separator(between, i)?;
-    f(rest)
+    let (left, item) = f(rest(m, p))?;
+    Ok((m.len() - left.len(), item))
 }
 
 /// What f reads, and again behind each separator: one or more.
@@ -73,16 +65,18 @@ pub fn separated<'a, O: Drop, F: Fn(&'a [u8]) -> IResult<&'a [u8], O>>(
 ) -> IResult<&'a [u8], Vec<O>>
     requires may { F.IsAlwaysCallable f }
     requires shortens { Shortens (FnReturnsAt F.Fn f) }
+    requires ends { Ends (FnReturnsAt F.Fn f) }
     ensures { Follows (λ a. or_memory (list1_means (meaning (separator_rule between)) a)) (FnReturnsAt F.Fn f) (λ x. x.items) i.now result }
 {
-    let (mut rest, first) = f(i)?;
-    let mut items = Vec::new(alloc);
-    items.push(first)?;
-    while let Some((next, item)) = tried(next_item(between, &f, rest))? {
-        items.push(item)?;
-        rest = next;
-    }
-    Ok((rest, items))
+    let item = |p: usize|
+        requires start { p ≤ length i.now }
+        requires may { F.IsAlwaysCallable f }
+        requires ends { Ends (FnReturnsAt F.Fn f) }
+        ensures answers { CalledAt (FnReturnsAt F.Fn f) i.entry.now p result }
+        ensures ahead { Ahead i.entry.now p result }
+    { read_at(&f, i, p) };
+    let (q, items) = at::lists::separated(alloc, between, item, i, 0)?;
+    Ok((rest(i, q), items))
 }
 
 /// What f reads, as often as it does.
@@ -93,15 +87,18 @@ pub fn repeated<'a, O: Drop, F: Fn(&'a [u8]) -> IResult<&'a [u8], O>>(
 ) -> IResult<&'a [u8], Vec<O>>
     requires may { F.IsAlwaysCallable f }
     requires shortens { Shortens (FnReturnsAt F.Fn f) }
+    requires ends { Ends (FnReturnsAt F.Fn f) }
     ensures { Follows (λ a. or_memory (many_means a)) (FnReturnsAt F.Fn f) (λ x. x.items) i.now result }
 {
-    let mut rest = i;
-    let mut items = Vec::new(alloc);
-    while let Some((next, item)) = tried(f(rest))? {
-        items.push(item)?;
-        rest = next;
-    }
-    Ok((rest, items))
+    let item = |p: usize|
+        requires start { p ≤ length i.now }
+        requires may { F.IsAlwaysCallable f }
+        requires ends { Ends (FnReturnsAt F.Fn f) }
+        ensures answers { CalledAt (FnReturnsAt F.Fn f) i.entry.now p result }
+        ensures ahead { Ahead i.entry.now p result }
+    { read_at(&f, i, p) };
+    let (q, items) = at::lists::repeated(alloc, item, i, 0)?;
+    Ok((rest(i, q), items))
 }
 
 /// What f reads, with separators between, maybe not once.
@@ -113,12 +110,18 @@ pub fn maybe_separated<'a, O: Drop, F: Fn(&'a [u8]) -> IResult<&'a [u8], O>>(
 ) -> IResult<&'a [u8], Vec<O>>
     requires may { F.IsAlwaysCallable f }
     requires shortens { Shortens (FnReturnsAt F.Fn f) }
+    requires ends { Ends (FnReturnsAt F.Fn f) }
     ensures { Follows (λ a. or_memory (list0_means (meaning (separator_rule between)) a)) (FnReturnsAt F.Fn f) (λ x. x.items) i.now result }
 {
-    match tried(separated(alloc, between, f, i))? {
-        Some(found) => Ok(found),
-        None => Ok((i, Vec::new(alloc))),
-    }
+    let item = |p: usize|
+        requires start { p ≤ length i.now }
+        requires may { F.IsAlwaysCallable f }
+        requires ends { Ends (FnReturnsAt F.Fn f) }
+        ensures answers { CalledAt (FnReturnsAt F.Fn f) i.entry.now p result }
+        ensures ahead { Ahead i.entry.now p result }
+    { read_at(&f, i, p) };
+    let (q, items) = at::lists::maybe_separated(alloc, between, item, i, 0)?;
+    Ok((rest(i, q), items))
 }
 
 /// A list in parentheses: what f reads, with one space between, maybe none, and maybe a space before the `)`.
@@ -131,13 +134,18 @@ pub fn parenthesized_list<'a, O: Drop, F: Fn(&'a [u8]) -> IResult<&'a [u8], O>>(
 ) -> IResult<&'a [u8], Vec<O>>
     requires may { F.IsAlwaysCallable f }
     requires shortens { Shortens (FnReturnsAt F.Fn f) }
+    requires ends { Ends (FnReturnsAt F.Fn f) }
     ensures { Follows (λ a. or_memory (list_means a)) (FnReturnsAt F.Fn f) (λ x. x.items) i.now result }
 {
-    let (i, _) = tag(b"(", i)?;
-    let (i, items) = maybe_separated(alloc, Separator::Space, f, i)?;
-    let (i, _) = maybe_space(i)?;
-    let (i, _) = tag(b")", i)?;
-    Ok((i, items))
+    let item = |p: usize|
+        requires start { p ≤ length i.now }
+        requires may { F.IsAlwaysCallable f }
+        requires ends { Ends (FnReturnsAt F.Fn f) }
+        ensures answers { CalledAt (FnReturnsAt F.Fn f) i.entry.now p result }
+        ensures ahead { Ahead i.entry.now p result }
+    { read_at(&f, i, p) };
+    let (q, items) = at::lists::parenthesized_list(alloc, item, i, 0)?;
+    Ok((rest(i, q), items))
 }
 
 /// The same of at least one element, with spaces and tabs before the `)`.
@@ -148,13 +156,18 @@ pub fn parenthesized_nonempty_list<'a, O: Drop, F: Fn(&'a [u8]) -> IResult<&'a [
 ) -> IResult<&'a [u8], Vec<O>>
     requires may { F.IsAlwaysCallable f }
     requires shortens { Shortens (FnReturnsAt F.Fn f) }
+    requires ends { Ends (FnReturnsAt F.Fn f) }
     ensures { Follows (λ a. or_memory (nonempty_list_means a)) (FnReturnsAt F.Fn f) (λ x. x.items) i.now result }
 {
-    let (i, _) = tag(b"(", i)?;
-    let (i, items) = separated(alloc, Separator::Space, f, i)?;
-    let (i, _) = blanks0(i)?;
-    let (i, _) = tag(b")", i)?;
-    Ok((i, items))
+    let item = |p: usize|
+        requires start { p ≤ length i.now }
+        requires may { F.IsAlwaysCallable f }
+        requires ends { Ends (FnReturnsAt F.Fn f) }
+        ensures answers { CalledAt (FnReturnsAt F.Fn f) i.entry.now p result }
+        ensures ahead { Ahead i.entry.now p result }
+    { read_at(&f, i, p) };
+    let (q, items) = at::lists::parenthesized_nonempty_list(alloc, item, i, 0)?;
+    Ok((rest(i, q), items))
 }
 
 /// What f reads, in parentheses. It takes no memory of its own; f's `Incomplete` and `Failure` go through.
@@ -162,13 +175,19 @@ pub fn paren_delimited<'a, O: Drop, F: Fn(&'a [u8]) -> IResult<&'a [u8], O>>(
     f: F,
     i: &'a [u8],
 ) -> IResult<&'a [u8], O>
-    requires { F.IsAlwaysCallable f }
+    requires may { F.IsAlwaysCallable f }
+    requires ends { Ends (FnReturnsAt F.Fn f) }
     ensures { Follows delimited_means (FnReturnsAt F.Fn f) (λ x. x) i.now result }
 {
-    let (i, _) = tag(b"(", i)?;
-    let (i, item) = f(i)?;
-    let (i, _) = tag(b")", i)?;
-    Ok((i, item))
+    let item = |p: usize|
+        requires start { p ≤ length i.now }
+        requires may { F.IsAlwaysCallable f }
+        requires ends { Ends (FnReturnsAt F.Fn f) }
+        ensures answers { CalledAt (FnReturnsAt F.Fn f) i.entry.now p result }
+        ensures ahead { Ahead i.entry.now p result }
+    { read_at(&f, i, p) };
+    let (q, item) = at::lists::paren_delimited(item, i, 0)?;
+    Ok((rest(i, q), item))
 }
 
 /// What f reads, and `None` at this place where it denies. It takes no memory of its own; f's `Incomplete` and `Failure` go through.
@@ -176,11 +195,17 @@ pub fn opt_opt<'a, O: Drop, F: Fn(&'a [u8]) -> IResult<&'a [u8], Option<O>>>(
     f: F,
     i: &'a [u8],
 ) -> IResult<&'a [u8], Option<O>>
-    requires { F.IsAlwaysCallable f }
+    requires may { F.IsAlwaysCallable f }
+    requires ends { Ends (FnReturnsAt F.Fn f) }
     ensures { Follows opt_opt_means (FnReturnsAt F.Fn f) (λ x. x) i.now result }
 {
-    match tried(f(i))? {
-        Some(found) => Ok(found),
-        None => Ok((i, None)),
-    }
+    let item = |p: usize|
+        requires start { p ≤ length i.now }
+        requires may { F.IsAlwaysCallable f }
+        requires ends { Ends (FnReturnsAt F.Fn f) }
+        ensures answers { CalledAt (FnReturnsAt F.Fn f) i.entry.now p result }
+        ensures ahead { Ahead i.entry.now p result }
+    { read_at(&f, i, p) };
+    let (q, item) = at::lists::opt_opt(item, i, 0)?;
+    Ok((rest(i, q), item))
 }

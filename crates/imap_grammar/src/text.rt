@@ -8,6 +8,17 @@ use std::alloc::{AllocError, Global};
 use std::borrow::CowStr;
 use std::str;
 
+// The same for bytes that are no UTF-8: a call of its own, so that `decode` is short.
+#[cold]
+#[inline(never)]
+fn decode_owned(alloc: Global, bytes: &[u8]) -> Result<CowStr<'_>, AllocError>
+    ensures { ¬ (IsUtf8 bytes.now) → IfOk result (λ t. text_of t ≡ decoded bytes.now) }
+{
+    let mut text = String::new(alloc);
+    bytes.to_str_lossy_into(&mut text)?;
+    Ok(CowStr::Owned(text))
+}
+
 /// The text of the bytes: borrowed where they are UTF-8, and else with one U+FFFD for each ill-formed part.
 pub fn decode(alloc: Global, bytes: &[u8]) -> Result<CowStr<'_>, AllocError>
     ensures text { IfOk result (λ t. text_of t ≡ decoded bytes.now) }
@@ -15,10 +26,6 @@ pub fn decode(alloc: Global, bytes: &[u8]) -> Result<CowStr<'_>, AllocError>
 {
     match str::from_utf8(bytes) {
         Ok(text) => Ok(CowStr::Borrowed(text)),
-        Err(_) => {
-            let mut text = String::new(alloc);
-            bytes.to_str_lossy_into(&mut text)?;
-            Ok(CowStr::Owned(text))
-        }
+        Err(_) => decode_owned(alloc, bytes),
     }
 }

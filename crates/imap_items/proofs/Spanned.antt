@@ -1,8 +1,10 @@
 -- What spans name: of a form's bytes, of a word, of flags; and what their texts rest on.
-use Rattle.std.proofs.Common.{◌≡◌, ℕ, ◌==◌, ◌-◌, ◌≤◌, length, take, drop, Some, Ok, refl, ap, arith}
+use Rattle.std.proofs.Common.{◌≡◌, ℕ, true, ◌==◌, ◌-◌, ◌≤◌, ◌<◌, [], ◌∷◌, length, take, drop, codes, Some, Ok, refl, ap, arith}
 use Rattle.std.proofs.lemmas.Bool.{and_parts}
 use Rattle.std.proofs.lemmas.List.{length-drop}
-use Rattle.std.proofs.lemmas.Str.{IsUtf8-from_is_utf8, utf8_lossy-IsUtf8}
+use Rattle.std.proofs.lemmas.Str.{IsUtf8-from_ascii, IsUtf8-from_is_utf8, is_utf8-from_IsUtf8, utf8_lossy-IsUtf8}
+use Rattle.std.proofs.lemmas.Str.Ascii.{IsAscii-from_all}
+use Rattle.std.proofs.lemmas.List.Elements.{All-nil, All-cons}
 use Rattle.std.specs.Str.{is_utf8}
 use Rattle.imap_grammar.specs.declared.at.span.Span.{Span}
 use Rattle.imap_grammar.specs.Positions.{between, named_in, Rests}
@@ -12,9 +14,10 @@ use Rattle.imap_grammar.specs.Text.{Bytes, as_text, decoded}
 use Rattle.imap_grammar.proofs.Agreement.{agrees}
 use Rattle.imap_grammar.proofs.Positions.{some_rests}
 use Rattle.imap_grammar.proofs.ReadingWords.{exact}
-use Rattle.imap_items.specs.Flags.{flag}
+use Rattle.imap_grammar.proofs.Yields.{Yields, either_yields, named_yields}
+use Rattle.imap_items.specs.Flags.{flag, flag_perm}
 use Rattle.imap_items.specs.FlagTexts.{is_flag_word}
-use Rattle.imap_items.specs.Spanned.{flag_in, label_in}
+use Rattle.imap_items.specs.Spanned.{text_in}
 use Rattle.imap_items.proofs.FlagTexts.{flag-is}
 
 read : {V : Type 0} → Bytes → V → Step V
@@ -32,19 +35,34 @@ pub exactly_read : (k m rest v : Bytes) → step (tag_by ◌==◌ k) m ≡ Ok (r
 unfolding meaning
 exactly_read k m rest v is = exact k v ((agrees (tag_by ◌==◌ k) m).yielded v rest is).1
 
--- decoding a flag changes nothing
-pub flag_decoded : (m rest v : Bytes) → step flag m ≡ Ok (rest, v) → step (gives as_text flag) m ≡ Ok (rest, decoded v)
+-- decoding what is UTF-8 changes nothing
+pub utf8_decoded : (a : Rule Bytes) (m rest v : Bytes) → Yields (λ b. is_utf8 b ≡ true) a → step a m ≡ Ok (rest, v) → step (gives as_text a) m ≡ Ok (rest, decoded v)
 unfolding read
-flag_decoded m rest v is =
-    let utf8 = (and_parts (is_utf8 v) (is_flag_word v) (flag-is m v rest ((agrees flag m).yielded v rest is))).0 in
-    let same : as_text v ≡ decoded v = rw (utf8, utf8_lossy-IsUtf8 v (IsUtf8-from_is_utf8 v utf8)) refl in
+utf8_decoded a m rest v utf8 is =
+    let whole = utf8.each m v rest ((agrees a m).yielded v rest is) in
+    let same : as_text v ≡ decoded v = rw (whole, utf8_lossy-IsUtf8 v (IsUtf8-from_is_utf8 v whole)) refl in
     rw is (ap (λ t. read rest t) same)
 
-named_rests : (s : Span) (q : ℕ) (m : Bytes) → s.start ≤ s.end → s.end ≤ q → named_in (take q m) s ≡ named_in m s
+flags_utf8 : Yields (λ b. is_utf8 b ≡ true) flag
+flags_utf8 = record { each = λ m v rest y. (and_parts (is_utf8 v) (is_flag_word v) (flag-is m v rest y)).0 }
+
+star_utf8 : is_utf8 (codes "\\*") ≡ true
+star_utf8 =
+    let small : ℕ → Type 0 = λ b. b < 128 in
+    is_utf8-from_IsUtf8 (codes "\\*") (IsUtf8-from_ascii (codes "\\*") (IsAscii-from_all (codes "\\*") (All-cons small 92 (42 ∷ []) (omega arith) (All-cons small 42 [] (omega arith) (All-nil small)))))
+
+flag_perms_utf8 : Yields (λ b. is_utf8 b ≡ true) flag_perm
+unfolding flag_perm
+flag_perms_utf8 = either_yields (named_yields star_utf8) flags_utf8
+
+pub flag_decoded : (m rest v : Bytes) → step flag m ≡ Ok (rest, v) → step (gives as_text flag) m ≡ Ok (rest, decoded v)
+flag_decoded m rest v is = utf8_decoded flag m rest v flags_utf8 is
+
+pub flag_perm_decoded : (m rest v : Bytes) → step flag_perm m ≡ Ok (rest, v) → step (gives as_text flag_perm) m ≡ Ok (rest, decoded v)
+flag_perm_decoded m rest v is = utf8_decoded flag_perm m rest v flag_perms_utf8 is
+
+pub named_rests : (s : Span) (q : ℕ) (m : Bytes) → s.start ≤ s.end → s.end ≤ q → named_in (take q m) s ≡ named_in m s
 named_rests s q m ordered le = let e : Some (named_in (take q m) s) ≡ Some (named_in m s) = (some_rests s q ordered le).same m in cc
 
-pub flag_rests : (s : Span) (q : ℕ) → s.start ≤ s.end → s.end ≤ q → Rests flag_in q s
-flag_rests s q ordered le = record { same = λ m. ap as_text (named_rests s q m ordered le) }
-
-pub label_rests : (s : Span) (q : ℕ) → s.start ≤ s.end → s.end ≤ q → Rests label_in q s
-label_rests s q ordered le = record { same = λ m. ap decoded (named_rests s q m ordered le) }
+pub text_rests : (s : Span) (q : ℕ) → s.start ≤ s.end → s.end ≤ q → Rests text_in q s
+text_rests s q ordered le = record { same = λ m. ap decoded (named_rests s q m ordered le) }

@@ -1,19 +1,47 @@
 -- Sets of UIDs: each range that is read starts not above its end; what `==` tells of a member.
-use Rattle.std.proofs.Common.{rules, ℕ, ◌≤◌, List, [], ◌∷◌, Bool, true, false, map, Ok, Err, arith}
+use Rattle.std.proofs.Common.{◌≡◌, rules, refl, ℕ, ◌≤◌, List, [], ◌∷◌, Bool, true, false, None, Some, map, Ok, Err, arith}
 use Rattle.std.specs.Prelude.{IfOk}
 use Rattle.std.specs.List.{All}
 use Rattle.std.proofs.lemmas.List.Elements.{All-nil, All-cons, All-head, All-tail}
 use Rattle.std.specs.Range.{range_inclusive_start, range_inclusive_end, range_inclusive_exhausted}
 use Rattle.std.specs.Global.{Vec}
 use Rattle.imap_grammar.specs.Equality.{Tells}
-use Rattle.imap_grammar.specs.Step.{step}
+use Rattle.imap_grammar.specs.declared.answer.Err.TheVariants.{Incomplete, Error, Failure}
+use Rattle.imap_grammar.specs.Rule.{Rule, gives, opt, ◌▹◌}
+use Rattle.imap_grammar.specs.Step.{Step, step, ◌>>=◌, beside, and_then, or_else}
+use Rattle.imap_grammar.specs.Tags.{tag}
+use Rattle.imap_bytes.specs.Numbers.{number}
+use Rattle.imap_bytes.specs.Sets.{sequence_range}
 use Rattle.imap_grammar.specs.Answer.{Returned, Gives}
 use Rattle.imap_grammar.proofs.Agreement.{reads}
-use Rattle.imap_items.specs.UidSets.{MemberValue, UidRange, Uid, Spent, member_value, range_value, range_of, IsOrdered, uid_set, uid_set_member}
+use Rattle.imap_items.specs.UidSets.{MemberValue, UidRange, Uid, Spent, member_value, range_value, range_of, IsOrdered, uid_set, uid_set_member, maybe_range, member_of}
 use Rattle.imap_items.specs.declared.types.uid_sets.UidSetMember.{UidSetMember}
 use Rattle.imap_items.specs.declared.types.uid_sets.UidSetMember.TheVariants as member
 use Rattle.imap_items.specs.contracts.types.uid_sets.UidSetMemberPartialEq.TheImpl as member_eq
 use Rattle.imap_grammar.proofs.Yields.{Yields, either_yields, made_yields, list_yields}
+
+-- ---- a number in front of a colon is read once
+
+abbrev range_end : Rule ℕ
+range_end = tag ":" ▹ number
+
+member_of_step : (s : Step ℕ) → or_else (and_then s (step range_end) >>= λ v. Ok (v.0, range_of v.1)) (s >>= λ v. Ok (v.0, Uid v.1)) ≡ (and_then s (step (opt range_end)) >>= λ v. Ok (v.0, member_of v.1))
+member_of_step (Ok x) = behind (step range_end x.0)
+  where
+    behind : (t : Step ℕ) → or_else ((t >>= beside x.1) >>= λ v. Ok (v.0, range_of v.1)) (Ok (x.0, Uid x.1)) ≡ ((or_else (t >>= λ v. Ok (v.0, Some v.1)) (Ok (x.0, None)) >>= beside x.1) >>= λ v. Ok (v.0, member_of v.1))
+    behind (Ok y) = refl
+    behind (Err Error) = refl
+    behind (Err Failure) = refl
+    behind (Err (Incomplete n)) = refl
+member_of_step (Err Error) = refl
+member_of_step (Err Failure) = refl
+member_of_step (Err (Incomplete n)) = refl
+
+pub member_is : (m : List ℕ) → step uid_set_member m ≡ step (gives member_of maybe_range) m
+unfolding uid_set_member maybe_range sequence_range
+member_is m = member_of_step (step number m)
+
+-- ---- order
 
 -- of a member's value: a spent range is not read at all
 abbrev pub IsOrderedValue : MemberValue → Type 0

@@ -1,7 +1,7 @@
 -- Sets of UIDs (RFC 4315, section 4: uid-set, uid-range).
-use Rattle.std.specs.Prelude.{ℕ, min, max, ◌≤◌, Bool, true, false, List}
+use Rattle.std.specs.Prelude.{ℕ, min, max, ◌≤◌, Bool, true, false, List, Option, None, Some}
 use Rattle.std.specs.Range.{range_inclusive_start, range_inclusive_end, range_inclusive_exhausted}
-use Rattle.imap_grammar.specs.Rule.{Rule, gives, list1, ◌or◌}
+use Rattle.imap_grammar.specs.Rule.{Rule, gives, list1, opt, ◌⨾◌, ◌▹◌, ◌or◌}
 use Rattle.imap_grammar.specs.Tags.{tag}
 use Rattle.imap_bytes.specs.Numbers.{number}
 use Rattle.imap_bytes.specs.Sets.{sequence_range}
@@ -35,6 +35,14 @@ range_of ends = UidRange (min ends.0 ends.1) (max ends.0 ends.1)
 
 unfoldable pub uid_set_member : Rule MemberValue
 uid_set_member = gives range_of sequence_range or gives Uid number
+
+-- a member as it is read: a number, and the one behind a colon if there is one
+unfoldable pub maybe_range : Rule (ℕ × Option ℕ)
+maybe_range = number ⨾ opt (tag ":" ▹ number)
+
+abbrev pub member_of : ℕ × Option ℕ → MemberValue
+member_of (n, None) = Uid n
+member_of (n, Some m) = range_of (n, m)
 
 unfoldable pub uid_set : Rule (List MemberValue)
 uid_set = list1 (tag ",") uid_set_member

@@ -16,7 +16,7 @@ use Rattle.imap_extensions.specs.Vanishings.{vanished}
 use Rattle.imap_extensions.specs.Quotas.{quota, quota_root}
 use Rattle.imap_extensions.specs.Ids.{id}
 use Rattle.imap_extensions.specs.Acls.{acl, list_rights, my_rights}
-use Rattle.imap_proto.specs.Lines.{continuation, data_line, request_tag, tagged, response, datum, state_datum, extension_datum, status_data, expunge, vanished_data, ended_datum, status_line, numbered_line, mailbox_line, list_line, capability_line, enabled_line, annotation_line, vanished_line, quota_line, id_line, acl_line}
+use Rattle.imap_proto.specs.Lines.{continuation, data_line, request_tag, tagged, response, datum, state_datum, extension_datum, status_data, expunge, fetch, vanished_data, ended_datum, status_line, numbered_line, mailbox_line, list_line, capability_line, enabled_line, annotation_line, vanished_line, quota_line, id_line, acl_line}
 
 -- ---- responses
 
@@ -43,49 +43,49 @@ unfolding ended_datum datum state_datum status_data status
 datum_none m is = waits_without ended_datum m is refl
 
 pub datum_of_status : AtAny "oOnNbBpP" ended_datum status_line
-unfolding ended_datum status_line datum state_datum extension_datum status_data expunge vanished_data status flags exists list lsub mailbox_status recent search labels msgid thrid sort mailbox_datum gmail_label_list gmail_msgid gmail_thrid capability_data enabled_data metadata_solicited metadata_unsolicited metadata_mailbox vanished quota quota_root id acl list_rights my_rights number digits
+unfolding ended_datum status_line datum state_datum extension_datum status_data expunge fetch vanished_data status flags exists list lsub mailbox_status recent search labels msgid thrid sort mailbox_datum gmail_label_list gmail_msgid gmail_thrid capability_data enabled_data metadata_solicited metadata_unsolicited metadata_mailbox vanished quota quota_root id acl list_rights my_rights number digits
 datum_of_status = by_any "oOnNbBpP" ended_datum status_line (λ m. refl)
 
 pub datum_of_mailbox : AtAny "fFsSxX" ended_datum mailbox_line
-unfolding ended_datum mailbox_line datum state_datum extension_datum status_data expunge vanished_data status flags exists list lsub mailbox_status recent search labels msgid thrid sort mailbox_datum gmail_label_list gmail_msgid gmail_thrid capability_data enabled_data metadata_solicited metadata_unsolicited metadata_mailbox vanished quota quota_root id acl list_rights my_rights number digits
+unfolding ended_datum mailbox_line datum state_datum extension_datum status_data expunge fetch vanished_data status flags exists list lsub mailbox_status recent search labels msgid thrid sort mailbox_datum gmail_label_list gmail_msgid gmail_thrid capability_data enabled_data metadata_solicited metadata_unsolicited metadata_mailbox vanished quota quota_root id acl list_rights my_rights number digits
 datum_of_mailbox = by_any "fFsSxX" ended_datum mailbox_line (λ m. refl)
 
 pub datum_of_list : AtAny "lL" ended_datum list_line
-unfolding ended_datum list_line datum state_datum extension_datum status_data expunge vanished_data status flags exists list lsub mailbox_status recent search labels msgid thrid sort mailbox_datum gmail_label_list gmail_msgid gmail_thrid capability_data enabled_data metadata_solicited metadata_unsolicited metadata_mailbox vanished quota quota_root id acl list_rights my_rights number digits
+unfolding ended_datum list_line datum state_datum extension_datum status_data expunge fetch vanished_data status flags exists list lsub mailbox_status recent search labels msgid thrid sort mailbox_datum gmail_label_list gmail_msgid gmail_thrid capability_data enabled_data metadata_solicited metadata_unsolicited metadata_mailbox vanished quota quota_root id acl list_rights my_rights number digits
 datum_of_list = by_any "lL" ended_datum list_line (λ m. refl)
 
 pub datum_of_capability : AtAny "cC" ended_datum capability_line
-unfolding ended_datum capability_line datum state_datum extension_datum status_data expunge vanished_data status flags exists list lsub mailbox_status recent search labels msgid thrid sort mailbox_datum gmail_label_list gmail_msgid gmail_thrid capability_data enabled_data metadata_solicited metadata_unsolicited metadata_mailbox vanished quota quota_root id acl list_rights my_rights number digits
+unfolding ended_datum capability_line datum state_datum extension_datum status_data expunge fetch vanished_data status flags exists list lsub mailbox_status recent search labels msgid thrid sort mailbox_datum gmail_label_list gmail_msgid gmail_thrid capability_data enabled_data metadata_solicited metadata_unsolicited metadata_mailbox vanished quota quota_root id acl list_rights my_rights number digits
 datum_of_capability = by_any "cC" ended_datum capability_line (λ m. refl)
 
 pub datum_of_enabled : AtAny "eE" ended_datum enabled_line
-unfolding ended_datum enabled_line datum state_datum extension_datum status_data expunge vanished_data status flags exists list lsub mailbox_status recent search labels msgid thrid sort mailbox_datum gmail_label_list gmail_msgid gmail_thrid capability_data enabled_data metadata_solicited metadata_unsolicited metadata_mailbox vanished quota quota_root id acl list_rights my_rights number digits
+unfolding ended_datum enabled_line datum state_datum extension_datum status_data expunge fetch vanished_data status flags exists list lsub mailbox_status recent search labels msgid thrid sort mailbox_datum gmail_label_list gmail_msgid gmail_thrid capability_data enabled_data metadata_solicited metadata_unsolicited metadata_mailbox vanished quota quota_root id acl list_rights my_rights number digits
 datum_of_enabled = by_any "eE" ended_datum enabled_line (λ m. refl)
 
 pub datum_of_annotation : AtAny "mM" ended_datum annotation_line
-unfolding ended_datum annotation_line datum state_datum extension_datum status_data expunge vanished_data status flags exists list lsub mailbox_status recent search labels msgid thrid sort mailbox_datum gmail_label_list gmail_msgid gmail_thrid capability_data enabled_data metadata_solicited metadata_unsolicited metadata_mailbox vanished quota quota_root id acl list_rights my_rights number digits
+unfolding ended_datum annotation_line datum state_datum extension_datum status_data expunge fetch vanished_data status flags exists list lsub mailbox_status recent search labels msgid thrid sort mailbox_datum gmail_label_list gmail_msgid gmail_thrid capability_data enabled_data metadata_solicited metadata_unsolicited metadata_mailbox vanished quota quota_root id acl list_rights my_rights number digits
 datum_of_annotation = by_any "mM" ended_datum annotation_line (λ m. refl)
 
 pub datum_of_vanished : AtAny "vV" ended_datum vanished_line
-unfolding ended_datum vanished_line datum state_datum extension_datum status_data expunge vanished_data status flags exists list lsub mailbox_status recent search labels msgid thrid sort mailbox_datum gmail_label_list gmail_msgid gmail_thrid capability_data enabled_data metadata_solicited metadata_unsolicited metadata_mailbox vanished quota quota_root id acl list_rights my_rights number digits
+unfolding ended_datum vanished_line datum state_datum extension_datum status_data expunge fetch vanished_data status flags exists list lsub mailbox_status recent search labels msgid thrid sort mailbox_datum gmail_label_list gmail_msgid gmail_thrid capability_data enabled_data metadata_solicited metadata_unsolicited metadata_mailbox vanished quota quota_root id acl list_rights my_rights number digits
 datum_of_vanished = by_any "vV" ended_datum vanished_line (λ m. refl)
 
 pub datum_of_quota : AtAny "qQ" ended_datum quota_line
-unfolding ended_datum quota_line datum state_datum extension_datum status_data expunge vanished_data status flags exists list lsub mailbox_status recent search labels msgid thrid sort mailbox_datum gmail_label_list gmail_msgid gmail_thrid capability_data enabled_data metadata_solicited metadata_unsolicited metadata_mailbox vanished quota quota_root id acl list_rights my_rights number digits
+unfolding ended_datum quota_line datum state_datum extension_datum status_data expunge fetch vanished_data status flags exists list lsub mailbox_status recent search labels msgid thrid sort mailbox_datum gmail_label_list gmail_msgid gmail_thrid capability_data enabled_data metadata_solicited metadata_unsolicited metadata_mailbox vanished quota quota_root id acl list_rights my_rights number digits
 datum_of_quota = by_any "qQ" ended_datum quota_line (λ m. refl)
 
 pub datum_of_id : AtAny "iI" ended_datum id_line
-unfolding ended_datum id_line datum state_datum extension_datum status_data expunge vanished_data status flags exists list lsub mailbox_status recent search labels msgid thrid sort mailbox_datum gmail_label_list gmail_msgid gmail_thrid capability_data enabled_data metadata_solicited metadata_unsolicited metadata_mailbox vanished quota quota_root id acl list_rights my_rights number digits
+unfolding ended_datum id_line datum state_datum extension_datum status_data expunge fetch vanished_data status flags exists list lsub mailbox_status recent search labels msgid thrid sort mailbox_datum gmail_label_list gmail_msgid gmail_thrid capability_data enabled_data metadata_solicited metadata_unsolicited metadata_mailbox vanished quota quota_root id acl list_rights my_rights number digits
 datum_of_id = by_any "iI" ended_datum id_line (λ m. refl)
 
 pub datum_of_acl : AtAny "aA" ended_datum acl_line
-unfolding ended_datum acl_line datum state_datum extension_datum status_data expunge vanished_data status flags exists list lsub mailbox_status recent search labels msgid thrid sort mailbox_datum gmail_label_list gmail_msgid gmail_thrid capability_data enabled_data metadata_solicited metadata_unsolicited metadata_mailbox vanished quota quota_root id acl list_rights my_rights number digits
+unfolding ended_datum acl_line datum state_datum extension_datum status_data expunge fetch vanished_data status flags exists list lsub mailbox_status recent search labels msgid thrid sort mailbox_datum gmail_label_list gmail_msgid gmail_thrid capability_data enabled_data metadata_solicited metadata_unsolicited metadata_mailbox vanished quota quota_root id acl list_rights my_rights number digits
 datum_of_acl = by_any "aA" ended_datum acl_line (λ m. refl)
 
 pub datum_of_number : AtDigit ended_datum numbered_line
-unfolding ended_datum numbered_line datum state_datum extension_datum status_data expunge vanished_data status flags exists list lsub mailbox_status recent search labels msgid thrid sort mailbox_datum gmail_label_list gmail_msgid gmail_thrid capability_data enabled_data metadata_solicited metadata_unsolicited metadata_mailbox vanished quota quota_root id acl list_rights my_rights number digits
+unfolding ended_datum numbered_line datum state_datum extension_datum status_data expunge fetch vanished_data status flags exists list lsub mailbox_status recent search labels msgid thrid sort mailbox_datum gmail_label_list gmail_msgid gmail_thrid capability_data enabled_data metadata_solicited metadata_unsolicited metadata_mailbox vanished quota quota_root id acl list_rights my_rights number digits
 datum_of_number = by_digit ended_datum numbered_line (λ m. refl)
 
 pub datum_other : AtOtherThanDigits "oOnNbBpPfFsSxXlLcCeEmMvVqQiIaA" ended_datum never
-unfolding ended_datum datum state_datum extension_datum status_data expunge vanished_data status flags exists list lsub mailbox_status recent search labels msgid thrid sort mailbox_datum gmail_label_list gmail_msgid gmail_thrid capability_data enabled_data metadata_solicited metadata_unsolicited metadata_mailbox vanished quota quota_root id acl list_rights my_rights number digits
+unfolding ended_datum datum state_datum extension_datum status_data expunge fetch vanished_data status flags exists list lsub mailbox_status recent search labels msgid thrid sort mailbox_datum gmail_label_list gmail_msgid gmail_thrid capability_data enabled_data metadata_solicited metadata_unsolicited metadata_mailbox vanished quota quota_root id acl list_rights my_rights number digits
 datum_other = by_other_than_digits "oOnNbBpPfFsSxXlLcCeEmMvVqQiIaA" ended_datum never (λ m. refl)

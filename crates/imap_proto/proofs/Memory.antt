@@ -1,25 +1,29 @@
 -- Lines for which no memory is taken, from their parts.
-use Rattle.std.proofs.Common.{◌≡◌, ◌≢◌, ℕ, List, Option, Ok, Err, refl, sym, ap, subst, ◌∙◌, inl, inr}
+use Prim.Native.String.{String}
+use Rattle.std.specs.Prelude.{codes}
+use Rattle.std.proofs.Common.{◌≡◌, ◌≢◌, ℕ, true, List, Option, Ok, Err, refl, sym, ap, subst, ◌∙◌, inl, inr}
 use Rattle.imap_grammar.specs.declared.answer.Err.{Err as Fault}
 use Rattle.imap_grammar.specs.declared.answer.Err.TheVariants.{Error}
 use Rattle.imap_grammar.specs.Answer.{Returned}
-use Rattle.imap_grammar.specs.Memory.{SucceedsFor}
+use Rattle.imap_grammar.specs.Memory.{BeginsWord, SucceedsFor}
 use Rattle.imap_grammar.specs.Rule.{Rule, meaning, gives, ◌⨾◌, ◌▹◌, ◌◃◌}
 use Rattle.imap_grammar.specs.Text.{Bytes}
 use Rattle.imap_grammar.specs.Step.{step}
-use Rattle.imap_grammar.specs.Tags.{tag, sp, maybe_space, crlf}
+use Rattle.imap_grammar.specs.Tags.{tag, word, sp, maybe_space, crlf}
 use Rattle.imap_grammar.proofs.Agreement.{agrees, reads}
-use Rattle.imap_grammar.proofs.Memory.{given, behind, before, second}
+use Rattle.imap_grammar.proofs.Memory.{apart, never_both, given, behind, before, second}
+use Rattle.imap_grammar.proofs.Steps.{ok_is}
 use Rattle.imap_grammar.proofs.Yields.{Yields, either_yields, made_yields, given_yields, left_yields}
+use Rattle.imap_bytes.specs.Numbers.{number}
 use Rattle.imap_items.specs.declared.types.statuses.Status.{Status}
 use Rattle.imap_items.specs.Statuses.{status}
 use Rattle.imap_extensions.specs.Acls.{list_rights}
-use Rattle.imap_data.specs.MailboxData.{mailbox_datum, datum_of_l}
+use Rattle.imap_data.specs.MailboxData.{exists, recent, mailbox_datum, datum_of_l}
 use Rattle.imap_data.specs.MailboxValues.{MailboxValue, IsNumber}
 use Rattle.imap_data.proofs.NumberData.{of_l_other, solicited_other, unsolicited_other}
 use Rattle.imap_proto.specs.Responses.{OutcomeValue, ResponseValue, TakesNone, NeedsNoMemory, Capabilities, Continue, Done, MailboxData, Quota, QuotaRoot, Id, Acl, ListRights, MyRights}
 use Rattle.imap_proto.specs.Outcomes.{outcome, spaced_outcome, no_outcome}
-use Rattle.imap_proto.specs.Lines.{continuation, data_of, status_data, vanished_of, vanished_data, spaces, done_of, tagged, status_line, mailbox_line, list_line, capability_line, enabled_line, annotation_line, vanished_line, quota_line, id_line, acl_line}
+use Rattle.imap_proto.specs.Lines.{continuation, data_of, status_data, expunge, fetch_of, fetch, vanished_of, vanished_data, spaces, done_of, tagged, status_line, numbered_line, mailbox_line, list_line, capability_line, enabled_line, annotation_line, vanished_line, quota_line, id_line, acl_line}
 use Rattle.imap_proto.proofs.OutcomeMemory.{outcome_undenied}
 
 -- ---- lines with an outcome
@@ -88,6 +92,10 @@ pub tagged_take : Yields Takes tagged
 unfolding tagged
 tagged_take = made_yields done_of (λ v h. h)
 
+fetches_take : Yields Takes fetch
+unfolding fetch
+fetches_take = made_yields fetch_of (λ v h. h)
+
 rights_take : Yields Takes (gives ListRights list_rights)
 rights_take = made_yields ListRights (λ v h. h)
 
@@ -105,3 +113,23 @@ list_takes m result of_l = λ v rest is none. absurd (taken v (reads list_line m
       | inl d ↦ subst Takes d.2 (datum d.0 _ d.1)
       | inr r ↦ rights_take.each m _ _ r.1
     ])
+
+-- where FETCH stands behind the number no other datum is yielded
+pub fetch_takes : {A : Type 0} (m mid : List ℕ) (n : ℕ) (result : Returned A) → step number m ≡ Ok (mid, n) → BeginsWord " FETCH " mid → SucceedsFor NeedsNoMemory numbered_line m result
+unfolding numbered_line exists recent expunge meaning
+fetch_takes m mid n result front b = λ v rest is none. absurd (elim (reads numbered_line m rest v is).1.1 [
+  | inl d ↦ elim d.1 [
+      | inl e ↦ other " EXISTS" refl e.1
+      | inr r ↦ other " RECENT" refl r.1.1
+    ]
+  | inr later ↦ elim (later.1) [
+      | inl x ↦ other " EXPUNGE" refl x.1
+      | inr f ↦ fetches_take.each m _ _ f.1 (subst NeedsNoMemory (sym (reads numbered_line m rest v is).2) none)
+    ]
+])
+  where
+    other : (k : String) → apart (codes " FETCH ") (codes k) ≡ true → {x : ℕ} {rest : List ℕ} → (meaning (number ◃ word k)).yields m x rest → ⊥
+    unfolding meaning
+    other k h y =
+        let there : mid ≡ y.1.0 = ap (λ p. p.0) (ok_is _ _ (sym front ∙ (agrees number m).yields y.0.0 y.1.0 y.1.1)) in
+        never_both " FETCH " k y.1.0 h (subst (BeginsWord " FETCH ") there b) (y.0.1, _, y.1.2.0, y.1.2.1)

@@ -1,3 +1,4 @@
 pub mod Responses
 pub mod Outcomes
 pub mod Lines
+pub mod Kept

@@ -15,7 +15,9 @@ use Rattle.imap_extensions.specs.Vanishings.{vanished}
 use Rattle.imap_extensions.specs.Quotas.{quota, quota_root}
 use Rattle.imap_extensions.specs.Ids.{id}
 use Rattle.imap_extensions.specs.Acls.{acl, list_rights, my_rights}
-use Rattle.imap_proto.specs.Responses.{OutcomeValue, ResponseValue, Capabilities, Continue, Done, Data, Expunge, Vanished, MailboxData, Quota, QuotaRoot, Id, Acl, ListRights, MyRights}
+use Rattle.imap_body.specs.AttributeValues.{AttributeValue}
+use Rattle.imap_body.specs.Attributes.{attribute_list}
+use Rattle.imap_proto.specs.Responses.{OutcomeValue, ResponseValue, Capabilities, Continue, Done, Data, Expunge, Vanished, Fetch, MailboxData, Quota, QuotaRoot, Id, Acl, ListRights, MyRights}
 use Rattle.imap_proto.specs.Outcomes.{outcome, spaced_outcome}
 
 -- `+`, maybe a space, an outcome
@@ -33,6 +35,16 @@ status_data = gives data_of (status ⨾ spaced_outcome)
 unfoldable pub expunge : Rule ResponseValue
 expunge = gives Expunge (number ◃ word " EXPUNGE")
 
+abbrev pub fetch_of : ℕ × List AttributeValue → ResponseValue
+fetch_of v = Fetch v.0 v.1
+
+-- "FETCH" SP msg-att behind the number of a message
+unfoldable pub fetched : Rule (List AttributeValue)
+fetched = word " FETCH " ▹ attribute_list
+
+unfoldable pub fetch : Rule ResponseValue
+fetch = gives fetch_of (number ⨾ fetched)
+
 abbrev pub vanished_of : Bool × List (ℕ × ℕ) → ResponseValue
 vanished_of v = Vanished v.0 v.1
 
@@ -45,6 +57,7 @@ state_datum =
     status_data
     or gives MailboxData mailbox_datum
     or expunge
+    or fetch
     or gives Capabilities capability_data
     or gives Capabilities enabled_data
     or gives MailboxData metadata_solicited
@@ -86,9 +99,9 @@ data_line = tag "* " ▹ ended_datum
 unfoldable pub status_line : Rule ResponseValue
 status_line = ended status_data
 
--- EXISTS, RECENT and EXPUNGE have their number in front
+-- EXISTS, RECENT, EXPUNGE and FETCH have their number in front
 unfoldable pub numbered_line : Rule ResponseValue
-numbered_line = ended (gives MailboxData (exists or recent) or expunge)
+numbered_line = ended (gives MailboxData (exists or recent) or expunge or fetch)
 
 unfoldable pub mailbox_line : Rule ResponseValue
 mailbox_line = ended (gives MailboxData mailbox_datum)
@@ -116,6 +129,10 @@ id_line = ended (gives Id id)
 
 unfoldable pub acl_line : Rule ResponseValue
 acl_line = ended (gives Acl acl)
+
+-- `* `, FETCH, and the end of the line
+unfoldable pub fetch_line : Rule ResponseValue
+fetch_line = tag "* " ▹ ended fetch
 
 -- ---- tagged lines
 

@@ -1,6 +1,8 @@
 -- Responses as values: texts by their bytes, and whether they lie in the input.
 use Rattle.std.specs.Prelude.{◌≡◌, ℕ, Bool, List, ◌∷◌, ◌++◌, Option, None, option_map, map, IfSome}
 use Rattle.std.specs.String.{string_bytes}
+use Rattle.std.specs.declared.alloc.Global.{Global}
+use Rattle.std.specs.declared.vec.Vec.{Vec}
 use Rattle.imap_grammar.specs.Text.{Bytes, Text, text_of, lent_text}
 use Rattle.imap_bytes.specs.Sets.{ends}
 use Rattle.imap_items.specs.declared.types.statuses.Status.{Status}
@@ -11,6 +13,9 @@ use Rattle.imap_items.specs.Copies.{IsLent}
 use Rattle.imap_extensions.specs.Quotas.{QuotaValue, QuotaRootValue, quota_value, quota_root_value, lent_quota, lent_quota_root}
 use Rattle.imap_extensions.specs.Ids.{IdValue, id_value, lent_id}
 use Rattle.imap_extensions.specs.Acls.{AclValue, ListRightsValue, MyRightsValue, acl_value, list_rights_value, my_rights_value, lent_acl, lent_list_rights, lent_my_rights}
+use Rattle.imap_body.specs.declared.spanned.SpannedAttribute.{SpannedAttribute}
+use Rattle.imap_body.specs.SpannedAttributes.{attribute_in}
+use Rattle.imap_body.specs.AttributeValues.{AttributeValue, attribute_value, lent_attribute}
 use Rattle.imap_proto.specs.declared.outcome.Outcome.{Outcome}
 use Rattle.imap_proto.specs.declared.response.Response.{Response}
 use Rattle.imap_proto.specs.declared.response.Response.TheVariants as code
@@ -26,6 +31,7 @@ pub data ResponseValue : Type 0 where
   Data : Status → OutcomeValue → ResponseValue
   Expunge : ℕ → ResponseValue
   Vanished : Bool → List (ℕ × ℕ) → ResponseValue
+  Fetch : ℕ → List AttributeValue → ResponseValue
   MailboxData : MailboxValue → ResponseValue
   Quota : QuotaValue → ResponseValue
   QuotaRoot : QuotaRootValue → ResponseValue
@@ -46,6 +52,7 @@ response_value (code.Done tag status o) = Done (string_bytes tag.0) status (outc
 response_value (code.«Data» status o) = Data status (outcome_value o)
 response_value (code.Expunge n) = Expunge n
 response_value (code.Vanished earlier uids) = Vanished earlier (map (λ r. ends r) uids.items)
+response_value (code.Fetch n attributes) = Fetch n (map attribute_value attributes.items)
 response_value (code.MailboxData datum) = MailboxData (mailbox_value datum)
 response_value (code.Quota quota) = Quota (quota_value quota)
 response_value (code.QuotaRoot root) = QuotaRoot (quota_root_value root)
@@ -68,6 +75,26 @@ NeedsNoMemory (Expunge n) = Unit {0}
 NeedsNoMemory (MailboxData datum) = IsNumber datum
 NeedsNoMemory other = ⊥
 
+abbrev pub IsFetch : ResponseValue → Type 0
+IsFetch (Fetch n attributes) = Unit {0}
+IsFetch (Capabilities capabilities) = ⊥
+IsFetch (Continue o) = ⊥
+IsFetch (Done tag status o) = ⊥
+IsFetch (Data status o) = ⊥
+IsFetch (Expunge n) = ⊥
+IsFetch (Vanished earlier uids) = ⊥
+IsFetch (MailboxData datum) = ⊥
+IsFetch (Quota quota) = ⊥
+IsFetch (QuotaRoot root) = ⊥
+IsFetch (Id map) = ⊥
+IsFetch (Acl acl) = ⊥
+IsFetch (ListRights rights) = ⊥
+IsFetch (MyRights rights) = ⊥
+
+-- a number and attributes whose spans name them in m
+abbrev pub fetch_in : Bytes → ℕ × Vec SpannedAttribute Global → ResponseValue
+fetch_in m x = Fetch x.0 (map (attribute_in m) x.1.items)
+
 -- what stands before the rest ends in CRLF
 abbrev pub EndsLine : Bytes → Bytes → Type 0
 EndsLine m rest = (front : Bytes) × (m ≡ front ++ (13 ∷ 10 ∷ rest))
@@ -84,6 +111,7 @@ lent_response (Done tag status o) = Done tag status (lent_outcome o)
 lent_response (Data status o) = Data status (lent_outcome o)
 lent_response (Expunge n) = Expunge n
 lent_response (Vanished earlier uids) = Vanished earlier uids
+lent_response (Fetch n attributes) = Fetch n (map lent_attribute attributes)
 lent_response (MailboxData datum) = MailboxData (lent_mailbox datum)
 lent_response (Quota quota) = Quota (lent_quota quota)
 lent_response (QuotaRoot root) = QuotaRoot (lent_quota_root root)

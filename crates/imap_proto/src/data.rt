@@ -1,17 +1,20 @@
 //! What a data line says. Each reader of a datum ends its line, so that a response is made in one place.
 
-ghost use Rattle.std.specs.Prelude.{◌≡◌, ◌<◌, length, position, IfSome};
+ghost use Rattle.std.specs.Prelude.{◌≡◌, ◌<◌, length, map, position, IfSome};
 ghost use Rattle.imap_grammar.specs.Answer.{Exactly, Gives};
 ghost use Rattle.imap_grammar.specs.Meaning.{outside};
 ghost use Rattle.imap_grammar.specs.Rule.{◌⨾◌};
-ghost use Rattle.imap_grammar.specs.Memory.{SucceedsFor};
+ghost use Rattle.imap_grammar.specs.Memory.{BeginsWord, FailsOnlyIf, SucceedsFor};
 ghost use Rattle.imap_grammar.specs.Step.{step};
 ghost use Rattle.imap_grammar.specs.Tags.{crlf};
+ghost use Rattle.imap_body.specs.AttributeValues.{attribute_value};
 ghost use Rattle.imap_proto.specs.Responses.{response_value, NeedsNoMemory};
 ghost use Rattle.imap_proto.specs.Lines as rule;
 
 use crate::outcomes::spaced_outcome;
 use crate::response::Response;
+use imap_body::AttributeValue;
+use imap_body::readers::attribute_list;
 use imap_bytes::tags::{cut0, tag, word};
 use imap_bytes::{Err, IResult, Needed, named, number};
 use imap_data::MailboxDatum;
@@ -27,7 +30,7 @@ fn is_space(c: u8) -> bool
     c == b' '
 }
 
-fn spaces_end(i: &[u8]) -> Option<usize>
+pub(crate) fn spaces_end(i: &[u8]) -> Option<usize>
     ensures at { result ≡ position (outside rule.is_space) i.now }
     ensures within { IfSome result (λ n. n < length i.now) }
 {
@@ -79,16 +82,29 @@ fn status_line(alloc: Global, i: &[u8]) -> IResult<&[u8], Response<'_>>
     }
 }
 
+#[tactic(auto, unfolding(crate::specs::Lines::fetched))]
+fn fetched(alloc: Global, i: &[u8]) -> IResult<&[u8], Vec<AttributeValue<'_>>>
+    ensures steps { Gives (λ x. map attribute_value x.items) result (step rule.fetched i.now) }
+    ensures memory { FailsOnlyIf (BeginsWord " FETCH " i.now) result }
+{
+    let (rest, _) = word(b" FETCH ", i)?;
+    let (rest, attributes) = attribute_list(alloc, rest)?;
+    Ok((rest, attributes))
+}
+
 // The number is read once, whichever word stands behind it.
-#[tactic(auto, unfolding(crate::specs::Lines::numbered_line, crate::specs::Lines::expunge, imap_data::specs::MailboxData::exists, imap_data::specs::MailboxData::recent))]
-fn numbered_line(i: &[u8]) -> IResult<&[u8], Response<'_>>
-    ensures { Exactly response_value result (step rule.numbered_line i.now) }
+#[tactic(auto, unfolding(crate::specs::Lines::numbered_line, crate::specs::Lines::expunge, crate::specs::Lines::fetch, imap_data::specs::MailboxData::exists, imap_data::specs::MailboxData::recent))]
+fn numbered_line(alloc: Global, i: &[u8]) -> IResult<&[u8], Response<'_>>
+    ensures steps { Gives response_value result (step rule.numbered_line i.now) }
+    ensures memory { SucceedsFor NeedsNoMemory rule.numbered_line i.now result }
 {
     let (i, n) = number(i)?;
     line!(word(b" EXISTS", i), _ => Response::MailboxData(MailboxDatum::Exists(n)));
     line!(word(b" RECENT", i), _ => Response::MailboxData(MailboxDatum::Recent(n)));
     line!(word(b" EXPUNGE", i), _ => Response::Expunge(n));
-    Err(Err::Error)
+    let (i, attributes) = fetched(alloc, i)?;
+    let (rest, _) = line_end(i)?;
+    Ok((rest, Response::Fetch(n, attributes)))
 }
 
 #[tactic(auto, unfolding(crate::specs::Lines::mailbox_line))]
@@ -186,7 +202,7 @@ pub(crate) fn datum_line(alloc: Global, i: &[u8]) -> IResult<&[u8], Response<'_>
         Some(b'q' | b'Q') => quota_line(alloc, i),
         Some(b'i' | b'I') => id_line(alloc, i),
         Some(b'a' | b'A') => acl_line(alloc, i),
-        Some(b) if b.is_ascii_digit() => numbered_line(i),
+        Some(b) if b.is_ascii_digit() => numbered_line(alloc, i),
         Some(_) => Err(Err::Error),
     }
 }

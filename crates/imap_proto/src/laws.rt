@@ -13,6 +13,8 @@ pub fn stable()
     ensures continuation { Stable rule.continuation }
     ensures status_data { Stable rule.status_data }
     ensures expunge { Stable rule.expunge }
+    ensures fetched { Stable rule.fetched }
+    ensures fetch { Stable rule.fetch }
     ensures vanished_data { Stable rule.vanished_data }
     ensures datum { Stable rule.datum }
     ensures request_tag { Stable rule.request_tag }

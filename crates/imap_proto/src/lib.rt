@@ -4,12 +4,18 @@
 #![tactic(auto)]
 
 mod data;
+pub mod kept;
 pub mod laws;
 mod lines;
 mod outcome;
 mod outcomes;
 mod response;
 
+pub use imap_body::{
+    Address, AttributeValue, BodyContentCommon, BodyContentSinglePart, BodyExt1Part, BodyExtMPart,
+    BodyExtension, BodyFields, BodyParams, BodyStructure, ContentDisposition, ContentEncoding,
+    ContentType, Envelope, MessageSection, SectionPath,
+};
 pub use imap_bytes::{Err, IResult, Needed};
 pub use imap_data::{
     Capability, MailboxDatum, MailboxListData, NameAttribute, ResponseCode, Status, StatusAttribute,
@@ -32,10 +38,33 @@ pub mod imap_core {
 pub mod rfc3501 {
     pub use crate::outcome::Outcome;
     pub use crate::response::RequestId;
+    pub use imap_body::{Address, AttributeValue, Envelope};
     pub use imap_data::{
         Capability, MailboxDatum, MailboxListData, NameAttribute, ResponseCode, Status,
         StatusAttribute,
     };
+
+    /// Sections of a message.
+    pub mod body {
+        pub use imap_body::{
+            MessageSection, SectionPath, msg_att_body_section, section, section_msgtext,
+            section_part,
+        };
+    }
+
+    /// Structures of bodies.
+    pub mod body_structure {
+        pub use imap_body::{
+            BodyContentCommon, BodyContentSinglePart, BodyExt1Part, BodyExtMPart, BodyExtension,
+            BodyFields, BodyParams, BodyStructure, ContentDisposition, ContentEncoding,
+            ContentType, MAX_BODY_DEPTH, MAX_EXTENSION_DEPTH,
+        };
+    }
+}
+
+/// Part search in the structure of a body.
+pub mod bodystructure {
+    pub use imap_body::{BodyStructParser, PartsError};
 }
 
 /// RFC 2087: QUOTA.

@@ -9,6 +9,7 @@ ghost use Rattle.imap_proto.specs.Lines as rule;
 
 use crate::lines;
 use crate::outcome::Outcome;
+use imap_body::AttributeValue;
 use imap_bytes::IResult;
 use imap_data::{Acl, Capability, ListRights, MailboxDatum, MyRights, Quota, QuotaRoot, Status};
 use std::alloc::Global;
@@ -54,6 +55,8 @@ pub enum Response<'a> {
         earlier: bool,
         uids: Vec<RangeInclusive<u32>>,
     },
+    /// `FETCH`: the number of a message and its attributes (RFC 3501, section 7.4.2).
+    Fetch(u32, Vec<AttributeValue<'a>>),
     /// Data of a mailbox (RFC 3501, section 7.2; RFC 5464, section 4.4).
     MailboxData(MailboxDatum<'a>),
     /// `QUOTA` (RFC 2087, section 5.1).

@@ -4,3 +4,4 @@ pub mod FieldValues
 pub mod ExtensionValues
 pub mod BodyValues
 pub mod Search
+pub mod Lent

@@ -1,7 +1,7 @@
 //! What bodies of messages are made of: types generic in their texts, one map a type over them, and part search.
 #![tactic(auto)]
 
-mod maps;
+pub mod maps;
 mod owned;
 pub mod search;
 pub mod shapes;

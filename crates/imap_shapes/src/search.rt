@@ -42,9 +42,9 @@ impl<T: Drop> From<AllocFailed<T>> for PartsError {
 
 /// A body and its path.
 #[derive(Drop)]
-struct Part<'a> {
+struct Part<'b, 'a> {
     path: Vec<u32>,
-    body: &'a BodyStructure<'a>,
+    body: &'b BodyStructure<'a>,
 }
 
 fn copied(path: &Vec<u32>) -> Result<Vec<u32>, AllocError>
@@ -54,10 +54,10 @@ fn copied(path: &Vec<u32>) -> Result<Vec<u32>, AllocError>
 }
 
 // Puts a body at its path, and the bodies inside it, behind the parts.
-fn visit<'a>(
-    body: &'a BodyStructure<'a>,
+fn visit<'b, 'a>(
+    body: &'b BodyStructure<'a>,
     path: &mut Vec<u32>,
-    parts: &mut Vec<Part<'a>>,
+    parts: &mut Vec<Part<'b, 'a>>,
 ) -> Result<(), PartsError>
     ensures parts { OnOk result (map part_seen parts.new.items ≡ map part_seen parts.old.items ++ visited path.old.items (body_seen text_of bytes_of body.now)) }
     ensures path { OnOk result (path.new.items ≡ path.old.items) }
@@ -85,18 +85,18 @@ fn visit<'a>(
 
 /// The bodies inside a body, each with its path: the numbers of the parts on the way to it, from 1 (RFC 3501, section 6.4.5).
 #[derive(Drop)]
-pub struct BodyStructParser<'a> {
-    parts: Vec<Part<'a>>,
+pub struct BodyStructParser<'b, 'a> {
+    parts: Vec<Part<'b, 'a>>,
 }
 
-impl<'a> BodyStructParser<'a> {
+impl<'b, 'a> BodyStructParser<'b, 'a> {
     /// The bodies inside root, parent before child and left to right. The body inside a message is none of them.
     ///
     /// `TooManyParts` where a multipart has more than 4,294,967,295 bodies, judged before those; `OutOfMemory` where a growth was refused before that.
     pub fn new(
         alloc: Global,
-        root: &'a BodyStructure<'a>,
-    ) -> Result<BodyStructParser<'a>, PartsError>
+        root: &'b BodyStructure<'a>,
+    ) -> Result<BodyStructParser<'b, 'a>, PartsError>
         ensures holds { IfOk result (λ p. map part_seen p.parts.items ≡ visited [] (body_seen text_of bytes_of root.now)) }
         ensures few { IfOk result (λ p. too_many (body_seen text_of bytes_of root.now) ≡ false) }
         ensures many { IfErr result (λ e. e ≡ TooManyParts → too_many (body_seen text_of bytes_of root.now) ≡ true) }
@@ -110,7 +110,7 @@ impl<'a> BodyStructParser<'a> {
     /// The path of the first body at which f holds, and `None` where it holds at none. `Err` where there is no memory for the path.
     ///
     /// f may be asked of any body that is held, and answers the same each time.
-    pub fn search<F: Fn(&'a BodyStructure<'a>) -> bool>(
+    pub fn search<F: Fn(&BodyStructure<'a>) -> bool>(
         &self,
         f: F,
     ) -> Result<Option<Vec<u32>>, AllocError>

@@ -3,3 +3,8 @@ pub mod Gathering
 pub mod Seeing
 pub mod Levels
 pub mod Reading
+pub mod EnvelopeTexts
+pub mod FieldTexts
+pub mod ExtensionTexts
+pub mod BodyTexts
+pub mod FirstBytes

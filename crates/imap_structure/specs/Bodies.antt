@@ -72,6 +72,10 @@ body_type_mpart body = gives multipart_of (some_bodies body ⨾ spaced string_ut
 unfoldable pub body_type : Rule BodyValue → Rule BodyValue
 body_type inner = body_type_text or body_type_msg inner or body_type_basic or body_type_mpart inner
 
+-- of these those that begin with a quoted string
+unfoldable pub quoted_type : Rule BodyValue → Rule BodyValue
+quoted_type inner = body_type_text or body_type_msg inner or body_type_basic
+
 -- body = "(" (body-type-1part / body-type-mpart) ")"
 unfoldable pub bracketed_body : Rule BodyValue → Rule BodyValue
 bracketed_body inner = tag "(" ▹ body_type inner ◃ tag ")"

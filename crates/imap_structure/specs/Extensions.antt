@@ -44,6 +44,14 @@ body_fld_lang = gives single nstring_utf8 or language_list
 unfoldable pub extension_over : Rule ExtensionValue → Rule ExtensionValue
 extension_over lists = gives Num number or gives Str nstring_utf8 or lists
 
+-- of these those that start alike, but lists
+
+unfoldable pub number_extension : Rule ExtensionValue
+number_extension = gives Num number
+
+unfoldable pub string_extension : Rule ExtensionValue
+string_extension = gives Str nstring_utf8
+
 -- body-extension *(SP body-extension), where lists inside are those
 unfoldable pub some_extensions : Rule ExtensionValue → Rule (List ExtensionValue)
 some_extensions lists = list1 sp (extension_over lists)

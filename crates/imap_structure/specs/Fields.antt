@@ -22,17 +22,9 @@ some_params = list1 sp body_param
 unfoldable pub body_fld_param : Rule ParamsValue
 body_fld_param = nil_or (tag "(" ▹ some_params ◃ blanks0 ⨾ tag ")")
 
--- "7BIT" / "8BIT" / "BINARY", which leave a body as it is
-unfoldable pub plain_encoding : Rule EncodingValue
-plain_encoding = names "7BIT" SevenBit or names "8BIT" EightBit or names "BINARY" Binary
-
--- "BASE64" / "QUOTED-PRINTABLE"
-unfoldable pub coded_encoding : Rule EncodingValue
-coded_encoding = names "BASE64" Base64 or names "QUOTED-PRINTABLE" QuotedPrintable
-
 -- "7BIT" / "8BIT" / "BINARY" / "BASE64" / "QUOTED-PRINTABLE"
 unfoldable pub encoding_name : Rule EncodingValue
-encoding_name = plain_encoding or coded_encoding
+encoding_name = names "7BIT" SevenBit or names "8BIT" EightBit or names "BINARY" Binary or names "BASE64" Base64 or names "QUOTED-PRINTABLE" QuotedPrintable
 
 -- DQUOTE ("7BIT" / "8BIT" / "BINARY" / "BASE64" / "QUOTED-PRINTABLE") DQUOTE
 unfoldable pub quoted_encoding : Rule EncodingValue
@@ -41,6 +33,29 @@ quoted_encoding = tag "\"" ▹ encoding_name ◃ tag "\""
 -- body-fld-enc = (DQUOTE ("7BIT" / "8BIT" / "BINARY" / "BASE64" / "QUOTED-PRINTABLE") DQUOTE) / string; nil stands for 7BIT
 unfoldable pub body_fld_enc : Rule EncodingValue
 body_fld_enc = nil ▹ nothing SevenBit or quoted_encoding or gives Other string_utf8
+
+-- of these those that start alike
+
+unfoldable pub seven_bit : Rule EncodingValue
+seven_bit = names "7BIT" SevenBit
+
+unfoldable pub eight_bit : Rule EncodingValue
+eight_bit = names "8BIT" EightBit
+
+unfoldable pub binary_or_base64 : Rule EncodingValue
+binary_or_base64 = names "BINARY" Binary or names "BASE64" Base64
+
+unfoldable pub quoted_printable : Rule EncodingValue
+quoted_printable = names "QUOTED-PRINTABLE" QuotedPrintable
+
+unfoldable pub nil_encoding : Rule EncodingValue
+nil_encoding = nil ▹ nothing SevenBit
+
+unfoldable pub other_encoding : Rule EncodingValue
+other_encoding = gives Other string_utf8
+
+unfoldable pub encoding_in_quotes : Rule EncodingValue
+encoding_in_quotes = quoted_encoding or other_encoding
 
 abbrev pub fields_of : ParamsValue × (Option Text × (Option Text × (EncodingValue × ℕ))) → FieldsValue
 fields_of v = record { param = v.0; id = v.1.0; description = v.1.1.0; transfer_encoding = v.1.1.1.0; octets = v.1.1.1.1 }

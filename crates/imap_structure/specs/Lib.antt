@@ -3,3 +3,7 @@ pub mod Fields
 pub mod Extensions
 pub mod Bodies
 pub mod Spanned
+pub mod EnvelopeTexts
+pub mod FieldTexts
+pub mod ExtensionTexts
+pub mod BodyTexts

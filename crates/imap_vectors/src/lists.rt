@@ -1,7 +1,9 @@
 //! Lists and brackets over a reader that is passed, by its name and by a closure: each reader here has the clause that
 //! a caller gets from the clause of the reader that it passes.
 
+ghost use Rattle.std.specs.Prelude.{Some};
 ghost use Rattle.imap_grammar.specs.Answer.{Exactly, Gives};
+ghost use Rattle.imap_grammar.specs.Rule.{gives};
 ghost use Rattle.imap_grammar.specs.Step.{step};
 ghost use Rattle.imap_grammar.specs.Lists.{delimited, list_of, nonempty_list_of};
 ghost use Rattle.imap_bytes.specs.Numbers as rules;
@@ -47,9 +49,24 @@ fn delimited_number(i: &[u8]) -> IResult<&[u8], u32>
     paren_delimited(number, i)
 }
 
-fn some_number(i: &[u8]) -> IResult<&[u8], Option<u32>> {
+fn delimited_by_closure(i: &[u8]) -> IResult<&[u8], u32>
+    ensures { Exactly (λ x. x) result (step (delimited rules.number) i.now) }
+{
+    let item = |i|
+        ensures { Exactly (λ x. x) result (step rules.number i.entry.now) }
+    { number(i) };
+    paren_delimited(item, i)
+}
+
+fn some_number(i: &[u8]) -> IResult<&[u8], Option<u32>>
+    ensures { Exactly (λ x. x) result (step (gives Some rules.number) i.now) }
+{
     let (i, n) = number(i)?;
     Ok((i, Some(n)))
+}
+
+fn maybe_number(i: &[u8]) -> IResult<&[u8], Option<u32>> {
+    opt_opt(some_number, i)
 }
 
 const LISTS: Rows = &[
@@ -118,12 +135,9 @@ fn brackets_and_choices(rt: HostRuntime) {
     let alloc = rt.alloc();
     for (input, want) in DELIMITED {
         assert!(rt; says(alloc, delimited_number(input), want), "{want}");
-        assert!(rt;
-            says(alloc, paren_delimited(|i| number(i), input), want),
-            "{want}"
-        );
+        assert!(rt; says(alloc, delimited_by_closure(input), want), "{want}");
     }
     for (input, want) in MAYBE_NUMBERS {
-        assert!(rt; says(alloc, opt_opt(some_number, input), want), "{want}");
+        assert!(rt; says(alloc, maybe_number(input), want), "{want}");
     }
 }

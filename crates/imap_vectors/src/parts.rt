@@ -36,9 +36,9 @@ fn is_sought(body: &BodyStructure<'_>, sought: Sought) -> bool {
     }
 }
 
-fn searched<'a>(
+fn searched(
     alloc: Global,
-    root: &'a BodyStructure<'a>,
+    root: &BodyStructure<'_>,
     sought: Sought,
 ) -> Result<Option<Vec<u32>>, Err> {
     match BodyStructParser::new(alloc, root) {
@@ -47,20 +47,17 @@ fn searched<'a>(
     }
 }
 
-/// Whether the search in the body read is told so. The search borrows the body for as long as the body's own texts, so it is leaked.
-fn finds(alloc: Global, i: &[u8], sought: Sought, want: &str) -> bool {
-    match body_structure(alloc, i) {
-        Ok((_, root)) => finds_in(alloc, root, sought, want),
+fn finds_in(alloc: Global, root: &BodyStructure<'_>, sought: Sought, want: &str) -> bool {
+    match searched(alloc, root, sought) {
+        Ok(path) => says(alloc, Ok((NOTHING, path)), want),
         Err(_) => false,
     }
 }
 
-fn finds_in<'a>(alloc: Global, root: BodyStructure<'a>, sought: Sought, want: &str) -> bool {
-    match Box::new(alloc, root) {
-        Ok(root) => match searched(alloc, Box::leak(root), sought) {
-            Ok(path) => says(alloc, Ok((NOTHING, path)), want),
-            Err(_) => false,
-        },
+/// Whether the search in the body read, which is dropped behind it, is told so.
+fn finds(alloc: Global, i: &[u8], sought: Sought, want: &str) -> bool {
+    match body_structure(alloc, i) {
+        Ok((_, root)) => finds_in(alloc, &root, sought, want),
         Err(_) => false,
     }
 }

@@ -17,7 +17,7 @@ use crate::types::sections::{MessageSection, SectionPath};
 use imap_bytes::at::numbers::number;
 use imap_bytes::at::strings::astring;
 use imap_bytes::at::tags::{maybe_space, tag, word};
-use imap_bytes::{Err, first};
+use imap_bytes::{Err, Needed, first};
 use imap_shapes::spans::Span;
 use imap_structure::at::Reached;
 use imap_structure::at::lists::list_of_one;
@@ -129,9 +129,20 @@ fn header(m: &[u8], p: usize) -> Reached<MessageSection>
     Ok((p, MessageSection::Header))
 }
 
-fn text(m: &[u8], p: usize) -> Reached<MessageSection>
+#[tactic(auto, unfolding(crate::specs::Sections::header_text))]
+fn header_text(m: &[u8], p: usize) -> Reached<MessageSection>
     requires { p ≤ length m.now }
-    ensures steps { ExactlyAt (λ x. x) m.now result (step (tags.names "TEXT" what.Text) (drop p m.now)) }
+    ensures steps { ExactlyAt (λ x. x) m.now result (step sections.header_text (drop p m.now)) }
+    ensures ahead { Ahead m.now p result }
+{
+    first!(header_fields(m, p));
+    header(m, p)
+}
+
+#[tactic(auto, unfolding(crate::specs::Sections::body_text))]
+fn body_text(m: &[u8], p: usize) -> Reached<MessageSection>
+    requires { p ≤ length m.now }
+    ensures steps { ExactlyAt (λ x. x) m.now result (step sections.body_text (drop p m.now)) }
     ensures ahead { Ahead m.now p result }
 {
     let (p, _) = word(b"TEXT", m, p)?;
@@ -148,15 +159,19 @@ fn mime(m: &[u8], p: usize) -> Reached<MessageSection>
 }
 
 /// What of a message is meant (RFC 3501, section 9: section-msgtext). No memory: names of header fields are read and dropped.
-#[tactic(auto, unfolding(crate::specs::Sections::section_msgtext))]
+#[tactic(auto, using(crate::proofs::SectionFirstBytes::msgtext_none, crate::proofs::SectionFirstBytes::msgtext_is_header, crate::proofs::SectionFirstBytes::msgtext_is_text, crate::proofs::SectionFirstBytes::msgtext_other))]
 pub fn section_msgtext(m: &[u8], p: usize) -> Reached<MessageSection>
     requires { p ≤ length m.now }
     ensures steps { ExactlyAt (λ x. x) m.now result (step sections.section_msgtext (drop p m.now)) }
     ensures ahead { Ahead m.now p result }
 {
-    first!(header_fields(m, p));
-    first!(header(m, p));
-    text(m, p)
+    let (_, i) = m.split_at(p);
+    match i.first() {
+        None => Err(Err::Incomplete(Needed::Unknown)),
+        Some(b'h' | b'H') => header_text(m, p),
+        Some(b't' | b'T') => body_text(m, p),
+        Some(_) => Err(Err::Error),
+    }
 }
 
 /// What of a part is meant (RFC 3501, section 9: section-text). No memory.

@@ -1,8 +1,9 @@
 //! Numbers at a position. None takes memory.
 
-ghost use Rattle.std.specs.Prelude.{◌≡◌, ◌≤◌, ◌<◌, ◌+◌, ◌*◌, ◌-◌, ◌^◌, ℕ, length, drop, nat_lt, IfSome, IsTrue};
+ghost use Rattle.std.specs.Prelude.{◌≡◌, ◌≤◌, ◌<◌, ◌+◌, ◌*◌, ◌-◌, ◌^◌, length, drop, nat_lt, position, IfSome};
 ghost use Rattle.imap_grammar.specs.Positions.{AnswersAt, ExactlyAt, Ahead};
 ghost use Rattle.imap_grammar.specs.Step.{step};
+ghost use Rattle.imap_grammar.specs.Meaning.{outside};
 ghost use Rattle.imap_grammar.specs.Rule.{only};
 ghost use Rattle.imap_grammar.specs.Classes as classes;
 ghost use Rattle.imap_bytes.specs.Numbers as numbers;
@@ -11,40 +12,70 @@ ghost use Rattle.imap_bytes.specs.Numbers.{InFront};
 use imap_grammar::classes::is_digit;
 use imap_grammar::{Err, Needed};
 
-// The number with one more digit, if 64 bits hold it.
-fn with_digit(number: Option<u64>, digit: u8) -> Option<u64>
-    ensures { (v : ℕ) → number ≡ only (λ n. nat_lt n (2 ^ 64)) v → result ≡ only (λ n. nat_lt n (2 ^ 64)) (v * 10 + (digit - 48)) }
+fn digits_end(i: &[u8]) -> Option<usize>
+    ensures at { result ≡ position (outside classes.is_digit) i.now }
+    ensures within { IfSome result (λ n. n < length i.now) }
 {
-    number?
-        .checked_mul(10)?
-        .checked_add(u64::from(digit.saturating_sub(b'0')))
+    i.iter().position(|c| !is_digit(*c))
 }
 
-// How many digits stand in front, and the number that they write, if 64 bits hold it. `None` where nothing follows them.
-fn digits_in_front(i: &[u8]) -> Option<(usize, Option<u64>)>
-    ensures at { InFront i.now result }
+// How many digits stand in front, and the number that they write, if 32 bits hold it. `None` where nothing follows them.
+fn digits_in_front(i: &[u8]) -> Option<(usize, Option<u32>)>
+    ensures at { InFront (2 ^ 32) i.now result }
     ensures within { IfSome result (λ x. x.0 < length i.now) }
 {
     let mut count = 0;
-    let mut number = Some(0);
-    for d in i {
+    let mut number: u64 = 0;
+    while let Some(d) = i.get(count) {
         if !is_digit(*d) {
-            return Some((count, number));
+            return Some((count, u32::try_from(number).ok()));
         }
-        number = with_digit(number, *d);
+        if number > u64::from(u32::MAX) {
+            return Some((digits_end(i)?, None));
+        }
+        number = number * 10 + u64::from(d.saturating_sub(b'0'));
         count += 1;
     }
     None
 }
 
-/// A number below 2^64, leading zeros allowed (RFC 4551, section 4: mod-sequence-value).
+// The number with one more digit, if 64 bits hold it.
+fn with_digit(number: u64, digit: u8) -> Option<u64>
+    ensures { result ≡ only (λ n. nat_lt n (2 ^ 64)) (number * 10 + (digit - 48)) }
+{
+    number
+        .checked_mul(10)?
+        .checked_add(u64::from(digit.saturating_sub(b'0')))
+}
+
+// How many digits stand in front, and the number that they write, if 64 bits hold it. `None` where nothing follows them.
+fn digits_in_front_64(i: &[u8]) -> Option<(usize, Option<u64>)>
+    ensures at { InFront (2 ^ 64) i.now result }
+    ensures within { IfSome result (λ x. x.0 < length i.now) }
+{
+    let mut count = 0;
+    let mut number = 0;
+    while let Some(d) = i.get(count) {
+        if !is_digit(*d) {
+            return Some((count, Some(number)));
+        }
+        match with_digit(number, *d) {
+            Some(more) => number = more,
+            None => return Some((digits_end(i)?, None)),
+        }
+        count += 1;
+    }
+    None
+}
+
+/// A number below 2^32, leading zeros allowed (RFC 3501, section 9: number).
 ///
 /// It is judged behind the byte that ends its digits: a larger one is `Error`, digits up to the end of the message wait.
 #[tactic(auto, using(imap_grammar::proofs::Agreement::exact_answered_at))]
-pub fn number_64(m: &[u8], p: usize) -> Result<(usize, u64), Err>
+pub fn number(m: &[u8], p: usize) -> Result<(usize, u32), Err>
     requires { p ≤ length m.now }
-    ensures steps { ExactlyAt (λ x. x) m.now result (step numbers.number_64 (drop p m.now)) }
-    ensures answer { AnswersAt numbers.number_64 (λ x. x) m.now p result }
+    ensures steps { ExactlyAt (λ x. x) m.now result (step numbers.number (drop p m.now)) }
+    ensures answer { AnswersAt numbers.number (λ x. x) m.now p result }
     ensures ahead { Ahead m.now p result }
 {
     let (_, i) = m.split_at(p);
@@ -62,17 +93,25 @@ pub fn number_64(m: &[u8], p: usize) -> Result<(usize, u64), Err>
     }
 }
 
-/// A number below 2^32, leading zeros allowed (RFC 3501, section 9: number). It is judged as `number_64` is.
+/// A number below 2^64, leading zeros allowed (RFC 4551, section 4: mod-sequence-value). It is judged as `number` is.
 #[tactic(auto, using(imap_grammar::proofs::Agreement::exact_answered_at))]
-pub fn number(m: &[u8], p: usize) -> Result<(usize, u32), Err>
+pub fn number_64(m: &[u8], p: usize) -> Result<(usize, u64), Err>
     requires { p ≤ length m.now }
-    ensures steps { ExactlyAt (λ x. x) m.now result (step numbers.number (drop p m.now)) }
-    ensures answer { AnswersAt numbers.number (λ x. x) m.now p result }
+    ensures steps { ExactlyAt (λ x. x) m.now result (step numbers.number_64 (drop p m.now)) }
+    ensures answer { AnswersAt numbers.number_64 (λ x. x) m.now p result }
     ensures ahead { Ahead m.now p result }
 {
-    let (q, n) = number_64(m, p)?;
-    if n > u64::from(u32::MAX) {
-        return Err(Err::Error);
+    let (_, i) = m.split_at(p);
+    match digits_in_front_64(i) {
+        None => Err(Err::Incomplete(Needed::Unknown)),
+        Some((count, number)) => {
+            if count == 0 {
+                return Err(Err::Error);
+            }
+            match number {
+                None => Err(Err::Error),
+                Some(n) => Ok((p + count, n)),
+            }
+        }
     }
-    Ok((q, n as u32))
 }

@@ -14,6 +14,9 @@ use crate::at::tags::{blanks0, blanks1, maybe_space, tag};
 use crate::lists::{Separator, tried};
 use std::alloc::Global;
 
+// How many elements a list that has one gets room for: as many as most lists of a response have, so that it seldom grows.
+const ROOM: usize = 8;
+
 fn read_separator(between: Separator, m: &[u8], p: usize) -> Result<(usize, Span), Err>
     requires { p ≤ length m.now }
     ensures steps { ExactlyAt (λ x. named_in m.now x) m.now result (step (separator_rule between) (drop p m.now)) }
@@ -97,7 +100,7 @@ pub fn repeated_once<O: Drop, F: Fn(usize) -> Result<(usize, O), Err>>(
     ensures ahead { Ahead m.now p result }
 {
     let (mut q, first) = f(p)?;
-    let mut items = Vec::new(alloc);
+    let mut items = Vec::with_capacity(alloc, ROOM)?;
     items.push(first)?;
     while let Some((next, item)) = tried(one_item(&f, m, q))? {
         items.push(item)?;
@@ -123,7 +126,7 @@ pub fn separated<O: Drop, F: Fn(usize) -> Result<(usize, O), Err>>(
     ensures ahead { Ahead m.now p result }
 {
     let (mut q, first) = f(p)?;
-    let mut items = Vec::new(alloc);
+    let mut items = Vec::with_capacity(alloc, ROOM)?;
     items.push(first)?;
     while let Some((next, item)) = tried(next_item(between, &f, m, q))? {
         items.push(item)?;

@@ -22,10 +22,17 @@ fn agrees(word: &[u8], i: &[u8]) -> bool
     word.iter().zip(i).all(|(a, b)| a == b)
 }
 
+// Asked of a word's letter, which is known where it stands in the code: then it is one comparison.
+fn is_same_letter(a: u8, b: u8) -> bool
+    ensures { result ≡ same_letter a b }
+{
+    b == a.to_ascii_lowercase() || b == a.to_ascii_uppercase()
+}
+
 fn agrees_in_any_case(word: &[u8], i: &[u8]) -> bool
     ensures { result ≡ list_all (λ p. same_letter p.0 p.1) (zip word.now i.now) }
 {
-    word.iter().zip(i).all(|(a, b)| a.eq_ignore_ascii_case(b))
+    word.iter().zip(i).all(|(a, b)| is_same_letter(*a, *b))
 }
 
 /// Exactly these bytes.

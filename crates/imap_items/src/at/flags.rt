@@ -5,7 +5,7 @@ ghost use Rattle.imap_grammar.specs.Positions.{AnswersAt, ExactlyAt, GivesAt, Ah
 ghost use Rattle.imap_grammar.specs.Step.{step};
 ghost use Rattle.imap_grammar.specs.Tags.{exactly_names};
 ghost use Rattle.imap_items.specs.Flags as flags;
-ghost use Rattle.imap_items.specs.Spanned.{flag_in};
+ghost use Rattle.imap_items.specs.Spanned.{text_in};
 
 use imap_bytes::at::parenthesized_list;
 use imap_bytes::at::span::Span;
@@ -81,12 +81,12 @@ fn flag_perm(m: &[u8], p: usize) -> Result<(usize, Span), Err>
     flag(m, p)
 }
 
-#[tactic(auto, using(crate::proofs::Spanned::flag_rests), unfolding(crate::specs::Flags::flag_text))]
+#[tactic(auto, using(crate::proofs::Spanned::flag_perm_decoded, crate::proofs::Spanned::text_rests), unfolding(crate::specs::Flags::flag_text))]
 fn flag_text(m: &[u8], p: usize) -> Result<(usize, Span), Err>
     requires { p ≤ length m.now }
-    ensures steps { ExactlyAt (λ x. flag_in m.now x) m.now result (step flags.flag_text (drop p m.now)) }
+    ensures steps { ExactlyAt (λ x. text_in m.now x) m.now result (step flags.flag_text (drop p m.now)) }
     ensures ahead { Ahead m.now p result }
-    ensures rests { RestsOn flag_in result }
+    ensures rests { RestsOn text_in result }
 {
     let (q, flag) = flag_perm(m, p)?;
     Ok((q, flag))
@@ -97,16 +97,16 @@ fn flag_text(m: &[u8], p: usize) -> Result<(usize, Span), Err>
 /// It takes memory for the list, and for no text. Bytes that are no UTF-8 are `Error`.
 pub fn flag_list(alloc: Global, m: &[u8], p: usize) -> Result<(usize, Vec<Span>), Err>
     requires { p ≤ length m.now }
-    ensures steps { GivesAt (λ x. map (flag_in m.now) x.items) m.now result (step flags.flag_list (drop p m.now)) }
-    ensures answer { AnswersAt flags.flag_list (λ x. map (flag_in m.now) x.items) m.now p result }
+    ensures steps { GivesAt (λ x. map (text_in m.now) x.items) m.now result (step flags.flag_list (drop p m.now)) }
+    ensures answer { AnswersAt flags.flag_list (λ x. map (text_in m.now) x.items) m.now p result }
     ensures ahead { Ahead m.now p result }
-    ensures rests { RestsOn (λ n x. map (flag_in n) x.items) result }
+    ensures rests { RestsOn (λ n x. map (text_in n) x.items) result }
 {
     let item = |k: usize|
         requires { k ≤ length m.now }
-        ensures steps { ExactlyAt (λ x. flag_in m.entry.now x) m.entry.now result (step flags.flag_text (drop k m.entry.now)) }
+        ensures steps { ExactlyAt (λ x. text_in m.entry.now x) m.entry.now result (step flags.flag_text (drop k m.entry.now)) }
         ensures ahead { Ahead m.entry.now k result }
-        ensures rests { RestsOn flag_in result }
+        ensures rests { RestsOn text_in result }
     { flag_text(m, k) };
     parenthesized_list(alloc, item, m, p)
 }

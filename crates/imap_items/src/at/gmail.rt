@@ -5,7 +5,7 @@ ghost use Rattle.imap_grammar.specs.Positions.{AnswersAt, ExactlyAt, GivesAt, Ah
 ghost use Rattle.imap_grammar.specs.Step.{step};
 ghost use Rattle.imap_bytes.specs.Texts as texts;
 ghost use Rattle.imap_items.specs.Gmail as rules;
-ghost use Rattle.imap_items.specs.Spanned.{label_in};
+ghost use Rattle.imap_items.specs.Spanned.{text_in};
 
 use super::flags::flag;
 use imap_bytes::at::span::Span;
@@ -17,7 +17,7 @@ use std::alloc::Global;
 #[tactic(auto, using(crate::proofs::Spanned::flag_decoded))]
 fn flag_label(m: &[u8], p: usize) -> Result<(usize, Span), Err>
     requires { p ≤ length m.now }
-    ensures steps { ExactlyAt (λ x. label_in m.now x) m.now result (step rules.flag_label (drop p m.now)) }
+    ensures steps { ExactlyAt (λ x. text_in m.now x) m.now result (step rules.flag_label (drop p m.now)) }
     ensures inside { Inside m.now p result }
 {
     let (q, label) = flag(m, p)?;
@@ -27,7 +27,7 @@ fn flag_label(m: &[u8], p: usize) -> Result<(usize, Span), Err>
 #[tactic(auto, unfolding(imap_bytes::specs::Texts::quoted_utf8))]
 fn quoted_label(m: &[u8], p: usize) -> Result<(usize, Span), Err>
     requires { p ≤ length m.now }
-    ensures steps { ExactlyAt (λ x. label_in m.now x) m.now result (step texts.quoted_utf8 (drop p m.now)) }
+    ensures steps { ExactlyAt (λ x. text_in m.now x) m.now result (step texts.quoted_utf8 (drop p m.now)) }
     ensures inside { Inside m.now p result }
 {
     let (q, content) = quoted(m, p)?;
@@ -35,12 +35,12 @@ fn quoted_label(m: &[u8], p: usize) -> Result<(usize, Span), Err>
 }
 
 // A label: a flag, or a quoted string.
-#[tactic(auto, using(crate::proofs::Spanned::label_rests), unfolding(crate::specs::Gmail::gmail_label))]
+#[tactic(auto, using(crate::proofs::Spanned::text_rests), unfolding(crate::specs::Gmail::gmail_label))]
 fn gmail_label(m: &[u8], p: usize) -> Result<(usize, Span), Err>
     requires { p ≤ length m.now }
-    ensures steps { ExactlyAt (λ x. label_in m.now x) m.now result (step rules.gmail_label (drop p m.now)) }
+    ensures steps { ExactlyAt (λ x. text_in m.now x) m.now result (step rules.gmail_label (drop p m.now)) }
     ensures ahead { Ahead m.now p result }
-    ensures rests { RestsOn label_in result }
+    ensures rests { RestsOn text_in result }
 {
     first!(flag_label(m, p));
     let (q, label) = quoted_label(m, p)?;
@@ -49,15 +49,15 @@ fn gmail_label(m: &[u8], p: usize) -> Result<(usize, Span), Err>
 
 fn gmail_labels(alloc: Global, m: &[u8], p: usize) -> Result<(usize, Vec<Span>), Err>
     requires { p ≤ length m.now }
-    ensures steps { GivesAt (λ x. map (label_in m.now) x.items) m.now result (step rules.gmail_labels (drop p m.now)) }
+    ensures steps { GivesAt (λ x. map (text_in m.now) x.items) m.now result (step rules.gmail_labels (drop p m.now)) }
     ensures ahead { Ahead m.now p result }
-    ensures rests { RestsOn (λ n x. map (label_in n) x.items) result }
+    ensures rests { RestsOn (λ n x. map (text_in n) x.items) result }
 {
     let label = |k: usize|
         requires { k ≤ length m.now }
-        ensures steps { ExactlyAt (λ x. label_in m.entry.now x) m.entry.now result (step rules.gmail_label (drop k m.entry.now)) }
+        ensures steps { ExactlyAt (λ x. text_in m.entry.now x) m.entry.now result (step rules.gmail_label (drop k m.entry.now)) }
         ensures ahead { Ahead m.entry.now k result }
-        ensures rests { RestsOn label_in result }
+        ensures rests { RestsOn text_in result }
     { gmail_label(m, k) };
     parenthesized_list(alloc, label, m, p)
 }
@@ -65,9 +65,9 @@ fn gmail_labels(alloc: Global, m: &[u8], p: usize) -> Result<(usize, Vec<Span>),
 #[tactic(auto, unfolding(crate::specs::Gmail::gmail_label_list))]
 fn labels(alloc: Global, m: &[u8], p: usize) -> Result<(usize, Vec<Span>), Err>
     requires { p ≤ length m.now }
-    ensures steps { GivesAt (λ x. map (label_in m.now) x.items) m.now result (step rules.gmail_label_list (drop p m.now)) }
+    ensures steps { GivesAt (λ x. map (text_in m.now) x.items) m.now result (step rules.gmail_label_list (drop p m.now)) }
     ensures ahead { Ahead m.now p result }
-    ensures rests { RestsOn (λ n x. map (label_in n) x.items) result }
+    ensures rests { RestsOn (λ n x. map (text_in n) x.items) result }
 {
     let (p, _) = word(b"X-GM-LABELS ", m, p)?;
     let (p, labels) = gmail_labels(alloc, m, p)?;
@@ -80,10 +80,10 @@ fn labels(alloc: Global, m: &[u8], p: usize) -> Result<(usize, Vec<Span>), Err>
 #[tactic(auto, using(imap_grammar::proofs::Agreement::answered_at))]
 pub fn gmail_label_list(alloc: Global, m: &[u8], p: usize) -> Result<(usize, Vec<Span>), Err>
     requires { p ≤ length m.now }
-    ensures steps { GivesAt (λ x. map (label_in m.now) x.items) m.now result (step rules.gmail_label_list (drop p m.now)) }
-    ensures answer { AnswersAt rules.gmail_label_list (λ x. map (label_in m.now) x.items) m.now p result }
+    ensures steps { GivesAt (λ x. map (text_in m.now) x.items) m.now result (step rules.gmail_label_list (drop p m.now)) }
+    ensures answer { AnswersAt rules.gmail_label_list (λ x. map (text_in m.now) x.items) m.now p result }
     ensures ahead { Ahead m.now p result }
-    ensures rests { RestsOn (λ n x. map (label_in n) x.items) result }
+    ensures rests { RestsOn (λ n x. map (text_in n) x.items) result }
 {
     labels(alloc, m, p)
 }

@@ -4,41 +4,64 @@ ghost use Rattle.std.specs.Prelude.{◌≡◌, map, IfOk};
 ghost use Rattle.std.specs.List.{All};
 ghost use Rattle.imap_grammar.specs.Answer.{Answers, Exactly, Gives};
 ghost use Rattle.imap_grammar.specs.Step.{step};
-ghost use Rattle.imap_grammar.specs.Rule.{gives};
-ghost use Rattle.imap_bytes.specs.Sets.{sequence_range as sequence_range_rule, ends};
+ghost use Rattle.imap_grammar.specs.Rule.{opt, ◌▹◌};
+ghost use Rattle.imap_grammar.specs.Tags.{tag as colon};
+ghost use Rattle.imap_bytes.specs.Numbers.{number as number_rule};
 ghost use Rattle.imap_items.specs.UidSets as sets;
-ghost use Rattle.imap_items.specs.UidSets.{member_value, range_of, IsOrdered};
+ghost use Rattle.imap_items.specs.UidSets.{member_value, member_of, IsOrdered};
 
 use crate::types::uid_sets::UidSetMember;
 use imap_bytes::lists::{Separator, separated};
 use imap_bytes::numbers::number;
-use imap_bytes::sets::sequence_range;
-use imap_bytes::{Err, IResult, first};
+use imap_bytes::tags::tag;
+use imap_bytes::{Err, IResult};
 use std::alloc::Global;
-use std::ops::RangeInclusive;
 
-fn in_order(range: RangeInclusive<u32>) -> UidSetMember
-    ensures { member_value result ≡ range_of (ends range) }
+// A colon and the number behind it.
+fn range_end(i: &[u8]) -> IResult<&[u8], u32>
+    ensures { Exactly (λ x. x) result (step (colon ":" ▹ number_rule) i.now) }
 {
-    let (first, last) = range.into_inner();
-    UidSetMember::UidRange(first.min(last)..=first.max(last))
+    let (rest, _) = tag(b":", i)?;
+    number(rest)
 }
 
-fn range_member(i: &[u8]) -> IResult<&[u8], UidSetMember>
-    ensures { Exactly (λ x. member_value x) result (step (gives range_of sequence_range_rule) i.now) }
+fn maybe_range_end(i: &[u8]) -> IResult<&[u8], Option<u32>>
+    ensures { Exactly (λ x. x) result (step (opt (colon ":" ▹ number_rule)) i.now) }
 {
-    let (rest, range) = sequence_range(i)?;
-    Ok((rest, in_order(range)))
+    match range_end(i) {
+        Ok((rest, last)) => Ok((rest, Some(last))),
+        Err(Err::Error) => Ok((i, None)),
+        Err(e) => Err(e),
+    }
+}
+
+#[tactic(auto, unfolding(crate::specs::UidSets::maybe_range))]
+fn maybe_range(i: &[u8]) -> IResult<&[u8], (u32, Option<u32>)>
+    ensures { Exactly (λ x. x) result (step sets.maybe_range i.now) }
+{
+    let (rest, first) = number(i)?;
+    let (rest, last) = maybe_range_end(rest)?;
+    Ok((rest, (first, last)))
+}
+
+fn member(first: u32, last: Option<u32>) -> UidSetMember
+    ensures { member_value result ≡ member_of (first, last) }
+{
+    match last {
+        None => UidSetMember::Uid(first),
+        Some(last) => UidSetMember::UidRange(first.min(last)..=first.max(last)),
+    }
 }
 
 /// A range of UIDs with its ends put in order, or one UID (RFC 4315, section 4: uid-range, uniqueid). No memory.
-#[tactic(auto, unfolding(crate::specs::UidSets::uid_set_member))]
+///
+/// The number in front is read once.
+#[tactic(auto, using(crate::proofs::UidSets::member_is))]
 pub(crate) fn uid_set_member(i: &[u8]) -> IResult<&[u8], UidSetMember>
     ensures { Exactly (λ x. member_value x) result (step sets.uid_set_member i.now) }
 {
-    first!(range_member(i));
-    let (rest, uid) = number(i)?;
-    Ok((rest, UidSetMember::Uid(uid)))
+    let (rest, (first, last)) = maybe_range(i)?;
+    Ok((rest, member(first, last)))
 }
 
 /// Ranges of UIDs and UIDs, with commas between (RFC 4315, section 4: uid-set).

@@ -67,7 +67,7 @@ impl<S> BodyContentSinglePart<S> {
 
 impl<S, B> BodyStructure<S, B> {
     /// The same structure with each text changed by c, and each byte string by d.
-    pub(crate) fn try_map<C: Change<S>, D: Change<B>>(
+    pub fn try_map<C: Change<S>, D: Change<B>>(
         &self,
         alloc: Global,
         c: &C,

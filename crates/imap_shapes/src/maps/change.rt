@@ -6,7 +6,7 @@ ghost use Rattle.imap_grammar.specs.Text.{Text};
 use std::alloc::AllocError;
 
 /// What makes another text of a text. It may take memory, and fails for want of it alone.
-pub(crate) trait Change<X> {
+pub trait Change<X> {
     type To: Drop;
 
     /// What the new text is to say.

@@ -1,4 +1,4 @@
-//! The changes of texts: a copy, one with all texts owned, and what spans name in a message.
+//! The changes of texts: all of them owned, and what spans name in a message.
 
 ghost use Rattle.std.specs.Prelude.{◌≡◌, IfOk, false};
 ghost use Rattle.imap_grammar.specs.Text.{text_of};
@@ -11,49 +11,15 @@ use std::alloc::{AllocError, Global};
 use std::borrow::{CowSlice, CowStr};
 use std::marker::PhantomData;
 
-/// Each text as it is, borrowed or owned.
-#[derive(Drop)]
-pub(crate) struct Copying;
-
-impl<'a> Change<CowSlice<'a, u8>> for Copying {
-    type To = CowSlice<'a, u8>;
-
-    ghost before = { λ c t. bytes_of t };
-
-    ghost after = { bytes_of };
-
-    fn change(&self, x: &CowSlice<'a, u8>) -> Result<CowSlice<'a, u8>, AllocError> {
-        match x {
-            CowSlice::Borrowed(bytes) => Ok(CowSlice::Borrowed(*bytes)),
-            CowSlice::Owned(bytes) => Ok(CowSlice::Owned(bytes.clone()?)),
-        }
-    }
-}
-
-impl<'a> Change<CowStr<'a>> for Copying {
-    type To = CowStr<'a>;
-
-    ghost before = { λ c t. text_of t };
-
-    ghost after = { text_of };
-
-    fn change(&self, x: &CowStr<'a>) -> Result<CowStr<'a>, AllocError> {
-        match x {
-            CowStr::Borrowed(text) => Ok(CowStr::Borrowed(*text)),
-            CowStr::Owned(text) => Ok(CowStr::Owned(text.clone()?)),
-        }
-    }
-}
-
 /// Each text owned. The target's lifetime is this type's own.
 #[derive(Drop)]
-pub(crate) struct Owning<'b> {
-    alloc: Global,
+pub struct Owning<'b> {
+    pub alloc: Global,
     target: PhantomData<&'b u8>,
 }
 
 impl<'b> Owning<'b> {
-    pub(crate) fn new(alloc: Global) -> Owning<'b> {
+    pub fn new(alloc: Global) -> Owning<'b> {
         Owning {
             alloc,
             target: PhantomData,
@@ -96,8 +62,8 @@ impl<'a, 'b> Change<CowStr<'a>> for Owning<'b> {
 
 /// The byte strings that spans name in a message.
 #[derive(Drop)]
-pub(crate) struct NamedBytes<'a> {
-    pub(crate) m: &'a [u8],
+pub struct NamedBytes<'a> {
+    pub m: &'a [u8],
 }
 
 impl<'a> Change<Span> for NamedBytes<'a> {

@@ -52,7 +52,7 @@ fn mapped_addresses<B, C: Change<B>>(
 impl<B> Envelope<B> {
     /// The same envelope with each text changed.
     #[tactic(auto, unfolding(crate::specs::EnvelopeValues::envelope_seen))]
-    pub(crate) fn try_map<C: Change<B>>(
+    pub fn try_map<C: Change<B>>(
         &self,
         alloc: Global,
         c: &C,

@@ -7,7 +7,8 @@ ghost use Rattle.imap_shapes.specs.ExtensionValues.{languages_seen};
 use super::change::Change;
 use std::alloc::{AllocError, Global};
 
-pub(crate) fn mapped_text<X, C: Change<X>>(
+/// A text that may be missing, changed.
+pub fn mapped_text<X, C: Change<X>>(
     c: &C,
     text: &Option<X>,
 ) -> Result<Option<C::To>, AllocError>
@@ -19,7 +20,8 @@ pub(crate) fn mapped_text<X, C: Change<X>>(
     }
 }
 
-fn mapped_list<X, C: Change<X>>(
+/// A list of texts, each of them changed.
+pub fn mapped_list<X, C: Change<X>>(
     alloc: Global,
     c: &C,
     texts: &Vec<X>,

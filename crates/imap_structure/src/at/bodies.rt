@@ -18,7 +18,7 @@ use crate::at::lists::list_of_one;
 use crate::at::texts::{spaced_number, spaced_string_text, string_text};
 use crate::limits::MAX_BODY_DEPTH;
 use imap_bytes::at::tags::{tag, word};
-use imap_bytes::{Err, first};
+use imap_bytes::{Err, Needed, first};
 use imap_shapes::shapes::bodies::{
     BodyContentCommon, BodyContentSinglePart, BodyStructure, ContentType,
 };
@@ -154,17 +154,34 @@ fn bracketed_body(alloc: Global, level: u32, m: &[u8], p: usize) -> Reached<Span
 
 // What stands in the parentheses of a body, where the bodies inside have this level.
 #[cycle(body)]
-#[tactic(auto, unfolding(crate::specs::Bodies::body_type))]
+#[tactic(auto, using(crate::proofs::FirstBytes::type_none, crate::proofs::FirstBytes::type_is_quoted, crate::proofs::FirstBytes::type_is_literal, crate::proofs::FirstBytes::type_is_mpart, crate::proofs::FirstBytes::type_other))]
 fn body_type(alloc: Global, level: u32, m: &[u8], p: usize) -> Reached<Spanned>
     requires { p ≤ length m.now }
     ensures steps { GivesAt (λ x. body_in m.now x) m.now result (step (bodies.body_type (bodies.body level)) (drop p m.now)) }
     ensures ahead { Ahead m.now p result }
     ensures rests { RestsOn body_in result }
 {
+    let (_, i) = m.split_at(p);
+    match i.first() {
+        None => Err(Err::Incomplete(Needed::Unknown)),
+        Some(b'"') => quoted_type(alloc, level, m, p),
+        Some(b'{') => body_type_basic(alloc, m, p),
+        Some(b'(') => body_type_mpart(alloc, level, m, p),
+        Some(_) => Err(Err::Error),
+    }
+}
+
+#[cycle(body)]
+#[tactic(auto, unfolding(crate::specs::Bodies::quoted_type))]
+fn quoted_type(alloc: Global, level: u32, m: &[u8], p: usize) -> Reached<Spanned>
+    requires { p ≤ length m.now }
+    ensures steps { GivesAt (λ x. body_in m.now x) m.now result (step (bodies.quoted_type (bodies.body level)) (drop p m.now)) }
+    ensures ahead { Ahead m.now p result }
+    ensures rests { RestsOn body_in result }
+{
     first!(body_type_text(alloc, m, p));
     first!(body_type_msg(alloc, level, m, p));
-    first!(body_type_basic(alloc, m, p));
-    body_type_mpart(alloc, level, m, p)
+    body_type_basic(alloc, m, p)
 }
 
 /// A message (RFC 3501, section 9: body-type-msg).

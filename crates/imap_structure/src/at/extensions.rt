@@ -22,7 +22,7 @@ use crate::limits::MAX_EXTENSION_DEPTH;
 use imap_bytes::at::numbers::number;
 use imap_bytes::at::strings::nil;
 use imap_bytes::at::tags::{blanks0, tag};
-use imap_bytes::{Err, first};
+use imap_bytes::{Err, Needed, first};
 use imap_shapes::shapes::extensions::{
     BodyExt1Part, BodyExtMPart, BodyExtension, ContentDisposition,
 };
@@ -144,9 +144,31 @@ fn body_fld_lang(alloc: Global, m: &[u8], p: usize) -> Reached<Option<Vec<Spanne
 
 // ---- extensions
 
+#[tactic(auto, using(crate::proofs::Seeing::number_seen, crate::proofs::Seeing::number_rests), unfolding(crate::specs::Extensions::number_extension))]
+fn number_extension(m: &[u8], p: usize) -> Reached<BodyExtension<SpannedText>>
+    requires { p ≤ length m.now }
+    ensures steps { ExactlyAt (λ x. extension_in m.now x) m.now result (step extensions.number_extension (drop p m.now)) }
+    ensures ahead { Ahead m.now p result }
+    ensures rests { RestsOn extension_in result }
+{
+    let (p, n) = number(m, p)?;
+    Ok((p, BodyExtension::Num(n)))
+}
+
+#[tactic(auto, using(crate::proofs::Seeing::string_seen, crate::proofs::Seeing::string_rests), unfolding(crate::specs::Extensions::string_extension))]
+fn string_extension(m: &[u8], p: usize) -> Reached<BodyExtension<SpannedText>>
+    requires { p ≤ length m.now }
+    ensures steps { ExactlyAt (λ x. extension_in m.now x) m.now result (step extensions.string_extension (drop p m.now)) }
+    ensures ahead { Ahead m.now p result }
+    ensures rests { RestsOn extension_in result }
+{
+    let (p, text) = nstring_text(m, p)?;
+    Ok((p, BodyExtension::Str(text)))
+}
+
 /// Extension data, with up to `level` lists inside one another (RFC 3501, section 9: body-extension).
 #[cycle(extension)]
-#[tactic(auto, using(crate::proofs::Seeing::number_seen, crate::proofs::Seeing::string_seen), unfolding(crate::specs::Extensions::extension_over))]
+#[tactic(auto, using(crate::proofs::FirstBytes::extension_none, crate::proofs::FirstBytes::extension_is_string, crate::proofs::FirstBytes::extension_is_list, crate::proofs::FirstBytes::extension_is_number, crate::proofs::FirstBytes::extension_other))]
 pub fn extension(
     alloc: Global,
     level: u32,
@@ -158,15 +180,13 @@ pub fn extension(
     ensures ahead { Ahead m.now p result }
     ensures rests { RestsOn extension_in result }
 {
-    match number(m, p) {
-        Ok((q, n)) => return Ok((q, BodyExtension::Num(n))),
-        Err(Err::Error) => {}
-        Err(e) => return Err(e),
-    }
-    match nstring_text(m, p) {
-        Ok((q, text)) => Ok((q, BodyExtension::Str(text))),
-        Err(Err::Error) => extension_list(alloc, level, m, p),
-        Err(e) => Err(e),
+    let (_, i) = m.split_at(p);
+    match i.first() {
+        None => Err(Err::Incomplete(Needed::Unknown)),
+        Some(b'"' | b'{' | b'n' | b'N') => string_extension(m, p),
+        Some(b'(') => extension_list(alloc, level, m, p),
+        Some(b) if b.is_ascii_digit() => number_extension(m, p),
+        Some(_) => Err(Err::Error),
     }
 }
 

@@ -4,10 +4,7 @@ ghost use Rattle.std.specs.Prelude.{◌≤◌, length, drop, map};
 ghost use Rattle.std.specs.Option.{option_map};
 ghost use Rattle.imap_grammar.specs.Positions.{ExactlyAt, GivesAt, Ahead, RestsOn};
 ghost use Rattle.imap_grammar.specs.Step.{step};
-ghost use Rattle.imap_grammar.specs.Rule.{opt, gives};
-ghost use Rattle.imap_grammar.specs.Tags as tags;
-ghost use Rattle.imap_bytes.specs.Texts as texts;
-ghost use Rattle.imap_shapes.specs.declared.shapes.fields.ContentEncoding.TheVariants as encoding;
+ghost use Rattle.imap_grammar.specs.Rule.{opt};
 ghost use Rattle.imap_structure.specs.Envelopes.{spaced};
 ghost use Rattle.imap_structure.specs.Fields as fields;
 ghost use Rattle.imap_structure.specs.Spanned.{pair_in, params_in, encoding_in, fields_in};
@@ -17,7 +14,7 @@ use crate::at::lists::list_of_one;
 use crate::at::texts::{spaced_nstring_text, spaced_number, spaced_string_text, string_text};
 use imap_bytes::at::strings::nil;
 use imap_bytes::at::tags::{blanks0, tag, word};
-use imap_bytes::{Err, first};
+use imap_bytes::{Err, Needed, first};
 use imap_shapes::shapes::fields::{BodyFields, BodyParams, ContentEncoding};
 use imap_shapes::spans::SpannedText;
 use std::alloc::Global;
@@ -98,20 +95,48 @@ pub fn body_fld_param(alloc: Global, m: &[u8], p: usize) -> Reached<BodyParams<S
     Ok((q, Some(params)))
 }
 
-// Answers `$value` where the word stands at the position, and goes on where it is denied.
-macro_rules! named {
-    ($text:expr, $m:expr, $p:expr, $value:expr) => {
-        match word($text, $m, $p) {
-            Ok((q, _)) => return Ok((q, $value)),
-            Err(Err::Error) => {}
-            Err(e) => return Err(e),
-        }
-    };
+#[tactic(auto, unfolding(crate::specs::Fields::seven_bit))]
+fn seven_bit(m: &[u8], p: usize) -> Reached<ContentEncoding<SpannedText>>
+    requires { p ≤ length m.now }
+    ensures steps { ExactlyAt (λ x. encoding_in m.now x) m.now result (step fields.seven_bit (drop p m.now)) }
+    ensures ahead { Ahead m.now p result }
+    ensures rests { RestsOn encoding_in result }
+{
+    let (p, _) = word(b"7BIT", m, p)?;
+    Ok((p, ContentEncoding::SevenBit))
 }
 
+#[tactic(auto, unfolding(crate::specs::Fields::eight_bit))]
+fn eight_bit(m: &[u8], p: usize) -> Reached<ContentEncoding<SpannedText>>
+    requires { p ≤ length m.now }
+    ensures steps { ExactlyAt (λ x. encoding_in m.now x) m.now result (step fields.eight_bit (drop p m.now)) }
+    ensures ahead { Ahead m.now p result }
+    ensures rests { RestsOn encoding_in result }
+{
+    let (p, _) = word(b"8BIT", m, p)?;
+    Ok((p, ContentEncoding::EightBit))
+}
+
+#[tactic(auto, unfolding(crate::specs::Fields::binary_or_base64))]
+fn binary_or_base64(m: &[u8], p: usize) -> Reached<ContentEncoding<SpannedText>>
+    requires { p ≤ length m.now }
+    ensures steps { ExactlyAt (λ x. encoding_in m.now x) m.now result (step fields.binary_or_base64 (drop p m.now)) }
+    ensures ahead { Ahead m.now p result }
+    ensures rests { RestsOn encoding_in result }
+{
+    match word(b"BINARY", m, p) {
+        Ok((q, _)) => return Ok((q, ContentEncoding::Binary)),
+        Err(Err::Error) => {}
+        Err(e) => return Err(e),
+    }
+    let (q, _) = word(b"BASE64", m, p)?;
+    Ok((q, ContentEncoding::Base64))
+}
+
+#[tactic(auto, unfolding(crate::specs::Fields::quoted_printable))]
 fn quoted_printable(m: &[u8], p: usize) -> Reached<ContentEncoding<SpannedText>>
     requires { p ≤ length m.now }
-    ensures steps { ExactlyAt (λ x. encoding_in m.now x) m.now result (step (tags.names "QUOTED-PRINTABLE" encoding.QuotedPrintable) (drop p m.now)) }
+    ensures steps { ExactlyAt (λ x. encoding_in m.now x) m.now result (step fields.quoted_printable (drop p m.now)) }
     ensures ahead { Ahead m.now p result }
     ensures rests { RestsOn encoding_in result }
 {
@@ -119,39 +144,22 @@ fn quoted_printable(m: &[u8], p: usize) -> Reached<ContentEncoding<SpannedText>>
     Ok((p, ContentEncoding::QuotedPrintable))
 }
 
-#[tactic(auto, unfolding(crate::specs::Fields::coded_encoding))]
-fn coded_encoding(m: &[u8], p: usize) -> Reached<ContentEncoding<SpannedText>>
-    requires { p ≤ length m.now }
-    ensures steps { ExactlyAt (λ x. encoding_in m.now x) m.now result (step fields.coded_encoding (drop p m.now)) }
-    ensures ahead { Ahead m.now p result }
-    ensures rests { RestsOn encoding_in result }
-{
-    named!(b"BASE64", m, p, ContentEncoding::Base64);
-    quoted_printable(m, p)
-}
-
-#[tactic(auto, unfolding(crate::specs::Fields::plain_encoding))]
-fn plain_encoding(m: &[u8], p: usize) -> Reached<ContentEncoding<SpannedText>>
-    requires { p ≤ length m.now }
-    ensures steps { ExactlyAt (λ x. encoding_in m.now x) m.now result (step fields.plain_encoding (drop p m.now)) }
-    ensures ahead { Ahead m.now p result }
-    ensures rests { RestsOn encoding_in result }
-{
-    named!(b"7BIT", m, p, ContentEncoding::SevenBit);
-    named!(b"8BIT", m, p, ContentEncoding::EightBit);
-    let (p, _) = word(b"BINARY", m, p)?;
-    Ok((p, ContentEncoding::Binary))
-}
-
-#[tactic(auto, unfolding(crate::specs::Fields::encoding_name))]
+#[tactic(auto, using(crate::proofs::FirstBytes::name_none, crate::proofs::FirstBytes::name_is_seven_bit, crate::proofs::FirstBytes::name_is_eight_bit, crate::proofs::FirstBytes::name_is_binary_or_base64, crate::proofs::FirstBytes::name_is_quoted_printable, crate::proofs::FirstBytes::name_other))]
 fn encoding_name(m: &[u8], p: usize) -> Reached<ContentEncoding<SpannedText>>
     requires { p ≤ length m.now }
     ensures steps { ExactlyAt (λ x. encoding_in m.now x) m.now result (step fields.encoding_name (drop p m.now)) }
     ensures ahead { Ahead m.now p result }
     ensures rests { RestsOn encoding_in result }
 {
-    first!(plain_encoding(m, p));
-    coded_encoding(m, p)
+    let (_, i) = m.split_at(p);
+    match i.first() {
+        None => Err(Err::Incomplete(Needed::Unknown)),
+        Some(b'7') => seven_bit(m, p),
+        Some(b'8') => eight_bit(m, p),
+        Some(b'b' | b'B') => binary_or_base64(m, p),
+        Some(b'q' | b'Q') => quoted_printable(m, p),
+        Some(_) => Err(Err::Error),
+    }
 }
 
 #[tactic(auto, unfolding(crate::specs::Fields::quoted_encoding))]
@@ -167,9 +175,21 @@ fn quoted_encoding(m: &[u8], p: usize) -> Reached<ContentEncoding<SpannedText>>
     Ok((p, encoding))
 }
 
+#[tactic(auto, unfolding(crate::specs::Fields::nil_encoding))]
+fn nil_encoding(m: &[u8], p: usize) -> Reached<ContentEncoding<SpannedText>>
+    requires { p ≤ length m.now }
+    ensures steps { ExactlyAt (λ x. encoding_in m.now x) m.now result (step fields.nil_encoding (drop p m.now)) }
+    ensures ahead { Ahead m.now p result }
+    ensures rests { RestsOn encoding_in result }
+{
+    let (p, _) = nil(m, p)?;
+    Ok((p, ContentEncoding::SevenBit))
+}
+
+#[tactic(auto, unfolding(crate::specs::Fields::other_encoding))]
 fn other_encoding(m: &[u8], p: usize) -> Reached<ContentEncoding<SpannedText>>
     requires { p ≤ length m.now }
-    ensures steps { ExactlyAt (λ x. encoding_in m.now x) m.now result (step (gives encoding.Other texts.string_utf8) (drop p m.now)) }
+    ensures steps { ExactlyAt (λ x. encoding_in m.now x) m.now result (step fields.other_encoding (drop p m.now)) }
     ensures ahead { Ahead m.now p result }
     ensures rests { RestsOn encoding_in result }
 {
@@ -177,22 +197,32 @@ fn other_encoding(m: &[u8], p: usize) -> Reached<ContentEncoding<SpannedText>>
     Ok((p, ContentEncoding::Other(text)))
 }
 
+#[tactic(auto, unfolding(crate::specs::Fields::encoding_in_quotes))]
+fn encoding_in_quotes(m: &[u8], p: usize) -> Reached<ContentEncoding<SpannedText>>
+    requires { p ≤ length m.now }
+    ensures steps { ExactlyAt (λ x. encoding_in m.now x) m.now result (step fields.encoding_in_quotes (drop p m.now)) }
+    ensures ahead { Ahead m.now p result }
+    ensures rests { RestsOn encoding_in result }
+{
+    first!(quoted_encoding(m, p));
+    other_encoding(m, p)
+}
+
 /// How a body is encoded; `NIL` is `7BIT` (RFC 3501, section 9: body-fld-enc). No memory.
-#[tactic(auto, unfolding(crate::specs::Fields::body_fld_enc))]
+#[tactic(auto, using(crate::proofs::FirstBytes::encoding_none, crate::proofs::FirstBytes::encoding_is_in_quotes, crate::proofs::FirstBytes::encoding_is_literal, crate::proofs::FirstBytes::encoding_is_nil, crate::proofs::FirstBytes::encoding_other))]
 pub fn body_fld_enc(m: &[u8], p: usize) -> Reached<ContentEncoding<SpannedText>>
     requires { p ≤ length m.now }
     ensures steps { ExactlyAt (λ x. encoding_in m.now x) m.now result (step fields.body_fld_enc (drop p m.now)) }
     ensures ahead { Ahead m.now p result }
     ensures rests { RestsOn encoding_in result }
 {
-    match nil(m, p) {
-        Ok((q, _)) => return Ok((q, ContentEncoding::SevenBit)),
-        Err(Err::Error) => {}
-        Err(e) => return Err(e),
-    }
-    match quoted_encoding(m, p) {
-        Err(Err::Error) => other_encoding(m, p),
-        other => other,
+    let (_, i) = m.split_at(p);
+    match i.first() {
+        None => Err(Err::Incomplete(Needed::Unknown)),
+        Some(b'"') => encoding_in_quotes(m, p),
+        Some(b'{') => other_encoding(m, p),
+        Some(b'n' | b'N') => nil_encoding(m, p),
+        Some(_) => Err(Err::Error),
     }
 }
 

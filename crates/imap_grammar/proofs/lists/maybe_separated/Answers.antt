@@ -1,13 +1,14 @@
-use Rattle.std.proofs.Common.{rules, ◌∙◌, sym, inl, inr}
-use Rattle.imap_grammar.proofs.Joins.{stopped, told, fault_of, found_of, tried_some, tried_fault}
+use Rattle.std.proofs.Common.{rules}
+use Rattle.imap_grammar.specs.Rule.{meaning}
+use Rattle.imap_grammar.specs.Lists.{separator}
+use Rattle.imap_grammar.proofs.Sliced.{sliced_advances, sliced_fault, sliced_found, list0_within}
 use Rattle.imap_grammar.proofs.lists.maybe_separated.Goals as goal
 
-pub returns-in_err-found : goal.returns-in_err-found
-returns-in_err-found g c =
-    let q = tried_fault _ _ (sym c.tried.ensures ∙ c.in_err-found.was) in
-    stopped c.in_err-found.field-0.0 (search rules) (elim (fault_of _ c.separated.ensures q.0) [ inl f ↦ inl (inl (f, q.1)) | inr e ↦ inr e ])
+pub maybe_separated-requires : goal.maybe_separated-requires
+maybe_separated-requires g c = λ k. record { start = search rules; may = search rules; advances = sliced_advances c.requires.shortens (λ p r le h. h.0) (λ p r le h. h.1) }
 
-pub returns-in-Some : goal.returns-in-Some
-returns-in-Some g c =
-    let is = tried_some _ _ _ (sym c.tried.ensures ∙ c.in_ok-found.was) c.in-Some.is in
-    told (inl (found_of _ c.separated.ensures is))
+pub returns-in_err-q : goal.returns-in_err-q
+returns-in_err-q g c = sliced_fault c.in_err-q.field-0.0 c.in_err-q.ensures.follows (λ p r le h. h.0) (list0_within (meaning (separator c.args.between))) (search rules)
+
+pub returns : goal.returns
+returns g c = sliced_found c.in_ok-q.q c.in_ok-q.items c.rest.result c.in_ok-q.ensures.follows (λ p r le h. h.0) (list0_within (meaning (separator c.args.between))) c.rest.ensures

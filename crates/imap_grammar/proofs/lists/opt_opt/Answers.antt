@@ -1,9 +1,9 @@
-use Rattle.std.proofs.Common.{refl, sym, ◌∙◌, inl}
-use Rattle.std.proofs.lemmas.Fn.{says_at}
-use Rattle.imap_grammar.proofs.Joins.{told, tried_some}
+use Rattle.std.proofs.Common.{rules}
+use Rattle.imap_grammar.proofs.Sliced.{sliced_fault, sliced_found, opt_opt_within}
 use Rattle.imap_grammar.proofs.lists.opt_opt.Goals as goal
 
-pub returns-in-Some : goal.returns-in-Some
-returns-in-Some g c =
-    let is = tried_some _ _ _ (sym c.tried.ensures ∙ c.in_ok-found.was) c.in-Some.is in
-    told (_, inl (c.in-Some.found.1, (c.in-Some.found.0, refl, says_at g.F.Fn c.f.ensures is), refl), refl)
+pub returns-in_err-q : goal.returns-in_err-q
+returns-in_err-q g c = sliced_fault c.in_err-q.field-0.0 c.in_err-q.ensures.follows (λ p r le h. h.0) opt_opt_within (search rules)
+
+pub returns : goal.returns
+returns g c = sliced_found c.in_ok-q.q c.in_ok-q.item c.rest.result c.in_ok-q.ensures.follows (λ p r le h. h.0) opt_opt_within c.rest.ensures

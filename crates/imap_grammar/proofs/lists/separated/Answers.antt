@@ -1,25 +1,14 @@
-use Rattle.std.proofs.Common.{rules, ◌∙◌, sym, inl}
-use Rattle.std.specs.Fn.{FnReturnsAt}
+use Rattle.std.proofs.Common.{rules}
+use Rattle.imap_grammar.specs.Rule.{meaning}
 use Rattle.imap_grammar.specs.Lists.{separator}
-use Rattle.imap_grammar.proofs.Joins.{stopped, told, fault_of, found_of, tried_some, tried_none, tried_fault, begun_more, begun_ends, begun_stops, behind_shorter}
+use Rattle.imap_grammar.proofs.Sliced.{sliced_advances, sliced_fault, sliced_found, list1_within}
 use Rattle.imap_grammar.proofs.lists.separated.Goals as goal
 
-pub returns-in_err-next : goal.returns-in_err-next
-returns-in_err-next g c =
-    let q = tried_fault _ _ (sym c.tried.ensures ∙ c.in_err-next.was) in
-    stopped c.in_err-next.field-0.0 (search rules) (inl (begun_stops _ _ _ _ _ _ c.loop-items.invariant (fault_of _ c.next_item.ensures q.0) q.1))
+pub separated-requires : goal.separated-requires
+separated-requires g c = λ k. record { start = search rules; may = search rules; advances = sliced_advances c.requires.shortens (λ p r le h. h.0) (λ p r le h. h.1) }
 
-pub loop-items-smaller : goal.loop-items-smaller
-loop-items-smaller g c =
-    let is = tried_some _ _ _ (sym c.tried.ensures ∙ c.in_ok-next.was) c.in-Some.is in
-    behind_shorter (separator c.args.between) (FnReturnsAt g.F.Fn c.args.f) _ _ _ c.requires.shortens (found_of _ c.next_item.ensures is)
-
-pub loop-items-preserved : goal.loop-items-preserved
-loop-items-preserved g c =
-    let is = tried_some _ _ _ (sym c.tried.ensures ∙ c.in_ok-next.was) c.in-Some.is in
-    rw c.in_ok-push-2.ensures.items (begun_more _ _ _ _ _ _ _ c.loop-items.invariant (found_of _ c.next_item.ensures is))
+pub returns-in_err-q : goal.returns-in_err-q
+returns-in_err-q g c = sliced_fault c.in_err-q.field-0.0 c.in_err-q.ensures.follows (λ p r le h. h.0) (list1_within (meaning (separator c.args.between))) (search rules)
 
 pub returns : goal.returns
-returns g c =
-    let is = tried_none _ _ (sym c.tried.ensures ∙ c.in_ok-next.was) c.in_default.is in
-    told (begun_ends _ _ _ _ _ c.loop-items.invariant (fault_of _ c.next_item.ensures is))
+returns g c = sliced_found c.in_ok-q.q c.in_ok-q.items c.rest.result c.in_ok-q.ensures.follows (λ p r le h. h.0) (list1_within (meaning (separator c.args.between))) c.rest.ensures

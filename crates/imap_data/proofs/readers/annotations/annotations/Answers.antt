@@ -1,5 +1,5 @@
 use Rattle.std.proofs.Common.{rules, refl}
-use Rattle.imap_grammar.proofs.Under.{kept_shortens, kept_at}
+use Rattle.imap_grammar.proofs.Under.{shorter_ends, kept_at}
 use Rattle.imap_grammar.proofs.Callers.{nonempty_listed}
 use Rattle.imap_data.proofs.Takes.{annotation_takes}
 use Rattle.imap_data.specs.MailboxValues.{metadata_value}
@@ -7,7 +7,7 @@ use Rattle.imap_data.specs.Annotations.{annotation, annotations}
 use Rattle.imap_data.proofs.readers.annotations.annotations.Goals as goal
 
 pub parenthesized_nonempty_list-requires : goal.parenthesized_nonempty_list-requires
-parenthesized_nonempty_list-requires c = λ k. ((refl, tt), (search rules, kept_shortens metadata_value annotation (λ n r h. kept_at metadata_value annotation r h.shows h.says.met) annotation_takes))
+parenthesized_nonempty_list-requires c = λ k. ((refl, tt), (search rules, shorter_ends metadata_value annotation (λ n r h. kept_at metadata_value annotation r h.shows h.says.met) annotation_takes))
 
 pub returns : goal.returns
 unfolding annotations

@@ -1,14 +1,14 @@
 use Rattle.std.proofs.Common.{rules, refl}
 use Rattle.imap_grammar.specs.declared.lists.Separator.TheVariants.{Space}
 use Rattle.imap_grammar.specs.Text.{text_of}
-use Rattle.imap_grammar.proofs.Under.{kept_shortens, kept_at}
+use Rattle.imap_grammar.proofs.Under.{shorter_ends, kept_at}
 use Rattle.imap_grammar.proofs.Callers.{maybe_separated_read}
 use Rattle.imap_data.proofs.Takes.{entry_utf8_takes}
 use Rattle.imap_data.specs.Annotations.{entry_utf8, entries}
 use Rattle.imap_data.proofs.readers.annotations.entries.Goals as goal
 
 pub maybe_separated-requires : goal.maybe_separated-requires
-maybe_separated-requires c = λ k. ((refl, tt), (search rules, kept_shortens text_of entry_utf8 (λ n r h. kept_at text_of entry_utf8 r h.shows h.says.met) entry_utf8_takes))
+maybe_separated-requires c = λ k. ((refl, tt), (search rules, shorter_ends text_of entry_utf8 (λ n r h. kept_at text_of entry_utf8 r h.shows h.says.met) entry_utf8_takes))
 
 pub returns : goal.returns
 unfolding entries

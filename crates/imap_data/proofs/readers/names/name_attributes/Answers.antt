@@ -1,5 +1,5 @@
 use Rattle.std.proofs.Common.{rules, refl}
-use Rattle.imap_grammar.proofs.Under.{kept_shortens, exactly_at}
+use Rattle.imap_grammar.proofs.Under.{shorter_ends, exactly_at}
 use Rattle.imap_grammar.proofs.Callers.{listed}
 use Rattle.imap_data.proofs.Takes.{name_attribute_takes}
 use Rattle.imap_data.specs.Names.{name_attribute, name_attributes}
@@ -7,7 +7,7 @@ use Rattle.imap_data.specs.Names.{attribute_value}
 use Rattle.imap_data.proofs.readers.names.name_attributes.Goals as goal
 
 pub parenthesized_list-requires : goal.parenthesized_list-requires
-parenthesized_list-requires c = λ k. ((refl, tt), (search rules, kept_shortens attribute_value name_attribute (λ n r h. exactly_at attribute_value name_attribute r h.shows h.says.met) name_attribute_takes))
+parenthesized_list-requires c = λ k. ((refl, tt), (search rules, shorter_ends attribute_value name_attribute (λ n r h. exactly_at attribute_value name_attribute r h.shows h.says.met) name_attribute_takes))
 
 pub returns : goal.returns
 unfolding name_attributes

@@ -1,14 +1,14 @@
 use Rattle.std.proofs.Common.{rules, refl}
 use Rattle.imap_grammar.specs.Text.{text_of}
 use Rattle.imap_grammar.proofs.Agreement.{answered}
-use Rattle.imap_grammar.proofs.Under.{kept_shortens, exactly_at}
+use Rattle.imap_grammar.proofs.Under.{shorter_ends, exactly_at}
 use Rattle.imap_grammar.proofs.Callers.{listed}
 use Rattle.imap_items.proofs.Takes.{flag_text_takes}
 use Rattle.imap_items.specs.Flags.{flag_text, flag_list}
 use Rattle.imap_items.proofs.readers.flags.flag_list.Goals as goal
 
 pub parenthesized_list-requires : goal.parenthesized_list-requires
-parenthesized_list-requires c = λ k. ((refl, tt), (search rules, kept_shortens text_of flag_text (λ n r h. exactly_at text_of flag_text r h.shows h.says.met.0) flag_text_takes))
+parenthesized_list-requires c = λ k. ((refl, tt), (search rules, shorter_ends text_of flag_text (λ n r h. exactly_at text_of flag_text r h.shows h.says.met.0) flag_text_takes))
 
 pub returns-clause-steps : goal.returns-clause-steps
 unfolding flag_list

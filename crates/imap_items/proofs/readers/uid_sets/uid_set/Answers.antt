@@ -1,7 +1,7 @@
 use Rattle.std.proofs.Common.{rules, refl}
 use Rattle.imap_grammar.specs.declared.lists.Separator.TheVariants.{Comma}
 use Rattle.imap_grammar.proofs.Agreement.{answered}
-use Rattle.imap_grammar.proofs.Under.{kept_shortens, exactly_at}
+use Rattle.imap_grammar.proofs.Under.{shorter_ends, exactly_at}
 use Rattle.imap_grammar.proofs.Callers.{separated_read}
 use Rattle.imap_items.proofs.Takes.{uid_set_member_takes}
 use Rattle.imap_items.specs.UidSets.{member_value, uid_set, uid_set_member}
@@ -9,7 +9,7 @@ use Rattle.imap_items.proofs.UidSets.{ordered_members}
 use Rattle.imap_items.proofs.readers.uid_sets.uid_set.Goals as goal
 
 pub separated-requires : goal.separated-requires
-separated-requires c = λ k. ((refl, tt), (search rules, kept_shortens member_value uid_set_member (λ n r h. exactly_at member_value uid_set_member r h.shows h.says.met) uid_set_member_takes))
+separated-requires c = λ k. ((refl, tt), (search rules, shorter_ends member_value uid_set_member (λ n r h. exactly_at member_value uid_set_member r h.shows h.says.met) uid_set_member_takes))
 
 pub returns-clause-steps : goal.returns-clause-steps
 unfolding uid_set

@@ -8,28 +8,31 @@ use Rattle.imap_structure.proofs.Gathering.{Gathered}
 use Rattle.imap_structure.proofs.at.bodies.+body.Given as goal
 
 abbrev pub decreases-body : goal.decreases-body
-decreases-body l = 8 * l.level
+decreases-body l = 9 * l.level
 
 abbrev pub decreases-bracketed_body : goal.decreases-bracketed_body
-decreases-bracketed_body l = 8 * l.level + 7
+decreases-bracketed_body l = 9 * l.level + 8
 
 abbrev pub decreases-body_type : goal.decreases-body_type
-decreases-body_type l = 8 * l.level + 6
+decreases-body_type l = 9 * l.level + 7
+
+abbrev pub decreases-quoted_type : goal.decreases-quoted_type
+decreases-quoted_type l = 9 * l.level + 6
 
 abbrev pub decreases-body_type_msg : goal.decreases-body_type_msg
-decreases-body_type_msg l = 8 * l.level + 5
+decreases-body_type_msg l = 9 * l.level + 5
 
 abbrev pub decreases-body_type_mpart : goal.decreases-body_type_mpart
-decreases-body_type_mpart l = 8 * l.level + 4
+decreases-body_type_mpart l = 9 * l.level + 4
 
 abbrev pub decreases-some_bodies : goal.decreases-some_bodies
-decreases-some_bodies l = 8 * l.level + 3
+decreases-some_bodies l = 9 * l.level + 3
 
 abbrev pub decreases-next_body : goal.decreases-next_body
-decreases-next_body l = 8 * l.level + 2
+decreases-next_body l = 9 * l.level + 2
 
 abbrev pub decreases-spaced_body : goal.decreases-spaced_body
-decreases-spaced_body l = 8 * l.level + 1
+decreases-spaced_body l = 9 * l.level + 1
 
 abbrev pub invariant-some_bodies-bodies : goal.invariant-some_bodies-bodies
 invariant-some_bodies-bodies l = record {

@@ -6,13 +6,10 @@ use Rattle.imap_structure.specs.Envelopes.{spaced}
 use Rattle.imap_structure.specs.Extensions.{extension_over, some_extensions, extension_list}
 use Rattle.imap_structure.specs.Spanned.{extension_in}
 use Rattle.imap_structure.proofs.Naming.{something_rests, itself_rests}
-use Rattle.imap_structure.proofs.Seeing.{string_rests, list_rests}
+use Rattle.imap_structure.proofs.Seeing.{list_rests}
 use Rattle.imap_structure.proofs.Levels.{list_below}
 use Rattle.imap_structure.proofs.Gathering.{first, next, all, halted, onward, alone, together}
 use Rattle.imap_structure.proofs.at.extensions.+extension.Goals as goal
-
-pub extension-returns-in-Ok-nstring_text-clause-rests : goal.extension-returns-in-Ok-nstring_text-clause-rests
-extension-returns-in-Ok-nstring_text-clause-rests t c = string_rests _ _ c.in-Ok-nstring_text.ensures.rests
 
 pub extension_list-returns-then-level-eq0-clause-steps : goal.extension_list-returns-then-level-eq0-clause-steps
 unfolding extension_list

@@ -1,0 +1,6 @@
+pub mod Resting
+pub mod Factoring
+pub mod AttributeFirstBytes
+pub mod SectionFirstBytes
+pub mod Standing
+pub mod SectionTexts

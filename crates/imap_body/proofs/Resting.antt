@@ -1,0 +1,30 @@
+-- What an attribute rests on, by what it was made of.
+use Rattle.std.proofs.Common.{◌≡◌, ℕ, Box, Global, Ok, ap}
+use Rattle.std.specs.Str.{is_utf8}
+use Rattle.imap_grammar.specs.Classes.{is_astring_char}
+use Rattle.imap_grammar.specs.Rule.{run1, gives}
+use Rattle.imap_grammar.specs.Step.{step}
+use Rattle.imap_grammar.specs.Text.{Bytes, as_text, decoded}
+use Rattle.imap_grammar.proofs.Reading.{test-has}
+use Rattle.imap_items.proofs.Spanned.{utf8_decoded}
+use Rattle.imap_grammar.specs.declared.at.span.Span.{Span}
+use Rattle.imap_grammar.specs.Positions.{Rests}
+use Rattle.imap_shapes.specs.declared.shapes.envelopes.Envelope.{Envelope as Spans}
+use Rattle.imap_shapes.specs.declared.shapes.bodies.BodyStructure.{BodyStructure as Structure}
+use Rattle.imap_shapes.specs.declared.spans.SpannedText.{SpannedText}
+use Rattle.imap_structure.specs.Spanned.{body_in, envelope_in}
+use Rattle.imap_body.specs.declared.types.attributes.AttributeParts.TheVariants as parts
+use Rattle.imap_body.specs.AttributeValues.{BodyStructure, Envelope, parts_in}
+use Rattle.imap_body.specs.Attributes.{id_bytes}
+
+pub structure_rests : (q : ℕ) (b : Box (Structure SpannedText Span) Global) (x : Structure SpannedText Span) → b.value ≡ x → Rests body_in q x → Rests parts_in q (parts.BodyStructure b)
+structure_rests q b x is h = record { same = λ m. rw is (ap (λ v. BodyStructure v) (h.same m)) }
+
+pub envelope_rests : (q : ℕ) (b : Box (Spans Span) Global) (x : Spans Span) → b.value ≡ x → Rests envelope_in q x → Rests parts_in q (parts.Envelope b)
+envelope_rests q b x is h = record { same = λ m. rw is (ap (λ v. Envelope v) (h.same m)) }
+
+-- ---- the id of an object is UTF-8, so decoding changes nothing
+
+pub id_decoded : (m rest v : Bytes) → step id_bytes m ≡ Ok (rest, v) → step (gives as_text id_bytes) m ≡ Ok (rest, decoded v)
+unfolding id_bytes
+id_decoded m rest v is = utf8_decoded id_bytes m rest v (record { each = λ n x k y. (test-has is_utf8 (run1 is_astring_char) n x k y).1 }) is

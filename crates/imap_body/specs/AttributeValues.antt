@@ -1,0 +1,96 @@
+-- What an attribute of a message says (RFC 3501, section 9: msg-att).
+use Rattle.std.specs.Prelude.{ℕ, List, Option, map}
+use Rattle.std.specs.Option.{option_map}
+use Rattle.std.specs.declared.alloc.Global.{Global}
+use Rattle.std.specs.declared.borrow.CowSlice.{CowSlice}
+use Rattle.std.specs.declared.borrow.CowStr.{CowStr}
+use Rattle.std.specs.declared.boxed.Box.{Box}
+use Rattle.imap_grammar.specs.Text.{Bytes, Text, text_of, lent_text}
+use Rattle.imap_grammar.specs.declared.at.span.Span.{Span}
+use Rattle.imap_items.specs.Spanned.{text_in}
+use Rattle.imap_body.specs.SectionValues.{PathValue, path_value}
+use Rattle.imap_shapes.specs.Lent.{lent_ntext, lent_envelope, lent_body}
+use Rattle.imap_shapes.specs.EnvelopeValues.{EnvelopeValue, envelope_seen}
+use Rattle.imap_shapes.specs.BodyValues.{BodyValue, body_seen}
+use Rattle.imap_shapes.specs.Spans.{bytes_in, bytes_of, text_owned, bytes_owned}
+use Rattle.imap_structure.specs.Spanned.{body_in}
+use Rattle.imap_shapes.specs.declared.shapes.bodies.BodyStructure.{BodyStructure as Structure}
+use Rattle.imap_shapes.specs.declared.spans.SpannedText.{SpannedText}
+use Rattle.imap_body.specs.declared.types.attributes.AttributeParts.{AttributeParts}
+use Rattle.imap_body.specs.declared.types.attributes.AttributeParts.TheVariants as parts
+
+pub data AttributeValue : Type 0 where
+  BodySection : Option PathValue → Option ℕ → Option Text → AttributeValue
+  BodyStructure : BodyValue → AttributeValue
+  Envelope : EnvelopeValue → AttributeValue
+  Flags : List Text → AttributeValue
+  InternalDate : Text → AttributeValue
+  ModSeq : ℕ → AttributeValue
+  Rfc822 : Option Text → AttributeValue
+  Rfc822Header : Option Text → AttributeValue
+  Rfc822Size : ℕ → AttributeValue
+  Rfc822Text : Option Text → AttributeValue
+  Uid : ℕ → AttributeValue
+  GmailLabels : List Text → AttributeValue
+  GmailMsgId : ℕ → AttributeValue
+  GmailThrId : ℕ → AttributeValue
+  EmailId : Text → AttributeValue
+  ThreadId : Option Text → AttributeValue
+  Unknown : AttributeValue
+
+-- where f says a text, g a byte string and h a body structure
+abbrev pub attribute_seen : {S B Y : Type 0} → (S → Text) → (B → Text) → (Y → BodyValue) → AttributeParts S B Y → AttributeValue
+attribute_seen f g h (parts.BodySection section index contents) = BodySection (option_map path_value section) index (option_map g contents)
+attribute_seen f g h (parts.BodyStructure body) = BodyStructure (h body)
+attribute_seen f g h (parts.Envelope envelope) = Envelope (envelope_seen g envelope.value)
+attribute_seen f g h (parts.Flags flags) = Flags (map f flags.items)
+attribute_seen f g h (parts.InternalDate date) = InternalDate (f date)
+attribute_seen f g h (parts.ModSeq n) = ModSeq n
+attribute_seen f g h (parts.Rfc822 message) = Rfc822 (option_map g message)
+attribute_seen f g h (parts.Rfc822Header header) = Rfc822Header (option_map g header)
+attribute_seen f g h (parts.Rfc822Size n) = Rfc822Size n
+attribute_seen f g h (parts.Rfc822Text text) = Rfc822Text (option_map g text)
+attribute_seen f g h (parts.Uid n) = Uid n
+attribute_seen f g h (parts.GmailLabels labels) = GmailLabels (map f labels.items)
+attribute_seen f g h (parts.GmailMsgId n) = GmailMsgId n
+attribute_seen f g h (parts.GmailThrId n) = GmailThrId n
+attribute_seen f g h (parts.EmailId id) = EmailId (f id)
+attribute_seen f g h (parts.ThreadId id) = ThreadId (option_map f id)
+attribute_seen f g h parts.Unknown = Unknown
+
+-- ---- of spans, and of texts
+
+abbrev pub AttributeSpans : Type 0
+AttributeSpans = AttributeParts Span Span (Box (Structure SpannedText Span) Global)
+
+-- what the spans of an attribute name in m
+abbrev pub parts_in : Bytes → AttributeSpans → AttributeValue
+parts_in m x = attribute_seen (text_in m) (bytes_in m) (λ b. body_in m b.value) x
+
+abbrev pub attribute_value : {Z : Type 0} → AttributeParts (CowStr Z) (CowSlice ℕ Z) (Structure (CowStr Z) (CowSlice ℕ Z)) → AttributeValue
+attribute_value x = attribute_seen text_of bytes_of (body_seen text_of bytes_of) x
+
+-- with all its texts owned
+abbrev pub attribute_owned : {Z : Type 0} → AttributeParts (CowStr Z) (CowSlice ℕ Z) (Structure (CowStr Z) (CowSlice ℕ Z)) → AttributeValue
+attribute_owned x = attribute_seen text_owned bytes_owned (body_seen text_owned bytes_owned) x
+
+-- ---- with all texts borrowed: two values say the same where these are one
+
+abbrev pub lent_attribute : AttributeValue → AttributeValue
+lent_attribute (BodySection section index contents) = BodySection section index (lent_ntext contents)
+lent_attribute (BodyStructure body) = BodyStructure (lent_body body)
+lent_attribute (Envelope envelope) = Envelope (lent_envelope envelope)
+lent_attribute (Flags flags) = Flags (map lent_text flags)
+lent_attribute (InternalDate date) = InternalDate (lent_text date)
+lent_attribute (ModSeq n) = ModSeq n
+lent_attribute (Rfc822 message) = Rfc822 (lent_ntext message)
+lent_attribute (Rfc822Header header) = Rfc822Header (lent_ntext header)
+lent_attribute (Rfc822Size n) = Rfc822Size n
+lent_attribute (Rfc822Text text) = Rfc822Text (lent_ntext text)
+lent_attribute (Uid n) = Uid n
+lent_attribute (GmailLabels labels) = GmailLabels (map lent_text labels)
+lent_attribute (GmailMsgId n) = GmailMsgId n
+lent_attribute (GmailThrId n) = GmailThrId n
+lent_attribute (EmailId id) = EmailId (lent_text id)
+lent_attribute (ThreadId id) = ThreadId (lent_ntext id)
+lent_attribute Unknown = Unknown

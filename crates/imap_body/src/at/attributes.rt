@@ -1,0 +1,590 @@
+//! Attributes of a message at a position, their texts as spans.
+
+ghost use Rattle.std.specs.Prelude.{◌≡◌, ◌≤◌, ◌<◌, length, drop, position, IfSome};
+ghost use Rattle.imap_grammar.specs.Meaning.{outside};
+ghost use Rattle.imap_grammar.specs.Positions.{ExactlyAt, GivesAt, Ahead, Inside, RestsOn, named_in};
+ghost use Rattle.imap_grammar.specs.Rule.{opt, run0, run1};
+ghost use Rattle.imap_grammar.specs.Step.{step};
+ghost use Rattle.imap_items.specs.Spanned.{text_in};
+ghost use Rattle.imap_body.specs.AttributeValues.{parts_in};
+ghost use Rattle.imap_body.specs.Attributes as rules;
+
+use crate::at::sections::section;
+use crate::types::attributes::{AttributeParts, AttributeSpans};
+use imap_bytes::at::numbers::{number, number_64};
+use imap_bytes::at::span::Span;
+use imap_bytes::at::strings::{astring_chars, atom, nil, nstring, string};
+use imap_bytes::at::tags::{cut0, cut1, maybe_space, tag, word};
+use imap_bytes::strings::as_utf8;
+use imap_bytes::{Err, Needed, first};
+use imap_items::at::{flag_list, gmail_label_list};
+use imap_structure::at::bodies::body_structure;
+use imap_structure::at::envelopes::envelope;
+use imap_structure::at::texts::{byte_string, spaced_byte_string};
+use std::alloc::Global;
+
+#[tactic(auto, unfolding(crate::specs::Attributes::origin))]
+fn origin(m: &[u8], p: usize) -> Result<(usize, u32), Err>
+    requires { p ≤ length m.now }
+    ensures steps { ExactlyAt (λ x. x) m.now result (step rules.origin (drop p m.now)) }
+    ensures ahead { Ahead m.now p result }
+{
+    let (p, _) = tag(b"<", m, p)?;
+    let (p, index) = number(m, p)?;
+    let (p, _) = tag(b">", m, p)?;
+    Ok((p, index))
+}
+
+fn maybe_origin(m: &[u8], p: usize) -> Result<(usize, Option<u32>), Err>
+    requires { p ≤ length m.now }
+    ensures steps { ExactlyAt (λ x. x) m.now result (step (opt rules.origin) (drop p m.now)) }
+    ensures ahead { Ahead m.now p result }
+{
+    match origin(m, p) {
+        Ok((q, index)) => Ok((q, Some(index))),
+        Err(Err::Error) => Ok((p, None)),
+        Err(e) => Err(e),
+    }
+}
+
+#[tactic(auto, unfolding(crate::specs::Attributes::section_contents))]
+fn section_contents(alloc: Global, m: &[u8], p: usize) -> Result<(usize, AttributeSpans), Err>
+    requires { p ≤ length m.now }
+    ensures steps { GivesAt (λ x. parts_in m.now x) m.now result (step rules.section_contents (drop p m.now)) }
+    ensures ahead { Ahead m.now p result }
+    ensures rests { RestsOn parts_in result }
+{
+    let (p, section) = section(alloc, m, p)?;
+    let (p, index) = maybe_origin(m, p)?;
+    let (p, contents) = spaced_byte_string(m, p)?;
+    Ok((
+        p,
+        AttributeParts::BodySection {
+            section,
+            index,
+            contents,
+        },
+    ))
+}
+
+/// A section of a message's body (RFC 3501, section 7.4.2: `BODY[<section>]<<origin octet>>`).
+#[tactic(auto, unfolding(crate::specs::Attributes::msg_att_body_section))]
+pub fn msg_att_body_section(
+    alloc: Global,
+    m: &[u8],
+    p: usize,
+) -> Result<(usize, AttributeSpans), Err>
+    requires { p ≤ length m.now }
+    ensures steps { GivesAt (λ x. parts_in m.now x) m.now result (step rules.msg_att_body_section (drop p m.now)) }
+    ensures ahead { Ahead m.now p result }
+    ensures rests { RestsOn parts_in result }
+{
+    let (p, _) = word(b"BODY", m, p)?;
+    section_contents(alloc, m, p)
+}
+
+#[tactic(auto, using(crate::proofs::Resting::structure_rests), unfolding(crate::specs::Attributes::structure))]
+fn structure(alloc: Global, m: &[u8], p: usize) -> Result<(usize, AttributeSpans), Err>
+    requires { p ≤ length m.now }
+    ensures steps { GivesAt (λ x. parts_in m.now x) m.now result (step rules.structure (drop p m.now)) }
+    ensures ahead { Ahead m.now p result }
+    ensures rests { RestsOn parts_in result }
+{
+    let (p, _) = word(b"STRUCTURE ", m, p)?;
+    let (p, body) = body_structure(alloc, m, p)?;
+    Ok((p, AttributeParts::BodyStructure(Box::new(alloc, body)?)))
+}
+
+// `BODY` is read once, whether a section or `STRUCTURE` stands behind it.
+#[tactic(auto, unfolding(crate::specs::Attributes::body_attribute))]
+fn body_attribute(alloc: Global, m: &[u8], p: usize) -> Result<(usize, AttributeSpans), Err>
+    requires { p ≤ length m.now }
+    ensures steps { GivesAt (λ x. parts_in m.now x) m.now result (step rules.body_attribute (drop p m.now)) }
+    ensures ahead { Ahead m.now p result }
+    ensures rests { RestsOn parts_in result }
+{
+    let (p, _) = word(b"BODY", m, p)?;
+    first!(section_contents(alloc, m, p));
+    structure(alloc, m, p)
+}
+
+#[tactic(auto, unfolding(crate::specs::Attributes::whole_message))]
+fn whole_message(m: &[u8], p: usize) -> Result<(usize, AttributeSpans), Err>
+    requires { p ≤ length m.now }
+    ensures steps { ExactlyAt (λ x. parts_in m.now x) m.now result (step rules.whole_message (drop p m.now)) }
+    ensures ahead { Ahead m.now p result }
+    ensures rests { RestsOn parts_in result }
+{
+    let (p, _) = word(b" ", m, p)?;
+    let (p, message) = byte_string(m, p)?;
+    Ok((p, AttributeParts::Rfc822(message)))
+}
+
+#[tactic(auto, unfolding(crate::specs::Attributes::message_header))]
+fn message_header(m: &[u8], p: usize) -> Result<(usize, AttributeSpans), Err>
+    requires { p ≤ length m.now }
+    ensures steps { ExactlyAt (λ x. parts_in m.now x) m.now result (step rules.message_header (drop p m.now)) }
+    ensures ahead { Ahead m.now p result }
+    ensures rests { RestsOn parts_in result }
+{
+    let (p, _) = word(b"HEADER ", m, p)?;
+    let (p, _) = maybe_space(m, p)?;
+    let (p, header) = byte_string(m, p)?;
+    Ok((p, AttributeParts::Rfc822Header(header)))
+}
+
+#[tactic(auto, unfolding(crate::specs::Attributes::message_size))]
+fn message_size(m: &[u8], p: usize) -> Result<(usize, AttributeSpans), Err>
+    requires { p ≤ length m.now }
+    ensures steps { ExactlyAt (λ x. parts_in m.now x) m.now result (step rules.message_size (drop p m.now)) }
+    ensures ahead { Ahead m.now p result }
+    ensures rests { RestsOn parts_in result }
+{
+    let (p, _) = word(b"SIZE ", m, p)?;
+    let (p, size) = number(m, p)?;
+    Ok((p, AttributeParts::Rfc822Size(size)))
+}
+
+#[tactic(auto, unfolding(crate::specs::Attributes::message_text))]
+fn message_text(m: &[u8], p: usize) -> Result<(usize, AttributeSpans), Err>
+    requires { p ≤ length m.now }
+    ensures steps { ExactlyAt (λ x. parts_in m.now x) m.now result (step rules.message_text (drop p m.now)) }
+    ensures ahead { Ahead m.now p result }
+    ensures rests { RestsOn parts_in result }
+{
+    let (p, _) = word(b"TEXT ", m, p)?;
+    let (p, text) = byte_string(m, p)?;
+    Ok((p, AttributeParts::Rfc822Text(text)))
+}
+
+#[tactic(auto, unfolding(crate::specs::Attributes::message_part))]
+fn message_part(m: &[u8], p: usize) -> Result<(usize, AttributeSpans), Err>
+    requires { p ≤ length m.now }
+    ensures steps { ExactlyAt (λ x. parts_in m.now x) m.now result (step rules.message_part (drop p m.now)) }
+    ensures ahead { Ahead m.now p result }
+    ensures rests { RestsOn parts_in result }
+{
+    let (p, _) = word(b".", m, p)?;
+    first!(message_header(m, p));
+    first!(message_size(m, p));
+    message_text(m, p)
+}
+
+// `RFC822` is read once, whether the whole message or a part of it is meant.
+#[tactic(auto, unfolding(crate::specs::Attributes::message_attribute))]
+fn message_attribute(m: &[u8], p: usize) -> Result<(usize, AttributeSpans), Err>
+    requires { p ≤ length m.now }
+    ensures steps { ExactlyAt (λ x. parts_in m.now x) m.now result (step rules.message_attribute (drop p m.now)) }
+    ensures ahead { Ahead m.now p result }
+    ensures rests { RestsOn parts_in result }
+{
+    let (p, _) = word(b"RFC822", m, p)?;
+    first!(whole_message(m, p));
+    message_part(m, p)
+}
+
+#[tactic(auto, using(crate::proofs::Resting::envelope_rests), unfolding(crate::specs::Attributes::msg_att_envelope))]
+fn msg_att_envelope(alloc: Global, m: &[u8], p: usize) -> Result<(usize, AttributeSpans), Err>
+    requires { p ≤ length m.now }
+    ensures steps { GivesAt (λ x. parts_in m.now x) m.now result (step rules.msg_att_envelope (drop p m.now)) }
+    ensures ahead { Ahead m.now p result }
+    ensures rests { RestsOn parts_in result }
+{
+    let (p, _) = word(b"ENVELOPE ", m, p)?;
+    let (p, envelope) = envelope(alloc, m, p)?;
+    Ok((p, AttributeParts::Envelope(Box::new(alloc, envelope)?)))
+}
+
+#[tactic(auto, using(imap_items::proofs::Spanned::text_rests), unfolding(crate::specs::Attributes::date, imap_bytes::specs::Texts::string_utf8))]
+fn date(m: &[u8], p: usize) -> Result<(usize, Span), Err>
+    requires { p ≤ length m.now }
+    ensures steps { ExactlyAt (λ x. text_in m.now x) m.now result (step rules.date (drop p m.now)) }
+    ensures ahead { Ahead m.now p result }
+    ensures rests { RestsOn text_in result }
+{
+    let (q, date) = string(m, p)?;
+    Ok((q, date))
+}
+
+#[tactic(auto, unfolding(crate::specs::Attributes::msg_att_internal_date))]
+fn msg_att_internal_date(m: &[u8], p: usize) -> Result<(usize, AttributeSpans), Err>
+    requires { p ≤ length m.now }
+    ensures steps { ExactlyAt (λ x. parts_in m.now x) m.now result (step rules.msg_att_internal_date (drop p m.now)) }
+    ensures ahead { Ahead m.now p result }
+    ensures rests { RestsOn parts_in result }
+{
+    let (p, _) = word(b"INTERNALDATE ", m, p)?;
+    let (p, date) = date(m, p)?;
+    Ok((p, AttributeParts::InternalDate(date)))
+}
+
+#[tactic(auto, unfolding(crate::specs::Attributes::msg_att_flags))]
+fn msg_att_flags(alloc: Global, m: &[u8], p: usize) -> Result<(usize, AttributeSpans), Err>
+    requires { p ≤ length m.now }
+    ensures steps { GivesAt (λ x. parts_in m.now x) m.now result (step rules.msg_att_flags (drop p m.now)) }
+    ensures ahead { Ahead m.now p result }
+    ensures rests { RestsOn parts_in result }
+{
+    let (p, _) = word(b"FLAGS ", m, p)?;
+    let (p, flags) = flag_list(alloc, m, p)?;
+    Ok((p, AttributeParts::Flags(flags)))
+}
+
+#[tactic(auto, unfolding(crate::specs::Attributes::msg_att_uid))]
+fn msg_att_uid(m: &[u8], p: usize) -> Result<(usize, AttributeSpans), Err>
+    requires { p ≤ length m.now }
+    ensures steps { ExactlyAt (λ x. parts_in m.now x) m.now result (step rules.msg_att_uid (drop p m.now)) }
+    ensures ahead { Ahead m.now p result }
+    ensures rests { RestsOn parts_in result }
+{
+    let (p, _) = word(b"UID ", m, p)?;
+    let (p, uid) = number(m, p)?;
+    Ok((p, AttributeParts::Uid(uid)))
+}
+
+#[tactic(auto, unfolding(crate::specs::Attributes::msg_att_mod_seq))]
+fn msg_att_mod_seq(m: &[u8], p: usize) -> Result<(usize, AttributeSpans), Err>
+    requires { p ≤ length m.now }
+    ensures steps { ExactlyAt (λ x. parts_in m.now x) m.now result (step rules.msg_att_mod_seq (drop p m.now)) }
+    ensures ahead { Ahead m.now p result }
+    ensures rests { RestsOn parts_in result }
+{
+    let (p, _) = word(b"MODSEQ ", m, p)?;
+    let (p, _) = tag(b"(", m, p)?;
+    let (p, mod_seq) = number_64(m, p)?;
+    let (p, _) = tag(b")", m, p)?;
+    Ok((p, AttributeParts::ModSeq(mod_seq)))
+}
+
+#[tactic(auto, unfolding(crate::specs::Attributes::msg_att_gmail_labels))]
+fn msg_att_gmail_labels(alloc: Global, m: &[u8], p: usize) -> Result<(usize, AttributeSpans), Err>
+    requires { p ≤ length m.now }
+    ensures steps { GivesAt (λ x. parts_in m.now x) m.now result (step rules.msg_att_gmail_labels (drop p m.now)) }
+    ensures ahead { Ahead m.now p result }
+    ensures rests { RestsOn parts_in result }
+{
+    let (p, labels) = gmail_label_list(alloc, m, p)?;
+    Ok((p, AttributeParts::GmailLabels(labels)))
+}
+
+#[tactic(auto, unfolding(crate::specs::Attributes::msg_att_gmail_msgid, imap_items::specs::Gmail::gmail_msgid))]
+fn msg_att_gmail_msgid(m: &[u8], p: usize) -> Result<(usize, AttributeSpans), Err>
+    requires { p ≤ length m.now }
+    ensures steps { ExactlyAt (λ x. parts_in m.now x) m.now result (step rules.msg_att_gmail_msgid (drop p m.now)) }
+    ensures ahead { Ahead m.now p result }
+    ensures rests { RestsOn parts_in result }
+{
+    let (p, _) = word(b"X-GM-MSGID ", m, p)?;
+    let (p, number) = number_64(m, p)?;
+    Ok((p, AttributeParts::GmailMsgId(number)))
+}
+
+#[tactic(auto, unfolding(crate::specs::Attributes::msg_att_gmail_thrid, imap_items::specs::Gmail::gmail_thrid))]
+fn msg_att_gmail_thrid(m: &[u8], p: usize) -> Result<(usize, AttributeSpans), Err>
+    requires { p ≤ length m.now }
+    ensures steps { ExactlyAt (λ x. parts_in m.now x) m.now result (step rules.msg_att_gmail_thrid (drop p m.now)) }
+    ensures ahead { Ahead m.now p result }
+    ensures rests { RestsOn parts_in result }
+{
+    let (p, _) = word(b"X-GM-THRID ", m, p)?;
+    let (p, number) = number_64(m, p)?;
+    Ok((p, AttributeParts::GmailThrId(number)))
+}
+
+#[tactic(auto, using(imap_grammar::proofs::Positions::kept_self), unfolding(crate::specs::Attributes::id_bytes))]
+fn id_bytes(m: &[u8], p: usize) -> Result<(usize, Span), Err>
+    requires { p ≤ length m.now }
+    ensures steps { ExactlyAt (λ x. named_in m.now x) m.now result (step rules.id_bytes (drop p m.now)) }
+    ensures inside { Inside m.now p result }
+{
+    let (q, id) = astring_chars(m, p)?;
+    match as_utf8(id.bytes(m)) {
+        None => Err(Err::Error),
+        Some(_) => Ok((q, id)),
+    }
+}
+
+#[tactic(auto, using(crate::proofs::Resting::id_decoded, imap_items::proofs::Spanned::text_rests), unfolding(crate::specs::Attributes::object_id))]
+fn object_id(m: &[u8], p: usize) -> Result<(usize, Span), Err>
+    requires { p ≤ length m.now }
+    ensures steps { ExactlyAt (λ x. text_in m.now x) m.now result (step rules.object_id (drop p m.now)) }
+    ensures ahead { Ahead m.now p result }
+    ensures rests { RestsOn text_in result }
+{
+    let (q, id) = id_bytes(m, p)?;
+    Ok((q, id))
+}
+
+#[tactic(auto, unfolding(crate::specs::Attributes::bracketed_id))]
+fn bracketed_id(m: &[u8], p: usize) -> Result<(usize, Span), Err>
+    requires { p ≤ length m.now }
+    ensures steps { ExactlyAt (λ x. text_in m.now x) m.now result (step rules.bracketed_id (drop p m.now)) }
+    ensures ahead { Ahead m.now p result }
+    ensures rests { RestsOn text_in result }
+{
+    let (p, _) = tag(b"(", m, p)?;
+    let (p, id) = object_id(m, p)?;
+    let (p, _) = tag(b")", m, p)?;
+    Ok((p, id))
+}
+
+#[tactic(auto, unfolding(crate::specs::Attributes::msg_att_email_id))]
+fn msg_att_email_id(m: &[u8], p: usize) -> Result<(usize, AttributeSpans), Err>
+    requires { p ≤ length m.now }
+    ensures steps { ExactlyAt (λ x. parts_in m.now x) m.now result (step rules.msg_att_email_id (drop p m.now)) }
+    ensures ahead { Ahead m.now p result }
+    ensures rests { RestsOn parts_in result }
+{
+    let (p, _) = word(b"EMAILID ", m, p)?;
+    let (p, id) = bracketed_id(m, p)?;
+    Ok((p, AttributeParts::EmailId(id)))
+}
+
+#[tactic(auto, unfolding(crate::specs::Attributes::msg_att_thread_id))]
+fn msg_att_thread_id(m: &[u8], p: usize) -> Result<(usize, AttributeSpans), Err>
+    requires { p ≤ length m.now }
+    ensures steps { ExactlyAt (λ x. parts_in m.now x) m.now result (step rules.msg_att_thread_id (drop p m.now)) }
+    ensures ahead { Ahead m.now p result }
+    ensures rests { RestsOn parts_in result }
+{
+    let (p, _) = word(b"THREADID ", m, p)?;
+    match nil(m, p) {
+        Ok((q, _)) => return Ok((q, AttributeParts::ThreadId(None))),
+        Err(Err::Error) => {}
+        Err(e) => return Err(e),
+    }
+    let (p, id) = bracketed_id(m, p)?;
+    Ok((p, AttributeParts::ThreadId(Some(id))))
+}
+
+// Any byte but `)`.
+fn is_inside(c: u8) -> bool
+    ensures { result ≡ rules.is_inside c }
+{
+    c != b')'
+}
+
+fn inside_end(i: &[u8]) -> Option<usize>
+    ensures at { result ≡ position (outside rules.is_inside) i.now }
+    ensures within { IfSome result (λ n. n < length i.now) }
+{
+    i.iter().position(|c| !is_inside(*c))
+}
+
+fn inside(m: &[u8], p: usize) -> Result<(usize, Span), Err>
+    requires { p ≤ length m.now }
+    ensures steps { ExactlyAt (λ x. named_in m.now x) m.now result (step (run0 rules.is_inside) (drop p m.now)) }
+    ensures inside { Inside m.now p result }
+{
+    let (_, i) = m.split_at(p);
+    cut0(inside_end(i), m, p)
+}
+
+// Any byte but a space and `)`.
+fn is_bare(c: u8) -> bool
+    ensures { result ≡ rules.is_bare c }
+{
+    c != b' ' && c != b')'
+}
+
+fn bare_end(i: &[u8]) -> Option<usize>
+    ensures at { result ≡ position (outside rules.is_bare) i.now }
+    ensures within { IfSome result (λ n. n < length i.now) }
+{
+    i.iter().position(|c| !is_bare(*c))
+}
+
+fn bare(m: &[u8], p: usize) -> Result<(usize, Span), Err>
+    requires { p ≤ length m.now }
+    ensures steps { ExactlyAt (λ x. named_in m.now x) m.now result (step (run1 rules.is_bare) (drop p m.now)) }
+    ensures inside { Inside m.now p result }
+{
+    let (_, i) = m.split_at(p);
+    cut1(bare_end(i), m, p)
+}
+
+#[tactic(auto, unfolding(crate::specs::Attributes::skipped_brackets))]
+fn skipped_brackets(m: &[u8], p: usize) -> Result<(usize, ()), Err>
+    requires { p ≤ length m.now }
+    ensures steps { ExactlyAt (λ x. tt) m.now result (step rules.skipped_brackets (drop p m.now)) }
+    ensures ahead { Ahead m.now p result }
+{
+    let (p, _) = tag(b"(", m, p)?;
+    let (p, _) = inside(m, p)?;
+    let (p, _) = tag(b")", m, p)?;
+    Ok((p, ()))
+}
+
+#[tactic(auto, unfolding(crate::specs::Attributes::skipped_nstring))]
+fn skipped_nstring(m: &[u8], p: usize) -> Result<(usize, ()), Err>
+    requires { p ≤ length m.now }
+    ensures steps { ExactlyAt (λ x. tt) m.now result (step rules.skipped_nstring (drop p m.now)) }
+    ensures ahead { Ahead m.now p result }
+{
+    let (p, _) = nstring(m, p)?;
+    Ok((p, ()))
+}
+
+#[tactic(auto, unfolding(crate::specs::Attributes::skipped_bare))]
+fn skipped_bare(m: &[u8], p: usize) -> Result<(usize, ()), Err>
+    requires { p ≤ length m.now }
+    ensures steps { ExactlyAt (λ x. tt) m.now result (step rules.skipped_bare (drop p m.now)) }
+    ensures ahead { Ahead m.now p result }
+{
+    let (p, _) = bare(m, p)?;
+    Ok((p, ()))
+}
+
+// A value that is skipped, whatever it holds.
+#[tactic(auto, unfolding(crate::specs::Attributes::skipped_value))]
+fn skipped_value(m: &[u8], p: usize) -> Result<(usize, ()), Err>
+    requires { p ≤ length m.now }
+    ensures steps { ExactlyAt (λ x. tt) m.now result (step rules.skipped_value (drop p m.now)) }
+    ensures ahead { Ahead m.now p result }
+{
+    first!(skipped_brackets(m, p));
+    first!(skipped_nstring(m, p));
+    skipped_bare(m, p)
+}
+
+// Any other attribute: its name, and a value that is skipped.
+#[tactic(auto, unfolding(crate::specs::Attributes::msg_att_unknown))]
+fn msg_att_unknown(m: &[u8], p: usize) -> Result<(usize, AttributeSpans), Err>
+    requires { p ≤ length m.now }
+    ensures steps { ExactlyAt (λ x. parts_in m.now x) m.now result (step rules.msg_att_unknown (drop p m.now)) }
+    ensures ahead { Ahead m.now p result }
+    ensures rests { RestsOn parts_in result }
+{
+    let (p, _) = atom(m, p)?;
+    let (p, _) = tag(b" ", m, p)?;
+    let (p, _) = skipped_value(m, p)?;
+    Ok((p, AttributeParts::Unknown))
+}
+
+#[tactic(auto, unfolding(crate::specs::Attributes::attribute_of_b))]
+fn attribute_of_b(alloc: Global, m: &[u8], p: usize) -> Result<(usize, AttributeSpans), Err>
+    requires { p ≤ length m.now }
+    ensures steps { GivesAt (λ x. parts_in m.now x) m.now result (step rules.attribute_of_b (drop p m.now)) }
+    ensures ahead { Ahead m.now p result }
+    ensures rests { RestsOn parts_in result }
+{
+    first!(body_attribute(alloc, m, p));
+    msg_att_unknown(m, p)
+}
+
+#[tactic(auto, unfolding(crate::specs::Attributes::attribute_of_e))]
+fn attribute_of_e(alloc: Global, m: &[u8], p: usize) -> Result<(usize, AttributeSpans), Err>
+    requires { p ≤ length m.now }
+    ensures steps { GivesAt (λ x. parts_in m.now x) m.now result (step rules.attribute_of_e (drop p m.now)) }
+    ensures ahead { Ahead m.now p result }
+    ensures rests { RestsOn parts_in result }
+{
+    first!(msg_att_envelope(alloc, m, p));
+    first!(msg_att_email_id(m, p));
+    msg_att_unknown(m, p)
+}
+
+#[tactic(auto, unfolding(crate::specs::Attributes::attribute_of_f))]
+fn attribute_of_f(alloc: Global, m: &[u8], p: usize) -> Result<(usize, AttributeSpans), Err>
+    requires { p ≤ length m.now }
+    ensures steps { GivesAt (λ x. parts_in m.now x) m.now result (step rules.attribute_of_f (drop p m.now)) }
+    ensures ahead { Ahead m.now p result }
+    ensures rests { RestsOn parts_in result }
+{
+    first!(msg_att_flags(alloc, m, p));
+    msg_att_unknown(m, p)
+}
+
+#[tactic(auto, unfolding(crate::specs::Attributes::attribute_of_i))]
+fn attribute_of_i(m: &[u8], p: usize) -> Result<(usize, AttributeSpans), Err>
+    requires { p ≤ length m.now }
+    ensures steps { ExactlyAt (λ x. parts_in m.now x) m.now result (step rules.attribute_of_i (drop p m.now)) }
+    ensures ahead { Ahead m.now p result }
+    ensures rests { RestsOn parts_in result }
+{
+    first!(msg_att_internal_date(m, p));
+    msg_att_unknown(m, p)
+}
+
+#[tactic(auto, unfolding(crate::specs::Attributes::attribute_of_m))]
+fn attribute_of_m(m: &[u8], p: usize) -> Result<(usize, AttributeSpans), Err>
+    requires { p ≤ length m.now }
+    ensures steps { ExactlyAt (λ x. parts_in m.now x) m.now result (step rules.attribute_of_m (drop p m.now)) }
+    ensures ahead { Ahead m.now p result }
+    ensures rests { RestsOn parts_in result }
+{
+    first!(msg_att_mod_seq(m, p));
+    msg_att_unknown(m, p)
+}
+
+#[tactic(auto, unfolding(crate::specs::Attributes::attribute_of_r))]
+fn attribute_of_r(m: &[u8], p: usize) -> Result<(usize, AttributeSpans), Err>
+    requires { p ≤ length m.now }
+    ensures steps { ExactlyAt (λ x. parts_in m.now x) m.now result (step rules.attribute_of_r (drop p m.now)) }
+    ensures ahead { Ahead m.now p result }
+    ensures rests { RestsOn parts_in result }
+{
+    first!(message_attribute(m, p));
+    msg_att_unknown(m, p)
+}
+
+#[tactic(auto, unfolding(crate::specs::Attributes::attribute_of_t))]
+fn attribute_of_t(m: &[u8], p: usize) -> Result<(usize, AttributeSpans), Err>
+    requires { p ≤ length m.now }
+    ensures steps { ExactlyAt (λ x. parts_in m.now x) m.now result (step rules.attribute_of_t (drop p m.now)) }
+    ensures ahead { Ahead m.now p result }
+    ensures rests { RestsOn parts_in result }
+{
+    first!(msg_att_thread_id(m, p));
+    msg_att_unknown(m, p)
+}
+
+#[tactic(auto, unfolding(crate::specs::Attributes::attribute_of_u))]
+fn attribute_of_u(m: &[u8], p: usize) -> Result<(usize, AttributeSpans), Err>
+    requires { p ≤ length m.now }
+    ensures steps { ExactlyAt (λ x. parts_in m.now x) m.now result (step rules.attribute_of_u (drop p m.now)) }
+    ensures ahead { Ahead m.now p result }
+    ensures rests { RestsOn parts_in result }
+{
+    first!(msg_att_uid(m, p));
+    msg_att_unknown(m, p)
+}
+
+#[tactic(auto, unfolding(crate::specs::Attributes::attribute_of_x))]
+fn attribute_of_x(alloc: Global, m: &[u8], p: usize) -> Result<(usize, AttributeSpans), Err>
+    requires { p ≤ length m.now }
+    ensures steps { GivesAt (λ x. parts_in m.now x) m.now result (step rules.attribute_of_x (drop p m.now)) }
+    ensures ahead { Ahead m.now p result }
+    ensures rests { RestsOn parts_in result }
+{
+    first!(msg_att_gmail_labels(alloc, m, p));
+    first!(msg_att_gmail_msgid(m, p));
+    first!(msg_att_gmail_thrid(m, p));
+    msg_att_unknown(m, p)
+}
+
+/// An attribute (RFC 3501, section 9: msg-att): of the alternatives those are tried, in order, that may start with the first byte.
+///
+/// It takes memory for lists, envelopes and body structures.
+#[tactic(auto, using(crate::proofs::AttributeFirstBytes::attribute_none, crate::proofs::AttributeFirstBytes::attribute_is_of_b, crate::proofs::AttributeFirstBytes::attribute_is_of_e, crate::proofs::AttributeFirstBytes::attribute_is_of_f, crate::proofs::AttributeFirstBytes::attribute_is_of_i, crate::proofs::AttributeFirstBytes::attribute_is_of_m, crate::proofs::AttributeFirstBytes::attribute_is_of_r, crate::proofs::AttributeFirstBytes::attribute_is_of_t, crate::proofs::AttributeFirstBytes::attribute_is_of_u, crate::proofs::AttributeFirstBytes::attribute_is_of_x, crate::proofs::AttributeFirstBytes::attribute_other))]
+pub fn attribute(alloc: Global, m: &[u8], p: usize) -> Result<(usize, AttributeSpans), Err>
+    requires { p ≤ length m.now }
+    ensures steps { GivesAt (λ x. parts_in m.now x) m.now result (step rules.attribute (drop p m.now)) }
+    ensures ahead { Ahead m.now p result }
+    ensures rests { RestsOn parts_in result }
+{
+    let (_, i) = m.split_at(p);
+    match i.first() {
+        None => Err(Err::Incomplete(Needed::Unknown)),
+        Some(b'b' | b'B') => attribute_of_b(alloc, m, p),
+        Some(b'e' | b'E') => attribute_of_e(alloc, m, p),
+        Some(b'f' | b'F') => attribute_of_f(alloc, m, p),
+        Some(b'i' | b'I') => attribute_of_i(m, p),
+        Some(b'm' | b'M') => attribute_of_m(m, p),
+        Some(b'r' | b'R') => attribute_of_r(m, p),
+        Some(b't' | b'T') => attribute_of_t(m, p),
+        Some(b'u' | b'U') => attribute_of_u(m, p),
+        Some(b'x' | b'X') => attribute_of_x(alloc, m, p),
+        Some(_) => msg_att_unknown(m, p),
+    }
+}

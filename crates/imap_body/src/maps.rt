@@ -1,0 +1,165 @@
+//! One map of attributes over their parts: what spans name and owned values are instances of it.
+
+ghost use Rattle.std.specs.Prelude.{◌≡◌, IfOk};
+ghost use Rattle.std.specs.Option.{option_map};
+ghost use Rattle.imap_grammar.specs.Text.{text_of};
+ghost use Rattle.imap_items.specs.Spanned.{text_in};
+ghost use Rattle.imap_shapes.specs.Spans.{bytes_of, bytes_owned, text_owned};
+ghost use Rattle.imap_shapes.specs.BodyValues.{BodyValue, body_seen};
+ghost use Rattle.imap_shapes.specs.EnvelopeValues.{envelope_seen};
+ghost use Rattle.imap_structure.specs.Spanned.{body_in};
+ghost use Rattle.imap_body.specs.SectionValues.{path_value};
+ghost use Rattle.imap_body.specs.AttributeValues.{attribute_seen};
+
+use crate::types::attributes::AttributeParts;
+use crate::types::sections::SectionPath;
+use imap_bytes::texts::decode;
+use imap_shapes::BodyStructure;
+use imap_shapes::maps::change::Change;
+use imap_shapes::maps::changes::Owning;
+use imap_shapes::maps::parts::{mapped_list, mapped_text};
+use imap_shapes::shapes::bodies;
+use imap_shapes::shapes::envelopes::Envelope;
+use imap_shapes::spans::{Span, SpannedText};
+use std::alloc::{AllocError, Global};
+use std::borrow::CowStr;
+
+/// What makes another body structure of one. It may take memory, and fails for want of it alone.
+pub(crate) trait BodyChange<Y> {
+    type To: Drop;
+
+    /// What the new body is to say.
+    ghost before: { Self → Y → BodyValue };
+
+    /// What a new body says.
+    ghost after: { Self.To → BodyValue };
+
+    fn change_body(&self, body: &Y) -> Result<Self::To, AllocError>
+        ensures { IfOk result (λ b. after b ≡ before self.now body.now) };
+}
+
+/// What spans of texts name in a message, decoded, and what the body structures of such texts name.
+#[derive(Drop)]
+pub(crate) struct Decoding<'a> {
+    pub(crate) alloc: Global,
+    pub(crate) m: &'a [u8],
+}
+
+impl<'a> Change<Span> for Decoding<'a> {
+    type To = CowStr<'a>;
+
+    ghost before = { λ c s. text_in c.m.now s };
+
+    ghost after = { text_of };
+
+    fn change(&self, x: &Span) -> Result<CowStr<'a>, AllocError> {
+        decode(self.alloc, x.part(self.m))
+    }
+}
+
+impl<'a> BodyChange<Box<bodies::BodyStructure<SpannedText, Span>>> for Decoding<'a> {
+    type To = BodyStructure<'a>;
+
+    ghost before = { λ c b. body_in c.m.now b.value };
+
+    ghost after = { body_seen text_of bytes_of };
+
+    fn change_body(
+        &self,
+        body: &Box<bodies::BodyStructure<SpannedText, Span>>,
+    ) -> Result<BodyStructure<'a>, AllocError> {
+        body.value(self.alloc, self.m)
+    }
+}
+
+impl<'a, 'b> BodyChange<BodyStructure<'a>> for Owning<'b> {
+    type To = BodyStructure<'b>;
+
+    ghost before = { λ c b. body_seen text_owned bytes_owned b };
+
+    ghost after = { body_seen text_of bytes_of };
+
+    fn change_body(&self, body: &BodyStructure<'a>) -> Result<BodyStructure<'b>, AllocError> {
+        body.try_map(
+            self.alloc,
+            &Owning::new(self.alloc),
+            &Owning::new(self.alloc),
+        )
+    }
+}
+
+fn copied_section(
+    alloc: Global,
+    section: &Option<SectionPath>,
+) -> Result<Option<SectionPath>, AllocError>
+    ensures { IfOk result (λ s. option_map path_value s ≡ option_map path_value section.now) }
+{
+    match section {
+        None => Ok(None),
+        Some(SectionPath::Full(what)) => Ok(Some(SectionPath::Full(*what))),
+        Some(SectionPath::Part(numbers, what)) => {
+            let numbers = Vec::from_slice(alloc, numbers)?;
+            Ok(Some(SectionPath::Part(numbers, *what)))
+        }
+    }
+}
+
+fn mapped_envelope<B, D: Change<B>>(
+    alloc: Global,
+    d: &D,
+    envelope: &Box<Envelope<B>>,
+) -> Result<Box<Envelope<D::To>>, AllocError>
+    ensures { IfOk result (λ e. envelope_seen D.after e.value ≡ envelope_seen (D.before d.now) envelope.now.value) }
+{
+    let mapped = envelope.try_map(alloc, d)?;
+    Ok(Box::new(alloc, mapped)?)
+}
+
+impl<S, B, Y> AttributeParts<S, B, Y> {
+    /// The same attribute with each text changed by c, each byte string by d, and a body structure by e.
+    pub(crate) fn try_map<C: Change<S>, D: Change<B>, E: BodyChange<Y>>(
+        &self,
+        alloc: Global,
+        c: &C,
+        d: &D,
+        e: &E,
+    ) -> Result<AttributeParts<C::To, D::To, E::To>, AllocError>
+        ensures { IfOk result (λ x. attribute_seen C.after D.after E.after x ≡ attribute_seen (C.before c.now) (D.before d.now) (E.before e.now) self.now) }
+    {
+        Ok(match self {
+            AttributeParts::BodySection {
+                section,
+                index,
+                contents,
+            } => AttributeParts::BodySection {
+                section: copied_section(alloc, section)?,
+                index: *index,
+                contents: mapped_text(d, contents)?,
+            },
+            AttributeParts::BodyStructure(body) => AttributeParts::BodyStructure(e.change_body(
+                body,
+            )?),
+            AttributeParts::Envelope(envelope) => AttributeParts::Envelope(mapped_envelope(
+                alloc, d, envelope,
+            )?),
+            AttributeParts::Flags(flags) => AttributeParts::Flags(mapped_list(alloc, c, flags)?),
+            AttributeParts::InternalDate(date) => AttributeParts::InternalDate(c.change(date)?),
+            AttributeParts::ModSeq(n) => AttributeParts::ModSeq(*n),
+            AttributeParts::Rfc822(message) => AttributeParts::Rfc822(mapped_text(d, message)?),
+            AttributeParts::Rfc822Header(header) => AttributeParts::Rfc822Header(mapped_text(
+                d, header,
+            )?),
+            AttributeParts::Rfc822Size(n) => AttributeParts::Rfc822Size(*n),
+            AttributeParts::Rfc822Text(text) => AttributeParts::Rfc822Text(mapped_text(d, text)?),
+            AttributeParts::Uid(n) => AttributeParts::Uid(*n),
+            AttributeParts::GmailLabels(labels) => AttributeParts::GmailLabels(mapped_list(
+                alloc, c, labels,
+            )?),
+            AttributeParts::GmailMsgId(n) => AttributeParts::GmailMsgId(*n),
+            AttributeParts::GmailThrId(n) => AttributeParts::GmailThrId(*n),
+            AttributeParts::EmailId(id) => AttributeParts::EmailId(c.change(id)?),
+            AttributeParts::ThreadId(id) => AttributeParts::ThreadId(mapped_text(c, id)?),
+            AttributeParts::Unknown => AttributeParts::Unknown,
+        })
+    }
+}

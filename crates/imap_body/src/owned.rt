@@ -1,0 +1,22 @@
+//! The same attribute with all texts owned.
+
+ghost use Rattle.std.specs.Prelude.{◌≡◌, IfOk};
+ghost use Rattle.imap_body.specs.AttributeValues.{attribute_value, attribute_owned};
+
+use crate::types::attributes::AttributeValue;
+use imap_shapes::maps::changes::Owning;
+use std::alloc::{AllocError, Global};
+
+impl<'a> AttributeValue<'a> {
+    /// The same with all texts owned. It is consumed, and `Err` where there is no memory.
+    pub fn into_owned(self, alloc: Global) -> Result<AttributeValue<'static>, AllocError>
+        ensures { IfOk result (λ x. attribute_value x ≡ attribute_owned self.entry) }
+    {
+        self.try_map(
+            alloc,
+            &Owning::new(alloc),
+            &Owning::new(alloc),
+            &Owning::new(alloc),
+        )
+    }
+}

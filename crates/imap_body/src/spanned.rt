@@ -1,0 +1,101 @@
+//! Attributes of a message as positions in it: they keep no bytes, and tell their values of any message that has bytes in these places.
+
+ghost use Rattle.std.specs.Prelude.{◌≡◌, ◌≤◌, ◌+◌, length, drop, map, IfOk};
+ghost use Rattle.imap_grammar.specs.Positions.{AnswersAt, GivesAt, Ahead, RestsOn};
+ghost use Rattle.imap_grammar.specs.Step.{step};
+ghost use Rattle.imap_body.specs.AttributeValues.{attribute_value, parts_in};
+ghost use Rattle.imap_body.specs.SpannedAttributes.{attribute_in, InTurn};
+ghost use Rattle.imap_body.specs.Attributes as rules;
+
+use crate::at::attributes::attribute;
+use crate::maps::Decoding;
+use crate::types::attributes::{AttributeSpans, AttributeValue};
+use imap_bytes::Err;
+use imap_bytes::at::parenthesized_nonempty_list;
+use imap_shapes::maps::changes::NamedBytes;
+use imap_shapes::spans::Span;
+use std::alloc::{AllocError, Global};
+
+/// An attribute of a message as positions and numbers.
+#[derive(Debug, Drop, PartialEq, Eq)]
+pub struct SpannedAttribute {
+    span: Span,
+    // Its positions count from where the span starts.
+    parts: AttributeSpans,
+}
+
+impl SpannedAttribute {
+    /// Where it stands in its message. No memory.
+    pub fn span(&self) -> Span
+        ensures { result ≡ self.now.span }
+    {
+        self.span
+    }
+
+    /// The attribute that it names in m, as far as m has the bytes of its span: texts are borrowed from m where their bytes are UTF-8, byte strings always.
+    ///
+    /// It rests on the bytes of the span alone, and reads no rule again. It takes memory for lists, envelopes, body structures and texts that are no UTF-8;
+    /// `Err` where there is none.
+    pub fn value<'a>(&self, alloc: Global, m: &'a [u8]) -> Result<AttributeValue<'a>, AllocError>
+        ensures { IfOk result (λ v. attribute_value v ≡ attribute_in m.now self.now) }
+    {
+        self.parts.value(alloc, self.span.part(m))
+    }
+}
+
+impl AttributeSpans {
+    /// The attribute that its spans name in m. It takes memory; `Err` where there is none.
+    pub(crate) fn value<'a>(
+        &self,
+        alloc: Global,
+        m: &'a [u8],
+    ) -> Result<AttributeValue<'a>, AllocError>
+        ensures { IfOk result (λ v. attribute_value v ≡ parts_in m.now self.now) }
+    {
+        let texts = Decoding { alloc, m };
+        self.try_map(alloc, &texts, &NamedBytes { m }, &texts)
+    }
+}
+
+// The attribute at p, with its span.
+#[tactic(auto, using(crate::proofs::Standing::attribute_named, crate::proofs::Standing::attribute_rests))]
+fn spanned_attribute(alloc: Global, m: &[u8], p: usize) -> Result<(usize, SpannedAttribute), Err>
+    requires { p ≤ length m.now }
+    ensures steps { GivesAt (λ x. attribute_in m.now x) m.now result (step rules.attribute (drop p m.now)) }
+    ensures ahead { Ahead m.now p result }
+    ensures rests { RestsOn attribute_in result }
+    ensures start { IfOk result (λ x. x.1.span.start ≡ p) }
+    ensures end { IfOk result (λ x. x.1.span.end ≡ x.0) }
+{
+    let (_, from) = m.split_at(p);
+    let (size, parts) = attribute(alloc, from, 0)?;
+    let q = p + size;
+    let span = Span { start: p, end: q };
+    Ok((q, SpannedAttribute { span, parts }))
+}
+
+/// The attributes of a message in parentheses (RFC 3501, section 9: msg-att), each as its positions in m.
+///
+/// It takes memory for the list and for what the attributes list, and for no text.
+pub fn attribute_list_at(
+    alloc: Global,
+    m: &[u8],
+    p: usize,
+) -> Result<(usize, Vec<SpannedAttribute>), Err>
+    requires { p ≤ length m.now }
+    ensures steps { GivesAt (λ x. map (attribute_in m.now) x.items) m.now result (step rules.attribute_list (drop p m.now)) }
+    ensures answer { AnswersAt rules.attribute_list (λ x. map (attribute_in m.now) x.items) m.now p result }
+    ensures ahead { Ahead m.now p result }
+    ensures rests { RestsOn (λ n x. map (attribute_in n) x.items) result }
+    ensures spans { IfOk result (λ x. InTurn m.now (p + 1) x.0 x.1.items) }
+{
+    let item = |k: usize|
+        requires { k ≤ length m.now }
+        ensures steps { GivesAt (λ x. attribute_in m.entry.now x) m.entry.now result (step rules.attribute (drop k m.entry.now)) }
+        ensures ahead { Ahead m.entry.now k result }
+        ensures rests { RestsOn attribute_in result }
+        ensures start { IfOk result (λ x. x.1.span.start ≡ k) }
+        ensures end { IfOk result (λ x. x.1.span.end ≡ x.0) }
+    { spanned_attribute(alloc, m, k) };
+    parenthesized_nonempty_list(alloc, item, m, p)
+}

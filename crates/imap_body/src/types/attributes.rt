@@ -1,0 +1,57 @@
+//! What a server tells of a message.
+
+use crate::types::sections::SectionPath;
+use imap_shapes::BodyStructure;
+use imap_shapes::shapes::bodies;
+use imap_shapes::shapes::envelopes::Envelope;
+use imap_shapes::spans::{Span, SpannedText};
+use std::borrow::{CowSlice, CowStr};
+
+/// An attribute of a message (RFC 3501, section 9: msg-att), generic in its texts, its byte strings and its body structure.
+#[derive(Debug, Drop, PartialEq, Eq)]
+pub enum AttributeParts<S, B, Y> {
+    /// `BODY[..]`: a section of the message's body, from an index on where there is one.
+    BodySection {
+        section: Option<SectionPath>,
+        index: Option<u32>,
+        contents: Option<B>,
+    },
+    /// `BODYSTRUCTURE`
+    BodyStructure(Y),
+    /// `ENVELOPE`
+    Envelope(Box<Envelope<B>>),
+    /// `FLAGS`
+    Flags(Vec<S>),
+    /// `INTERNALDATE`
+    InternalDate(S),
+    /// `MODSEQ` (RFC 7162, section 3.1.4).
+    ModSeq(u64),
+    /// `RFC822`
+    Rfc822(Option<B>),
+    /// `RFC822.HEADER`
+    Rfc822Header(Option<B>),
+    /// `RFC822.SIZE`
+    Rfc822Size(u32),
+    /// `RFC822.TEXT`
+    Rfc822Text(Option<B>),
+    /// `UID`
+    Uid(u32),
+    /// `X-GM-LABELS` (Gmail's X-GM-EXT-1).
+    GmailLabels(Vec<S>),
+    /// `X-GM-MSGID` (Gmail's X-GM-EXT-1).
+    GmailMsgId(u64),
+    /// `X-GM-THRID` (Gmail's X-GM-EXT-1).
+    GmailThrId(u64),
+    /// `EMAILID` (RFC 8474, section 5.1).
+    EmailId(S),
+    /// `THREADID` (RFC 8474, section 5.2).
+    ThreadId(Option<S>),
+    /// Any other, its value skipped.
+    Unknown,
+}
+
+/// An attribute of a message (RFC 3501, section 9: msg-att).
+pub type AttributeValue<'a> = AttributeParts<CowStr<'a>, CowSlice<'a, u8>, BodyStructure<'a>>;
+
+/// An attribute as spans of a message.
+pub type AttributeSpans = AttributeParts<Span, Span, Box<bodies::BodyStructure<SpannedText, Span>>>;

@@ -1,0 +1,126 @@
+//! Fetches that are kept: the bytes of one `FETCH` once, and its attributes as positions in them.
+
+ghost use Rattle.std.specs.Prelude.{◌≡◌, ◌≤◌, ◌<◌, Some, drop, length, map, slice_get, IfOk};
+ghost use Rattle.imap_grammar.specs.Positions.{Ahead, ExactlyAt, GivesAt, RestsOn, Inside, named_in};
+ghost use Rattle.imap_grammar.specs.Rule.{◌⨾◌};
+ghost use Rattle.imap_grammar.specs.Step.{step};
+ghost use Rattle.imap_grammar.specs.Tags.{crlf};
+ghost use Rattle.imap_body.specs.AttributeValues.{attribute_value};
+ghost use Rattle.imap_body.specs.SpannedAttributes.{attribute_in};
+ghost use Rattle.imap_proto.specs.Kept.{Keeps, attributes_of};
+ghost use Rattle.imap_proto.specs.Responses.{fetch_in};
+ghost use Rattle.imap_proto.specs.Lines as rule;
+
+use crate::data::spaces_end;
+use crate::response::Response;
+use imap_body::AttributeValue;
+use imap_body::spanned::{SpannedAttribute, attribute_list_at};
+use imap_bytes::Err;
+use imap_bytes::at::numbers::number;
+use imap_bytes::at::span::Span;
+use imap_bytes::at::tags::{cut0, tag, word};
+use std::alloc::{AllocError, Global};
+
+#[tactic(auto, unfolding(crate::specs::Lines::spaces))]
+fn spaces(m: &[u8], p: usize) -> Result<(usize, Span), Err>
+    requires { p ≤ length m.now }
+    ensures steps { ExactlyAt (λ x. named_in m.now x) m.now result (step rule.spaces (drop p m.now)) }
+    ensures inside { Inside m.now p result }
+{
+    let (_, i) = m.split_at(p);
+    cut0(spaces_end(i), m, p)
+}
+
+#[tactic(auto, unfolding(crate::specs::Lines::fetched))]
+fn fetched(alloc: Global, m: &[u8], p: usize) -> Result<(usize, Vec<SpannedAttribute>), Err>
+    requires { p ≤ length m.now }
+    ensures steps { GivesAt (λ x. map (attribute_in m.now) x.items) m.now result (step rule.fetched (drop p m.now)) }
+    ensures ahead { Ahead m.now p result }
+    ensures rests { RestsOn (λ n x. map (attribute_in n) x.items) result }
+{
+    let (p, _) = word(b" FETCH ", m, p)?;
+    attribute_list_at(alloc, m, p)
+}
+
+// A line that tells of a message: its number, and its attributes as positions in the line.
+#[tactic(auto, unfolding(crate::specs::Lines::fetch_line, crate::specs::Lines::fetch))]
+fn fetch_line(alloc: Global, m: &[u8]) -> Result<(usize, (u32, Vec<SpannedAttribute>)), Err>
+    ensures steps { GivesAt (λ x. fetch_in m.now x) m.now result (step rule.fetch_line m.now) }
+    ensures within { IfOk result (λ x. x.0 ≤ length m.now) }
+    ensures rests { RestsOn fetch_in result }
+{
+    let (p, _) = tag(b"* ", m, 0)?;
+    let (p, number) = number(m, p)?;
+    let (p, attributes) = fetched(alloc, m, p)?;
+    let (p, _) = spaces(m, p)?;
+    let (p, _) = tag(b"\r\n", m, p)?;
+    Ok((p, (number, attributes)))
+}
+
+/// A `FETCH` that is kept: what it consumed, once, and where its attributes stand in that.
+#[derive(Drop)]
+pub struct KeptFetch {
+    alloc: Global,
+    number: u32,
+    attributes: Vec<SpannedAttribute>,
+    bytes: Vec<u8>,
+}
+
+impl KeptFetch {
+    /// Keeps the `FETCH` at the front of the message; `None` where another response stands there.
+    ///
+    /// `Error`, `Incomplete` and `Failure` as `Response::parse`. It answers for the whole message: what the `FETCH` consumed may wait by itself.
+    #[tactic(auto, using(crate::proofs::Fetching::kept, crate::proofs::Fetching::other, crate::proofs::Fetching::refused, crate::proofs::Fetching::parse_refused))]
+    pub fn keep(alloc: Global, msg: &[u8]) -> Result<Option<KeptFetch>, Err>
+        ensures { Keeps msg.now result }
+    {
+        match fetch_line(alloc, msg) {
+            Ok((q, (number, attributes))) => {
+                let (front, _) = msg.split_at(q);
+                let bytes = Vec::from_slice(alloc, front)?;
+                Ok(Some(KeptFetch {
+                    alloc,
+                    number,
+                    attributes,
+                    bytes,
+                }))
+            }
+            Err(Err::Error) => match Response::parse(alloc, msg) {
+                Ok(_) => Ok(None),
+                Err(e) => Err(e),
+            },
+            Err(e) => Err(e),
+        }
+    }
+
+    /// The number of the message. No memory.
+    pub fn number(&self) -> u32
+        ensures { result ≡ self.now.number }
+    {
+        self.number
+    }
+
+    /// How many attributes it has. No memory.
+    pub fn len(&self) -> usize
+        ensures { result ≡ length (attributes_of self.now) }
+    {
+        self.attributes.len()
+    }
+
+    /// The bytes that it consumed. No memory.
+    pub fn bytes(&self) -> &[u8]
+        ensures { result.now ≡ self.now.bytes.items }
+    {
+        &self.bytes
+    }
+
+    /// The attribute at k, which is below `len`: the same as in the parsed list, texts borrowed from the kept bytes where these are UTF-8.
+    ///
+    /// It reads no rule again. It takes memory for lists, envelopes, body structures and texts that are no UTF-8; `Err` where there is none.
+    pub fn attribute(&self, k: usize) -> Result<AttributeValue<'_>, AllocError>
+        requires { k < length (attributes_of self.now) }
+        ensures { IfOk result (λ v. slice_get (attributes_of self.now) k ≡ Some (attribute_value v)) }
+    {
+        self.attributes[k].value(self.alloc, &self.bytes)
+    }
+}
