@@ -72,10 +72,10 @@ fn status_line(alloc: Global, i: &[u8]) -> IResult<&[u8], Response<'_>>
     ensures steps { Gives response_value result (step rule.status_line i.now) }
     ensures memory { SucceedsFor NeedsNoMemory rule.status_line i.now result }
 {
-    let (i, status) = status(i)?;
-    match spaced_outcome(alloc, i) {
-        Ok((i, outcome)) => {
-            let (rest, _) = line_end(i)?;
+    let (rest, status) = status(i)?;
+    match spaced_outcome(alloc, rest) {
+        Ok((rest, outcome)) => {
+            let (rest, _) = line_end(rest)?;
             Ok((rest, Response::Data { status, outcome }))
         }
         Err(e) => Err(e),
@@ -98,12 +98,12 @@ fn numbered_line(alloc: Global, i: &[u8]) -> IResult<&[u8], Response<'_>>
     ensures steps { Gives response_value result (step rule.numbered_line i.now) }
     ensures memory { SucceedsFor NeedsNoMemory rule.numbered_line i.now result }
 {
-    let (i, n) = number(i)?;
-    line!(word(b" EXISTS", i), _ => Response::MailboxData(MailboxDatum::Exists(n)));
-    line!(word(b" RECENT", i), _ => Response::MailboxData(MailboxDatum::Recent(n)));
-    line!(word(b" EXPUNGE", i), _ => Response::Expunge(n));
-    let (i, attributes) = fetched(alloc, i)?;
-    let (rest, _) = line_end(i)?;
+    let (rest, n) = number(i)?;
+    line!(word(b" EXISTS", rest), _ => Response::MailboxData(MailboxDatum::Exists(n)));
+    line!(word(b" RECENT", rest), _ => Response::MailboxData(MailboxDatum::Recent(n)));
+    line!(word(b" EXPUNGE", rest), _ => Response::Expunge(n));
+    let (rest, attributes) = fetched(alloc, rest)?;
+    let (rest, _) = line_end(rest)?;
     Ok((rest, Response::Fetch(n, attributes)))
 }
 
