@@ -8,3 +8,5 @@ pub mod AnnotationTexts
 pub mod MailboxDataTexts
 pub mod FirstBytes
 pub mod Takes
+pub mod ListCodes
+pub mod NumberData

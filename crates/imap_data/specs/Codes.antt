@@ -1,6 +1,7 @@
 -- Response codes (RFC 3501, RFC 4551 and RFC 5464: resp-text-code, in sections 9, 4 and 5; RFC 4315, section 4: resp-code-apnd, resp-code-copy).
-use Rattle.std.specs.Prelude.{ℕ, List, Option, option_map, map}
-use Rattle.imap_grammar.specs.Text.{Text, text_of, lent_text}
+use Rattle.std.specs.Prelude.{◌≡◌, ℕ, ◌⊎◌, List, ◌++◌, Option, Some, option_map, map, codes}
+use Rattle.imap_grammar.specs.Text.{Bytes, Text, text_of, lent_text}
+use Rattle.imap_grammar.specs.Memory.{BeginsWord}
 use Rattle.imap_grammar.specs.Rule.{Rule, gives, opt, ◌⨾◌, ◌▹◌, ◌◃◌, ◌or◌}
 use Rattle.imap_grammar.specs.Tags.{tag, word, names, sp}
 use Rattle.imap_grammar.specs.Lists.{nonempty_list_of}
@@ -53,6 +54,23 @@ lent_code (BadCharset charsets) = BadCharset (option_map (map lent_text) charset
 lent_code (Capabilities capabilities) = Capabilities (map lent_capability capabilities)
 lent_code (PermanentFlags flags) = PermanentFlags (map lent_text flags)
 lent_code other = other
+
+-- it holds no list
+abbrev pub HoldsNoList : CodeValue → Type 0
+HoldsNoList (BadCharset (Some charsets)) = ⊥
+HoldsNoList (Capabilities capabilities) = ⊥
+HoldsNoList (PermanentFlags flags) = ⊥
+HoldsNoList (AppendUid n uids) = ⊥
+HoldsNoList (CopyUid n from to) = ⊥
+HoldsNoList other = Unit {0}
+
+-- the word of a code that may hold a list stands in front
+abbrev pub BeginsListWord : Bytes → Type 0
+BeginsListWord m = BeginsWord "APPENDUID " m ⊎ BeginsWord "BADCHARSET " m ⊎ BeginsWord "CAPABILITY" m ⊎ BeginsWord "COPYUID " m ⊎ BeginsWord "PERMANENTFLAGS " m
+
+-- and a bracket before it
+abbrev pub BeginsListCode : Bytes → Type 0
+BeginsListCode m = (rest : Bytes) × (m ≡ codes "[" ++ rest) × BeginsListWord rest
 
 -- what `==` tells of a code
 abbrev pub code_content : ResponseCode → CodeValue

@@ -15,6 +15,7 @@ pub mod Callers
 pub mod Seen
 pub mod Hashing
 pub mod Yields
+pub mod Memory
 pub mod Plain
 pub mod Starts
 pub mod Positions

@@ -29,7 +29,7 @@ run-apart p k ks (b ∷ v) t h all some = or_left (not (k == b)) (differs ◌==�
 
 -- ---- words in either case
 
-letter : (x y : ℕ) → same_letter x y ≡ true → (y ≡ to_ascii_lowercase x) ⊎ (y ≡ to_ascii_uppercase (to_ascii_lowercase x))
+pub letter : (x y : ℕ) → same_letter x y ≡ true → (y ≡ to_ascii_lowercase x) ⊎ (y ≡ to_ascii_uppercase (to_ascii_lowercase x))
 letter x y h = grind (arith, nat_tests, eqb-true)
 
 -- each letter is in the class, in both cases

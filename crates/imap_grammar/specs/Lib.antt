@@ -3,6 +3,7 @@ pub mod Rule
 pub mod Step
 pub mod Exact
 pub mod Answer
+pub mod Memory
 pub mod Stable
 pub mod Text
 pub mod Ascii

@@ -1,13 +1,15 @@
 //! Response codes.
 
-ghost use Rattle.std.specs.Prelude.{map, IfOk};
+ghost use Rattle.std.specs.Prelude.{◌⊎◌, map, IfOk};
 ghost use Rattle.imap_grammar.specs.Answer.{Answers, Exactly, Gives};
+ghost use Rattle.imap_grammar.specs.Memory.{BeginsWord, FailsOnlyIf};
 ghost use Rattle.imap_grammar.specs.Step.{step};
 ghost use Rattle.imap_grammar.specs.Text.{text_of};
 ghost use Rattle.imap_data.specs.Codes as codes;
-ghost use Rattle.imap_data.specs.Codes.{code_value, HasOrderedUids};
+ghost use Rattle.imap_data.specs.Codes.{code_value, HasOrderedUids, BeginsListWord, BeginsListCode};
 
 use crate::types::codes::ResponseCode;
+use imap_bytes::lists::tried;
 use imap_bytes::tags::{tag, word};
 use imap_bytes::{
     Err, IResult, Needed, astring_utf8, first, named, number, number_64,
@@ -30,34 +32,37 @@ fn charset_list(alloc: Global, i: &[u8]) -> IResult<&[u8], Vec<CowStr<'_>>>
 
 #[tactic(auto, unfolding(crate::specs::Codes::charsets))]
 fn charsets(alloc: Global, i: &[u8]) -> IResult<&[u8], Vec<CowStr<'_>>>
-    ensures { Gives (λ x. map text_of x.items) result (step codes.charsets i.now) }
+    ensures steps { Gives (λ x. map text_of x.items) result (step codes.charsets i.now) }
+    ensures memory { FailsOnlyIf (BeginsWord " " i.now) result }
 {
     let (i, _) = tag(b" ", i)?;
     charset_list(alloc, i)
 }
 
-#[tactic(auto, unfolding(crate::specs::Codes::bad_charset))]
+#[tactic(auto, using(imap_grammar::proofs::Memory::word_never), unfolding(crate::specs::Codes::bad_charset))]
 fn bad_charset(alloc: Global, i: &[u8]) -> IResult<&[u8], ResponseCode<'_>>
-    ensures { Gives (λ x. code_value x) result (step codes.bad_charset i.now) }
+    ensures steps { Gives (λ x. code_value x) result (step codes.bad_charset i.now) }
+    ensures memory { FailsOnlyIf (BeginsWord "BADCHARSET " i.now) result }
 {
     let (i, _) = word(b"BADCHARSET", i)?;
-    match charsets(alloc, i) {
-        Ok((rest, charsets)) => Ok((rest, ResponseCode::BadCharset(Some(charsets)))),
-        Err(Err::Error) => Ok((i, ResponseCode::BadCharset(None))),
-        Err(e) => Err(e),
+    match tried(charsets(alloc, i))? {
+        Some((rest, charsets)) => Ok((rest, ResponseCode::BadCharset(Some(charsets)))),
+        None => Ok((i, ResponseCode::BadCharset(None))),
     }
 }
 
 #[tactic(auto, unfolding(crate::specs::Codes::permanent_flags))]
 fn permanent_flags(alloc: Global, i: &[u8]) -> IResult<&[u8], ResponseCode<'_>>
-    ensures { Gives (λ x. code_value x) result (step codes.permanent_flags i.now) }
+    ensures steps { Gives (λ x. code_value x) result (step codes.permanent_flags i.now) }
+    ensures memory { FailsOnlyIf (BeginsWord "PERMANENTFLAGS " i.now) result }
 {
     worded!(i: b"PERMANENTFLAGS ", flag_list(alloc) => ResponseCode::PermanentFlags)
 }
 
 #[tactic(auto, unfolding(crate::specs::Codes::capabilities))]
 fn capabilities(alloc: Global, i: &[u8]) -> IResult<&[u8], ResponseCode<'_>>
-    ensures { Gives (λ x. code_value x) result (step codes.capabilities i.now) }
+    ensures steps { Gives (λ x. code_value x) result (step codes.capabilities i.now) }
+    ensures memory { FailsOnlyIf (BeginsWord "CAPABILITY" i.now) result }
 {
     let (i, capabilities) = capability_data(alloc, i)?;
     Ok((i, ResponseCode::Capabilities(capabilities)))
@@ -123,7 +128,8 @@ fn no_private(i: &[u8]) -> IResult<&[u8], ResponseCode<'_>>
 
 #[tactic(auto, unfolding(crate::specs::Codes::append_uid))]
 fn append_uid(alloc: Global, i: &[u8]) -> IResult<&[u8], ResponseCode<'_>>
-    ensures { Gives (λ x. code_value x) result (step codes.append_uid i.now) }
+    ensures steps { Gives (λ x. code_value x) result (step codes.append_uid i.now) }
+    ensures memory { FailsOnlyIf (BeginsWord "APPENDUID " i.now) result }
 {
     let (i, _) = word(b"APPENDUID ", i)?;
     let (i, uid_validity) = number(i)?;
@@ -134,7 +140,8 @@ fn append_uid(alloc: Global, i: &[u8]) -> IResult<&[u8], ResponseCode<'_>>
 
 #[tactic(auto, unfolding(crate::specs::Codes::copy_uid))]
 fn copy_uid(alloc: Global, i: &[u8]) -> IResult<&[u8], ResponseCode<'_>>
-    ensures { Gives (λ x. code_value x) result (step codes.copy_uid i.now) }
+    ensures steps { Gives (λ x. code_value x) result (step codes.copy_uid i.now) }
+    ensures memory { FailsOnlyIf (BeginsWord "COPYUID " i.now) result }
 {
     let (i, _) = word(b"COPYUID ", i)?;
     let (i, uid_validity) = number(i)?;
@@ -145,9 +152,10 @@ fn copy_uid(alloc: Global, i: &[u8]) -> IResult<&[u8], ResponseCode<'_>>
     Ok((i, ResponseCode::CopyUid(uid_validity, sources, copies)))
 }
 
-#[tactic(auto, unfolding(crate::specs::Codes::code_of_a))]
+#[tactic(auto, using(imap_grammar::proofs::Memory::word_never), unfolding(crate::specs::Codes::code_of_a))]
 fn code_of_a(alloc: Global, i: &[u8]) -> IResult<&[u8], ResponseCode<'_>>
-    ensures { Gives (λ x. code_value x) result (step codes.code_of_a i.now) }
+    ensures steps { Gives (λ x. code_value x) result (step codes.code_of_a i.now) }
+    ensures memory { FailsOnlyIf (BeginsWord "APPENDUID " i.now) result }
 {
     named!(b"ALERT", i, ResponseCode::Alert);
     append_uid(alloc, i)
@@ -155,15 +163,17 @@ fn code_of_a(alloc: Global, i: &[u8]) -> IResult<&[u8], ResponseCode<'_>>
 
 #[tactic(auto, unfolding(crate::specs::Codes::code_of_c))]
 fn code_of_c(alloc: Global, i: &[u8]) -> IResult<&[u8], ResponseCode<'_>>
-    ensures { Gives (λ x. code_value x) result (step codes.code_of_c i.now) }
+    ensures steps { Gives (λ x. code_value x) result (step codes.code_of_c i.now) }
+    ensures memory { FailsOnlyIf (BeginsWord "CAPABILITY" i.now ⊎ BeginsWord "COPYUID " i.now) result }
 {
     first!(capabilities(alloc, i));
     copy_uid(alloc, i)
 }
 
-#[tactic(auto, unfolding(crate::specs::Codes::code_of_p))]
+#[tactic(auto, using(imap_grammar::proofs::Memory::word_never), unfolding(crate::specs::Codes::code_of_p))]
 fn code_of_p(alloc: Global, i: &[u8]) -> IResult<&[u8], ResponseCode<'_>>
-    ensures { Gives (λ x. code_value x) result (step codes.code_of_p i.now) }
+    ensures steps { Gives (λ x. code_value x) result (step codes.code_of_p i.now) }
+    ensures memory { FailsOnlyIf (BeginsWord "PERMANENTFLAGS " i.now) result }
 {
     named!(b"PARSE", i, ResponseCode::Parse);
     permanent_flags(alloc, i)
@@ -210,7 +220,8 @@ fn metadata_code(i: &[u8]) -> IResult<&[u8], ResponseCode<'_>>
 // Of the codes those are tried, in order, that may start with the first byte.
 #[tactic(auto, using(crate::proofs::FirstBytes::code_none, crate::proofs::FirstBytes::code_is_of_a, crate::proofs::FirstBytes::code_is_bad_charset, crate::proofs::FirstBytes::code_is_of_c, crate::proofs::FirstBytes::code_is_highest_mod_seq, crate::proofs::FirstBytes::code_is_metadata, crate::proofs::FirstBytes::code_is_of_p, crate::proofs::FirstBytes::code_is_of_r, crate::proofs::FirstBytes::code_is_of_t, crate::proofs::FirstBytes::code_is_of_u, crate::proofs::FirstBytes::code_other))]
 fn any_code(alloc: Global, i: &[u8]) -> IResult<&[u8], ResponseCode<'_>>
-    ensures { Gives (λ x. code_value x) result (step codes.any_code i.now) }
+    ensures steps { Gives (λ x. code_value x) result (step codes.any_code i.now) }
+    ensures memory { FailsOnlyIf (BeginsListWord i.now) result }
 {
     match i.first() {
         None => Err(Err::Incomplete(Needed::Unknown)),
@@ -229,12 +240,13 @@ fn any_code(alloc: Global, i: &[u8]) -> IResult<&[u8], ResponseCode<'_>>
 
 /// A code in brackets (RFC 3501, section 9: resp-text-code; RFC 4551, RFC 4315, RFC 5464).
 ///
-/// Each range of its UIDs starts not above its end. It takes memory for lists, and for texts that are no UTF-8.
+/// Each range of its UIDs starts not above its end. It takes memory only behind the word of a code that may hold a list: for lists, and for texts that are no UTF-8.
 #[tactic(auto, using(imap_grammar::proofs::Agreement::answered), unfolding(crate::specs::Codes::response_code))]
 pub fn response_code(alloc: Global, i: &[u8]) -> IResult<&[u8], ResponseCode<'_>>
     ensures steps { Gives (λ x. code_value x) result (step codes.response_code i.now) }
     ensures answer { Answers codes.response_code (λ x. code_value x) i.now result }
     ensures ordered { IfOk result (λ x. HasOrderedUids x.1) }
+    ensures memory { FailsOnlyIf (BeginsListCode i.now) result }
 {
     let (i, _) = tag(b"[", i)?;
     let (i, code) = any_code(alloc, i)?;

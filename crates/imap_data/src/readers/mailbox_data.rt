@@ -1,9 +1,10 @@
 //! Data of a mailbox.
 
 ghost use Rattle.imap_grammar.specs.Answer.{Answers, Exactly, Gives};
+ghost use Rattle.imap_grammar.specs.Memory.{BeginsWord, FailsOnlyIf, SucceedsFor};
 ghost use Rattle.imap_grammar.specs.Step.{step};
 ghost use Rattle.imap_data.specs.MailboxData as rules;
-ghost use Rattle.imap_data.specs.MailboxValues.{mailbox_value};
+ghost use Rattle.imap_data.specs.MailboxValues.{mailbox_value, IsNumber};
 
 use super::counts::{found_numbers, status_items};
 use super::names::list_data;
@@ -56,7 +57,8 @@ fn search(alloc: Global, i: &[u8]) -> IResult<&[u8], MailboxDatum<'_>>
 
 #[tactic(auto, unfolding(crate::specs::MailboxData::labels))]
 fn labels(alloc: Global, i: &[u8]) -> IResult<&[u8], MailboxDatum<'_>>
-    ensures { Gives (λ x. mailbox_value x) result (step rules.labels i.now) }
+    ensures steps { Gives (λ x. mailbox_value x) result (step rules.labels i.now) }
+    ensures memory { FailsOnlyIf (BeginsWord "X-GM-LABELS " i.now) result }
 {
     let (rest, labels) = gmail_label_list(alloc, i)?;
     Ok((rest, MailboxDatum::GmailLabels(labels)))
@@ -113,9 +115,10 @@ fn datum_of_s(alloc: Global, i: &[u8]) -> IResult<&[u8], MailboxDatum<'_>>
     sort(alloc, i)
 }
 
-#[tactic(auto, unfolding(crate::specs::MailboxData::datum_of_x))]
+#[tactic(auto, using(imap_grammar::proofs::Memory::never_memory), unfolding(crate::specs::MailboxData::datum_of_x))]
 fn datum_of_x(alloc: Global, i: &[u8]) -> IResult<&[u8], MailboxDatum<'_>>
-    ensures { Gives (λ x. mailbox_value x) result (step rules.datum_of_x i.now) }
+    ensures steps { Gives (λ x. mailbox_value x) result (step rules.datum_of_x i.now) }
+    ensures memory { FailsOnlyIf (BeginsWord "X-GM-LABELS " i.now) result }
 {
     first!(labels(alloc, i));
     first!(msgid(i));
@@ -125,7 +128,8 @@ fn datum_of_x(alloc: Global, i: &[u8]) -> IResult<&[u8], MailboxDatum<'_>>
 // Of the data those are tried, in order, that may start with the first byte.
 #[tactic(auto, using(crate::proofs::FirstBytes::datum_none, crate::proofs::FirstBytes::datum_is_flags, crate::proofs::FirstBytes::datum_is_of_l, crate::proofs::FirstBytes::datum_is_of_s, crate::proofs::FirstBytes::datum_is_of_x, crate::proofs::FirstBytes::datum_is_of_number, crate::proofs::FirstBytes::datum_other))]
 fn datum(alloc: Global, i: &[u8]) -> IResult<&[u8], MailboxDatum<'_>>
-    ensures { Gives (λ x. mailbox_value x) result (step rules.mailbox_datum i.now) }
+    ensures steps { Gives (λ x. mailbox_value x) result (step rules.mailbox_datum i.now) }
+    ensures memory { SucceedsFor IsNumber rules.mailbox_datum i.now result }
 {
     match i.first() {
         None => Err(Err::Incomplete(Needed::Unknown)),
@@ -141,11 +145,12 @@ fn datum(alloc: Global, i: &[u8]) -> IResult<&[u8], MailboxDatum<'_>>
 /// Data of a mailbox: `FLAGS`, `EXISTS`, `LIST`, `LSUB`, `STATUS`, `RECENT`, `SEARCH`, `SORT` and Gmail's items, words in any case
 /// (RFC 3501, section 9: mailbox-data; RFC 5256, section 4; Gmail's X-GM-EXT-1).
 ///
-/// Its lists take memory, and texts only for bytes that are no UTF-8.
+/// Its lists take memory, and texts only for bytes that are no UTF-8. A datum that is one number takes none.
 #[tactic(auto, using(imap_grammar::proofs::Agreement::answered))]
 pub fn mailbox_datum(alloc: Global, i: &[u8]) -> IResult<&[u8], MailboxDatum<'_>>
     ensures steps { Gives (λ x. mailbox_value x) result (step rules.mailbox_datum i.now) }
     ensures answer { Answers rules.mailbox_datum (λ x. mailbox_value x) i.now result }
+    ensures memory { SucceedsFor IsNumber rules.mailbox_datum i.now result }
 {
     datum(alloc, i)
 }

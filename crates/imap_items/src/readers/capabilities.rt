@@ -3,6 +3,7 @@
 ghost use Rattle.std.specs.Prelude.{◌≡◌, map};
 ghost use Rattle.std.specs.List.{list_any};
 ghost use Rattle.imap_grammar.specs.Answer.{Answers, Exactly, Gives};
+ghost use Rattle.imap_grammar.specs.Memory.{BeginsWord, FailsOnlyIf};
 ghost use Rattle.imap_grammar.specs.Step.{step};
 ghost use Rattle.imap_items.specs.Capabilities as capabilities;
 ghost use Rattle.imap_items.specs.Capabilities.{capability_value};
@@ -83,7 +84,8 @@ fn has_revision(items: &[Capability<'_>]) -> bool
 
 #[tactic(auto, using(crate::proofs::Capabilities::any_of_values), unfolding(crate::specs::Capabilities::capability_data))]
 fn with_revision(alloc: Global, i: &[u8]) -> IResult<&[u8], Vec<Capability<'_>>>
-    ensures { Gives (λ x. map capability_value x.items) result (step capabilities.capability_data i.now) }
+    ensures steps { Gives (λ x. map capability_value x.items) result (step capabilities.capability_data i.now) }
+    ensures memory { FailsOnlyIf (BeginsWord "CAPABILITY" i.now) result }
 {
     let (i, _) = word(b"CAPABILITY", i)?;
     let (i, items) = spaced_capabilities(alloc, i)?;
@@ -95,11 +97,12 @@ fn with_revision(alloc: Global, i: &[u8]) -> IResult<&[u8], Vec<Capability<'_>>>
 
 /// `CAPABILITY` and capabilities (RFC 3501, section 9: capability-data).
 ///
-/// They are `Error` where none is `IMAP4rev1`.
+/// They are `Error` where none is `IMAP4rev1`. It takes memory for the list, and only behind that word.
 #[tactic(auto, using(imap_grammar::proofs::Agreement::answered))]
 pub fn capability_data(alloc: Global, i: &[u8]) -> IResult<&[u8], Vec<Capability<'_>>>
     ensures steps { Gives (λ x. map capability_value x.items) result (step capabilities.capability_data i.now) }
     ensures answer { Answers capabilities.capability_data (λ x. map capability_value x.items) i.now result }
+    ensures memory { FailsOnlyIf (BeginsWord "CAPABILITY" i.now) result }
 {
     with_revision(alloc, i)
 }

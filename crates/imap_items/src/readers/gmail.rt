@@ -2,6 +2,7 @@
 
 ghost use Rattle.std.specs.Prelude.{map};
 ghost use Rattle.imap_grammar.specs.Answer.{Answers, Exactly, Gives};
+ghost use Rattle.imap_grammar.specs.Memory.{BeginsWord, FailsOnlyIf};
 ghost use Rattle.imap_grammar.specs.Step.{step};
 ghost use Rattle.imap_grammar.specs.Text.{text_of};
 ghost use Rattle.imap_items.specs.Gmail as rules;
@@ -39,7 +40,8 @@ fn gmail_labels(alloc: Global, i: &[u8]) -> IResult<&[u8], Vec<CowStr<'_>>>
 
 #[tactic(auto, unfolding(crate::specs::Gmail::gmail_label_list))]
 fn labels(alloc: Global, i: &[u8]) -> IResult<&[u8], Vec<CowStr<'_>>>
-    ensures { Gives (λ x. map text_of x.items) result (step rules.gmail_label_list i.now) }
+    ensures steps { Gives (λ x. map text_of x.items) result (step rules.gmail_label_list i.now) }
+    ensures memory { FailsOnlyIf (BeginsWord "X-GM-LABELS " i.now) result }
 {
     let (rest, _) = word(b"X-GM-LABELS ", i)?;
     let (rest, labels) = gmail_labels(alloc, rest)?;
@@ -47,10 +49,13 @@ fn labels(alloc: Global, i: &[u8]) -> IResult<&[u8], Vec<CowStr<'_>>>
 }
 
 /// `X-GM-LABELS` and the labels of a message in parentheses, maybe none (Gmail's X-GM-EXT-1).
+///
+/// It takes memory only behind that word: for the list, and for texts that are no UTF-8.
 #[tactic(auto, using(imap_grammar::proofs::Agreement::answered))]
 pub fn gmail_label_list(alloc: Global, i: &[u8]) -> IResult<&[u8], Vec<CowStr<'_>>>
     ensures steps { Gives (λ x. map text_of x.items) result (step rules.gmail_label_list i.now) }
     ensures answer { Answers rules.gmail_label_list (λ x. map text_of x.items) i.now result }
+    ensures memory { FailsOnlyIf (BeginsWord "X-GM-LABELS " i.now) result }
 {
     labels(alloc, i)
 }

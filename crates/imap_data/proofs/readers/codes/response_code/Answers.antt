@@ -1,5 +1,18 @@
+use Rattle.std.proofs.Common.{rules}
+use Rattle.imap_grammar.specs.Tags.{tag}
+use Rattle.imap_grammar.proofs.Memory.{part_failed}
 use Rattle.imap_data.proofs.Codes.{ordered_code}
+use Rattle.imap_data.proofs.ListCodes.{list_code_failed}
 use Rattle.imap_data.proofs.readers.codes.response_code.Goals as goal
 
 pub returns-clause-ordered : goal.returns-clause-ordered
-returns-clause-ordered c = ordered_code _ _ _ c.in_ok-i-2.ensures
+returns-clause-ordered c = ordered_code _ _ _ c.in_ok-i-2.ensures.steps
+
+pub returns-in_err-i-clause-memory : goal.returns-in_err-i-clause-memory
+returns-in_err-i-clause-memory c = part_failed _ (tag "[") _ c.in_err-i.field-0.0 _ (search rules) c.in_err-i.ensures.steps
+
+pub returns-in_err-i-2-clause-memory : goal.returns-in_err-i-2-clause-memory
+returns-in_err-i-2-clause-memory c = list_code_failed _ _ _ c.in_err-i-2.field-0.0 _ (search rules) c.in_ok-i.ensures.steps c.in_err-i-2.ensures.memory
+
+pub returns-in_err-i-3-clause-memory : goal.returns-in_err-i-3-clause-memory
+returns-in_err-i-3-clause-memory c = part_failed _ (tag "]") _ c.in_err-i-3.field-0.0 _ (search rules) c.in_err-i-3.ensures.steps
