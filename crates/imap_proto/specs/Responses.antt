@@ -1,15 +1,14 @@
 -- Responses as values: texts by their bytes, and whether they lie in the input.
-use Rattle.std.specs.Prelude.{◌≡◌, ℕ, Bool, List, ◌∷◌, ◌++◌, Option, None, option_map, map, IfSome}
+use Rattle.std.specs.Prelude.{◌≡◌, ℕ, Bool, List, ◌∷◌, ◌++◌, Option, option_map, map}
 use Rattle.std.specs.String.{string_bytes}
 use Rattle.std.specs.declared.alloc.Global.{Global}
 use Rattle.std.specs.declared.vec.Vec.{Vec}
 use Rattle.imap_grammar.specs.Text.{Bytes, Text, text_of, lent_text}
 use Rattle.imap_bytes.specs.Sets.{ends}
 use Rattle.imap_items.specs.declared.types.statuses.Status.{Status}
-use Rattle.imap_data.specs.Codes.{CodeValue, code_value, lent_code, HoldsNoList, BeginsListCode}
+use Rattle.imap_data.specs.Codes.{CodeValue, code_value, lent_code}
 use Rattle.imap_items.specs.Capabilities.{CapabilityValue, capability_value, lent_capability}
-use Rattle.imap_data.specs.MailboxValues.{MailboxValue, mailbox_value, IsNumber, lent_mailbox}
-use Rattle.imap_items.specs.Copies.{IsLent}
+use Rattle.imap_data.specs.MailboxValues.{MailboxValue, mailbox_value, lent_mailbox}
 use Rattle.imap_extensions.specs.Quotas.{QuotaValue, QuotaRootValue, quota_value, quota_root_value, lent_quota, lent_quota_root}
 use Rattle.imap_extensions.specs.Ids.{IdValue, id_value, lent_id}
 use Rattle.imap_extensions.specs.Acls.{AclValue, ListRightsValue, MyRightsValue, acl_value, list_rights_value, my_rights_value, lent_acl, lent_list_rights, lent_my_rights}
@@ -60,20 +59,6 @@ response_value (code.Id map) = Id (option_map id_value map)
 response_value (code.Acl acl) = Acl (acl_value acl)
 response_value (code.ListRights rights) = ListRights (list_rights_value rights)
 response_value (code.MyRights rights) = MyRights (my_rights_value rights)
-
--- ---- values for which no memory is taken
-
--- It holds no list and no owned text. Where it has no code, its text doesn't begin as a code that may hold a list: such a code is tried first.
-abbrev pub TakesNone : OutcomeValue → Type 0
-TakesNone o = IfSome o.code HoldsNoList × IfSome o.information IsLent × (o.code ≡ None → IfSome o.information (λ t. ¬ (BeginsListCode t.bytes)))
-
--- no list, no map, no tag and no owned text
-abbrev pub NeedsNoMemory : ResponseValue → Type 0
-NeedsNoMemory (Continue o) = TakesNone o
-NeedsNoMemory (Data status o) = TakesNone o
-NeedsNoMemory (Expunge n) = Unit {0}
-NeedsNoMemory (MailboxData datum) = IsNumber datum
-NeedsNoMemory other = ⊥
 
 abbrev pub IsFetch : ResponseValue → Type 0
 IsFetch (Fetch n attributes) = Unit {0}

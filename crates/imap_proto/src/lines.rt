@@ -2,11 +2,10 @@
 
 ghost use Rattle.std.specs.Prelude.{◌≡◌, ◌<◌, length, position, IfSome};
 ghost use Rattle.imap_grammar.specs.Answer.{Exactly, Gives};
-ghost use Rattle.imap_grammar.specs.Memory.{SucceedsFor};
 ghost use Rattle.imap_grammar.specs.Step.{step};
 ghost use Rattle.imap_grammar.specs.Meaning.{outside};
 ghost use Rattle.imap_grammar.specs.Rule.{run1};
-ghost use Rattle.imap_proto.specs.Responses.{response_value, NeedsNoMemory};
+ghost use Rattle.imap_proto.specs.Responses.{response_value};
 ghost use Rattle.imap_proto.specs.Lines as rule;
 
 use crate::data::datum_line;
@@ -20,14 +19,13 @@ use std::alloc::Global;
 
 #[tactic(auto, unfolding(crate::specs::Lines::continuation))]
 fn continuation(alloc: Global, i: &[u8]) -> IResult<&[u8], Response<'_>>
-    ensures steps { Gives response_value result (step rule.continuation i.now) }
-    ensures memory { SucceedsFor NeedsNoMemory rule.continuation i.now result }
+    ensures { Gives response_value result (step rule.continuation i.now) }
 {
-    let (rest, _) = tag(b"+", i)?;
-    let (rest, _) = maybe_space(rest)?;
-    match outcome(alloc, rest) {
-        Ok((rest, outcome)) => match tag(b"\r\n", rest) {
-            Ok((rest, _)) => Ok((rest, Response::Continue(outcome))),
+    let (i, _) = tag(b"+", i)?;
+    let (i, _) = maybe_space(i)?;
+    match outcome(alloc, i) {
+        Ok((i, outcome)) => match tag(b"\r\n", i) {
+            Ok((i, _)) => Ok((i, Response::Continue(outcome))),
             Err(e) => Err(e),
         },
         Err(e) => Err(e),
@@ -36,11 +34,12 @@ fn continuation(alloc: Global, i: &[u8]) -> IResult<&[u8], Response<'_>>
 
 #[tactic(auto, unfolding(crate::specs::Lines::data_line))]
 fn data_line(alloc: Global, i: &[u8]) -> IResult<&[u8], Response<'_>>
-    ensures steps { Gives response_value result (step rule.data_line i.now) }
-    ensures memory { SucceedsFor NeedsNoMemory rule.data_line i.now result }
+    ensures { Gives response_value result (step rule.data_line i.now) }
 {
-    let (rest, _) = tag(b"* ", i)?;
-    datum_line(alloc, rest)
+    match tag(b"* ", i) {
+        Ok((i, _)) => datum_line(alloc, i),
+        Err(e) => Err(e),
+    }
 }
 
 fn is_tag_char(c: u8) -> bool
@@ -77,15 +76,15 @@ fn request_tag(i: &[u8]) -> IResult<&[u8], &str>
 fn tagged(alloc: Global, i: &[u8]) -> IResult<&[u8], Response<'_>>
     ensures { Gives response_value result (step rule.tagged i.now) }
 {
-    let (rest, tag_text) = request_tag(i)?;
-    let (rest, _) = tag(b" ", rest)?;
-    let (rest, status) = status(rest)?;
-    match spaced_outcome(alloc, rest) {
-        Ok((rest, outcome)) => {
-            let (rest, _) = tag(b"\r\n", rest)?;
+    let (i, tag_text) = request_tag(i)?;
+    let (i, _) = tag(b" ", i)?;
+    let (i, status) = status(i)?;
+    match spaced_outcome(alloc, i) {
+        Ok((i, outcome)) => {
+            let (i, _) = tag(b"\r\n", i)?;
             let tag = RequestId(String::from_str(alloc, tag_text)?);
             Ok((
-                rest,
+                i,
                 Response::Done {
                     tag,
                     status,
@@ -100,8 +99,7 @@ fn tagged(alloc: Global, i: &[u8]) -> IResult<&[u8], Response<'_>>
 /// A response: a continuation, a data line or a tagged line.
 #[tactic(auto, using(crate::proofs::FirstBytes::response_none, crate::proofs::FirstBytes::response_plus, crate::proofs::FirstBytes::response_star, crate::proofs::FirstBytes::response_other))]
 pub(crate) fn response(alloc: Global, i: &[u8]) -> IResult<&[u8], Response<'_>>
-    ensures steps { Gives response_value result (step rule.response i.now) }
-    ensures memory { SucceedsFor NeedsNoMemory rule.response i.now result }
+    ensures { Gives response_value result (step rule.response i.now) }
 {
     match i.first() {
         None | Some(b'+') => continuation(alloc, i),

@@ -2,17 +2,15 @@
 
 ghost use Rattle.std.specs.Prelude.{◌≡◌, option_map, string_bytes};
 ghost use Rattle.imap_grammar.specs.Answer.{Gives};
-ghost use Rattle.imap_grammar.specs.Memory.{SucceedsFor};
 ghost use Rattle.imap_grammar.specs.Step.{step};
 ghost use Rattle.imap_grammar.specs.Text.{text_of};
-ghost use Rattle.imap_proto.specs.Responses.{outcome_value, TakesNone};
+ghost use Rattle.imap_proto.specs.Responses.{outcome_value};
 ghost use Rattle.imap_proto.specs.Outcomes as outcomes;
 ghost use Rattle.imap_proto.specs.Outcomes.{after_first};
 
 use crate::outcome::Outcome;
-use imap_bytes::lists::tried;
 use imap_bytes::tags::tag;
-use imap_bytes::{IResult, first, text};
+use imap_bytes::{Err, IResult, first, text};
 use imap_data::readers::response_code;
 use std::alloc::Global;
 use std::borrow::CowStr;
@@ -64,30 +62,31 @@ fn behind_code(text: CowStr<'_>) -> Option<CowStr<'_>>
 
 #[tactic(auto, unfolding(crate::specs::Outcomes::outcome))]
 pub(crate) fn outcome(alloc: Global, i: &[u8]) -> IResult<&[u8], Outcome<'_>>
-    ensures steps { Gives outcome_value result (step outcomes.outcome i.now) }
-    ensures memory { SucceedsFor TakesNone outcomes.outcome i.now result }
+    ensures { Gives outcome_value result (step outcomes.outcome i.now) }
 {
-    match tried(response_code(alloc, i))? {
-        Some((rest, code)) => {
+    match response_code(alloc, i) {
+        Ok((rest, code)) => {
             let (rest, text) = text(alloc, rest)?;
             let (code, information) = (Some(code), behind_code(text));
             Ok((rest, Outcome { code, information }))
         }
-        None => {
+        Err(Err::Error) => {
             let (rest, text) = text(alloc, i)?;
             let (code, information) = (None, plain(text));
             Ok((rest, Outcome { code, information }))
         }
+        Err(e) => Err(e),
     }
 }
 
 #[tactic(auto, unfolding(crate::specs::Outcomes::spaced_outcome))]
 pub(crate) fn spaced_outcome(alloc: Global, i: &[u8]) -> IResult<&[u8], Outcome<'_>>
-    ensures steps { Gives outcome_value result (step outcomes.spaced_outcome i.now) }
-    ensures memory { SucceedsFor TakesNone outcomes.spaced_outcome i.now result }
+    ensures { Gives outcome_value result (step outcomes.spaced_outcome i.now) }
 {
-    if let Some((rest, _)) = tried(tag(b" ", i))? {
-        first!(outcome(alloc, rest));
+    match tag(b" ", i) {
+        Ok((rest, _)) => first!(outcome(alloc, rest)),
+        Err(Err::Error) => {}
+        Err(e) => return Err(e),
     }
     let (code, information) = (None, None);
     Ok((i, Outcome { code, information }))

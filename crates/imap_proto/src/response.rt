@@ -2,9 +2,8 @@
 
 ghost use Rattle.std.specs.Prelude.{◌≡◌, string_bytes, IfOk};
 ghost use Rattle.imap_grammar.specs.Answer.{Answers, Gives};
-ghost use Rattle.imap_grammar.specs.Memory.{SucceedsFor};
 ghost use Rattle.imap_grammar.specs.Step.{step};
-ghost use Rattle.imap_proto.specs.Responses.{response_value, NeedsNoMemory, EndsLine};
+ghost use Rattle.imap_proto.specs.Responses.{response_value, EndsLine};
 ghost use Rattle.imap_proto.specs.Lines as rule;
 
 use crate::lines;
@@ -80,15 +79,13 @@ impl<'a> Response<'a> {
     /// The response at the front of the message, and the bytes behind it (RFC 3501, section 9: response).
     ///
     /// `Error`: no bytes behind these make a response. `Incomplete`: more bytes are needed. `Failure`: memory ran out,
-    /// and nothing else. A response without list, map, tag and owned text takes no memory, unless its text begins as a code that
-    /// may hold a list. Texts borrow from the message exactly where their bytes are UTF-8, but for the keys of an ID map:
+    /// and nothing else. Texts borrow from the message exactly where their bytes are UTF-8, but for the keys of an ID map:
     /// of two equal keys either one may be kept. The message is only read.
     #[tactic(auto, using(imap_grammar::proofs::Agreement::answered, crate::proofs::Ending::line_ends))]
     pub fn parse(alloc: Global, msg: &'a [u8]) -> ParseResult<'a>
         ensures steps { Gives response_value result (step rule.response msg.now) }
         ensures answer { Answers rule.response response_value msg.now result }
         ensures line { IfOk result (λ x. EndsLine msg.now x.0.now) }
-        ensures memory { SucceedsFor NeedsNoMemory rule.response msg.now result }
     {
         lines::response(alloc, msg)
     }
