@@ -36,9 +36,9 @@ unfolding datum_of_x msgid thrid gmail_msgid gmail_thrid meaning
 labels_other v m rest b is = elim (reads datum_of_x m rest v is) [
   | inl y ↦ labels_made.each m v rest y
   | inr later ↦ elim (later.1) [
-      | inl y ↦ absurd (never_both "X-GM-LABELS " "X-GM-MSGID " m refl b (y.1.0.0, y.1.1.0, y.1.1.1.0, y.1.1.1.1))
-      | inr y ↦ absurd (never_both "X-GM-LABELS " "X-GM-THRID " m refl b (y.1.1.0.0, y.1.1.1.0, y.1.1.1.1.0, y.1.1.1.1.1))
-    ]
+    | inl y ↦ absurd (never_both "X-GM-LABELS " "X-GM-MSGID " m refl b (y.1.0.0, y.1.1.0, y.1.1.1.0, y.1.1.1.1))
+    | inr y ↦ absurd (never_both "X-GM-LABELS " "X-GM-THRID " m refl b (y.1.1.0.0, y.1.1.1.0, y.1.1.1.1.0, y.1.1.1.1.1))
+  ]
 ]
 
 pub solicited_other : Yields IsOther metadata_solicited

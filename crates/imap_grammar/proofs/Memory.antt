@@ -194,4 +194,3 @@ fails_apart P kind view r m (Ok x) g f apart_ = λ v rest is k. refl
 fails_apart P kind view r m (Err Error) g f apart_ = λ v rest is k. absurd cc
 fails_apart P kind view r m (Err (Incomplete n)) g f apart_ = λ v rest is k. absurd cc
 fails_apart P kind view r m (Err Failure) g f apart_ = λ v rest is k. absurd (apart_ v rest is k (f refl))
-
