@@ -3,6 +3,7 @@
 ghost use Rattle.std.specs.Prelude.{◌≡◌, ◌==◌, ◌<◌, ◌≤◌, ◌-◌, ℕ, Bool, length, take, position, IfSome};
 ghost use Rattle.std.specs.Option.{option_map, ForSome};
 ghost use Rattle.imap_grammar.specs.Answer.{Answers, Exactly};
+ghost use Rattle.imap_grammar.specs.Memory.{NeverFails};
 ghost use Rattle.imap_grammar.specs.Step.{step};
 ghost use Rattle.imap_grammar.specs.Meaning.{outside};
 ghost use Rattle.imap_grammar.specs.Rule.{tag_by, run0, run1};
@@ -42,6 +43,7 @@ macro_rules! first {
 pub fn tag<'a>(text: &[u8], i: &'a [u8]) -> IResult<&'a [u8], &'a [u8]>
     ensures steps { Exactly (λ x. x.now) result (step (tag_by ◌==◌ text.now) i.now) }
     ensures answer { Answers (tag_by ◌==◌ text.now) (λ x. x.now) i.now result }
+    ensures no_failure { NeverFails result }
 {
     sliced(i, at::tags::tag(text, i, 0))
 }
@@ -51,13 +53,15 @@ pub fn tag<'a>(text: &[u8], i: &'a [u8]) -> IResult<&'a [u8], &'a [u8]>
 pub fn word<'a>(text: &[u8], i: &'a [u8]) -> IResult<&'a [u8], &'a [u8]>
     ensures steps { Exactly (λ x. x.now) result (step (tag_by same_letter text.now) i.now) }
     ensures answer { Answers (tag_by same_letter text.now) (λ x. x.now) i.now result }
+    ensures no_failure { NeverFails result }
 {
     sliced(i, at::tags::word(text, i, 0))
 }
 
 /// A space, or nothing.
 pub fn maybe_space(i: &[u8]) -> IResult<&[u8], Option<&[u8]>>
-    ensures { Exactly (λ x. option_map (λ y. y.now) x) result (step tags.maybe_space i.now) }
+    ensures steps { Exactly (λ x. option_map (λ y. y.now) x) result (step tags.maybe_space i.now) }
+    ensures no_failure { NeverFails result }
 {
     match tag(b" ", i) {
         Ok((rest, space)) => Ok((rest, Some(space))),
@@ -69,7 +73,8 @@ pub fn maybe_space(i: &[u8]) -> IResult<&[u8], Option<&[u8]>>
 /// The bytes before the first that is outside a class, where that one stands at `end`.
 pub fn cut0(end: Option<usize>, i: &[u8]) -> IResult<&[u8], &[u8]>
     requires { ForSome end (λ n. n < length i.now) }
-    ensures { (class : ℕ → Bool) → end ≡ position (outside class) i.now → Exactly (λ x. x.now) result (step (run0 class) i.now) }
+    ensures steps { (class : ℕ → Bool) → end ≡ position (outside class) i.now → Exactly (λ x. x.now) result (step (run0 class) i.now) }
+    ensures no_failure { NeverFails result }
 {
     sliced(i, at::tags::cut0(end, i, 0))
 }
@@ -77,21 +82,24 @@ pub fn cut0(end: Option<usize>, i: &[u8]) -> IResult<&[u8], &[u8]>
 /// The same, of at least one byte.
 pub fn cut1(end: Option<usize>, i: &[u8]) -> IResult<&[u8], &[u8]>
     requires { ForSome end (λ n. n < length i.now) }
-    ensures { (class : ℕ → Bool) → end ≡ position (outside class) i.now → Exactly (λ x. x.now) result (step (run1 class) i.now) }
+    ensures steps { (class : ℕ → Bool) → end ≡ position (outside class) i.now → Exactly (λ x. x.now) result (step (run1 class) i.now) }
+    ensures no_failure { NeverFails result }
 {
     sliced(i, at::tags::cut1(end, i, 0))
 }
 
 /// Spaces and tabs, maybe none.
 pub fn blanks0(i: &[u8]) -> IResult<&[u8], &[u8]>
-    ensures { Exactly (λ x. x.now) result (step tags.blanks0 i.now) }
+    ensures steps { Exactly (λ x. x.now) result (step tags.blanks0 i.now) }
+    ensures no_failure { NeverFails result }
 {
     sliced(i, at::tags::blanks0(i, 0))
 }
 
 /// Spaces and tabs, at least one.
 pub fn blanks1(i: &[u8]) -> IResult<&[u8], &[u8]>
-    ensures { Exactly (λ x. x.now) result (step tags.blanks1 i.now) }
+    ensures steps { Exactly (λ x. x.now) result (step tags.blanks1 i.now) }
+    ensures no_failure { NeverFails result }
 {
     sliced(i, at::tags::blanks1(i, 0))
 }
