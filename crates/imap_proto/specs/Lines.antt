@@ -45,7 +45,7 @@ fetched = word " FETCH " ▹ attribute_list
 unfoldable pub fetch : Rule ResponseValue
 fetch = gives fetch_of (number ⨾ fetched)
 
-abbrev pub vanished_of : Bool × List (ℕ × ℕ) → ResponseValue
+abbrev pub vanished_of : Bool × List Range → ResponseValue
 vanished_of v = Vanished v.0 v.1
 
 unfoldable pub vanished_data : Rule ResponseValue
