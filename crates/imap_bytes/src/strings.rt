@@ -25,7 +25,7 @@ pub fn quoted(i: &[u8]) -> IResult<&[u8], &[u8]>
     sliced(i, at::strings::quoted(i, 0))
 }
 
-/// A literal: as many bytes as its header says, of any value (RFC 3501, section 4.3).
+/// A literal: as many bytes as its header says, of any value (RFC 3501, section 9: literal).
 ///
 /// Where fewer follow, `Needed::Size` is how many are missing.
 #[tactic(auto, using(imap_grammar::proofs::Agreement::exact_answered), unfolding(crate::specs::Strings::literal))]

@@ -1,5 +1,5 @@
 -- Where a reader may answer want of memory, and where it does not.
-use Rattle.std.specs.Prelude.{◌≡◌, ◌≢◌, Result, ℕ, List, ◌++◌, ◌⊎◌, IsTrue, codes, Ok, IfErr, IsOk}
+use Rattle.std.specs.Prelude.{◌≡◌, ◌≢◌, Result, ◌++◌, IsTrue, codes, Ok, IfErr, IsOk}
 use Prim.Native.String.{String}
 use Rattle.imap_grammar.specs.declared.answer.Err.{Err as Fault}
 use Rattle.imap_grammar.specs.declared.answer.Err.TheVariants.{Failure}

@@ -1,4 +1,4 @@
--- Canonical text: one text for each value. It is a list of pieces, which are bytes as they are, and literals (RFC 3501, section 4.3).
+-- Canonical text: one text for each value. It is a list of pieces, which are bytes as they are, and literals (RFC 3501, section 9: literal).
 use Rattle.std.specs.Prelude.{ℕ, ◌<◌, ◌^◌, List, [], ◌∷◌, ◌++◌, length, Option, None, Some, decimal, codes}
 use Prim.Native.String.{String}
 use Rattle.imap_grammar.specs.Text.{Bytes, Text}

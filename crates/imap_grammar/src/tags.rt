@@ -1,17 +1,16 @@
 //! Words, spaces and runs: the parts that other readers are made of. None takes memory.
 
-ghost use Rattle.std.specs.Prelude.{◌≡◌, ◌==◌, ◌<◌, ◌≤◌, ◌-◌, ℕ, Bool, length, take, position, IfSome};
+ghost use Rattle.std.specs.Prelude.{◌≡◌, ◌==◌, ◌<◌, ◌≤◌, ◌-◌, ℕ, Bool, length, take, position};
 ghost use Rattle.std.specs.Option.{option_map, ForSome};
 ghost use Rattle.imap_grammar.specs.Answer.{Answers, Exactly};
 ghost use Rattle.imap_grammar.specs.Memory.{NeverFails};
 ghost use Rattle.imap_grammar.specs.Step.{step};
 ghost use Rattle.imap_grammar.specs.Meaning.{outside};
 ghost use Rattle.imap_grammar.specs.Rule.{tag_by, run0, run1};
-ghost use Rattle.imap_grammar.specs.Classes as classes;
 ghost use Rattle.imap_grammar.specs.Tags as tags;
 ghost use Rattle.imap_grammar.specs.Tags.{same_letter};
 
-use crate::answer::{Err, IResult, Needed};
+use crate::answer::IResult;
 use crate::at;
 use crate::at::span::sliced;
 
@@ -34,6 +33,18 @@ macro_rules! first {
         match $answer {
             Err($crate::Err::Error) => {}
             other => return other,
+        }
+    };
+}
+
+/// Answers the reader's value as `Some`, and `None` where it denies: then nothing of `$i` is taken.
+#[macro_export]
+macro_rules! maybe {
+    ($answer:expr, $i:expr) => {
+        match $answer {
+            Ok((rest, value)) => Ok((rest, Some(value))),
+            Err($crate::Err::Error) => Ok(($i, None)),
+            Err(e) => Err(e),
         }
     };
 }
@@ -63,11 +74,7 @@ pub fn maybe_space(i: &[u8]) -> IResult<&[u8], Option<&[u8]>>
     ensures steps { Exactly (λ x. option_map (λ y. y.now) x) result (step tags.maybe_space i.now) }
     ensures no_failure { NeverFails result }
 {
-    match tag(b" ", i) {
-        Ok((rest, space)) => Ok((rest, Some(space))),
-        Err(Err::Error) => Ok((i, None)),
-        Err(e) => Err(e),
-    }
+    maybe!(tag(b" ", i), i)
 }
 
 /// The bytes before the first that is outside a class, where that one stands at `end`.

@@ -118,7 +118,7 @@ fn counted(count: usize, m: &[u8], p: usize) -> Result<(usize, Span), Err>
     Ok((q, Span { start: p, end: q }))
 }
 
-/// A literal: as many bytes as its header says, of any value (RFC 3501, section 4.3).
+/// A literal: as many bytes as its header says, of any value (RFC 3501, section 9: literal).
 ///
 /// Where fewer follow, `Needed::Size` is how many are missing.
 #[tactic(auto, using(imap_grammar::proofs::Agreement::exact_answered_at), unfolding(crate::specs::Strings::literal))]

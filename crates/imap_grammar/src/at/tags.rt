@@ -15,6 +15,7 @@ ghost use Rattle.imap_grammar.specs.Tags.{same_letter};
 use crate::answer::{Err, Needed};
 use crate::at::span::Span;
 use crate::classes::is_blank;
+use crate::maybe;
 
 // Whether the bytes are the same as far as both go.
 fn agrees(word: &[u8], i: &[u8]) -> bool
@@ -89,11 +90,7 @@ pub fn maybe_space(m: &[u8], p: usize) -> Result<(usize, Option<Span>), Err>
     ensures ahead { Ahead m.now p result }
     ensures no_failure { NeverFails result }
 {
-    match tag(b" ", m, p) {
-        Ok((q, space)) => Ok((q, Some(space))),
-        Err(Err::Error) => Ok((p, None)),
-        Err(e) => Err(e),
-    }
+    maybe!(tag(b" ", m, p), p)
 }
 
 /// The bytes before the first that is outside a class, where that one stands `end` behind p.
