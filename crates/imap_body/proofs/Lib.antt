@@ -4,3 +4,5 @@ pub mod AttributeFirstBytes
 pub mod SectionFirstBytes
 pub mod Standing
 pub mod SectionTexts
+pub mod Behind
+pub mod AttributeTexts

@@ -4,3 +4,4 @@ pub mod AttributeValues
 pub mod Attributes
 pub mod SpannedAttributes
 pub mod SectionTexts
+pub mod AttributeTexts

@@ -1,6 +1,5 @@
 //! Laws of the rules of this crate and of `imap_structure`, as contracts of functions that do nothing.
 
-ghost use Rattle.std.specs.Prelude.{ℕ};
 ghost use Rattle.imap_grammar.specs.Stable.{Stable};
 ghost use Rattle.imap_body.specs.Sections as sections;
 ghost use Rattle.imap_body.specs.Attributes as attributes;
@@ -9,9 +8,12 @@ ghost use Rattle.imap_structure.specs.Fields as fields;
 ghost use Rattle.imap_structure.specs.Extensions as extensions;
 ghost use Rattle.imap_structure.specs.Bodies as bodies;
 ghost use Rattle.std.specs.Option.{option_map};
-ghost use Rattle.imap_grammar.specs.ReadBack.{Keeps, Closes, as_is};
+ghost use Rattle.std.specs.Prelude.{ℕ, map};
+ghost use Rattle.imap_grammar.specs.ReadBack.{Keeps, Closes, EndsItem, as_is};
 ghost use Rattle.imap_shapes.specs.Lent.{lent_address, lent_addresses, lent_envelope, lent_params, lent_encoding, lent_fields, lent_disposition, lent_languages, lent_extension, lent_ext_1part, lent_ext_mpart, lent_body};
 ghost use Rattle.imap_body.specs.SectionTexts.{canonical_text, canonical_part, canonical_path, canonical_section, spells_message_text, spells_text, spells_part, spells_path, spells_section};
+ghost use Rattle.imap_body.specs.AttributeValues.{lent_attribute};
+ghost use Rattle.imap_body.specs.AttributeTexts.{canonical_attribute, canonical_attributes, spells_attribute, spells_attributes};
 ghost use Rattle.imap_structure.specs.EnvelopeTexts.{canonical_address, canonical_addresses, canonical_envelope, spells_address, spells_addresses, spells_envelope};
 ghost use Rattle.imap_structure.specs.FieldTexts.{canonical_params, canonical_encoding, canonical_fields, spells_params, spells_encoding, spells_fields};
 ghost use Rattle.imap_structure.specs.ExtensionTexts.{canonical_disposition, canonical_languages, canonical_extension, canonical_ext_1part, canonical_ext_mpart, spells_disposition, spells_languages, spells_extension, spells_ext_1part, spells_ext_mpart};
@@ -63,8 +65,8 @@ pub fn stable()
 {}
 
 /// What each rule takes spells the value that it yields. And a value that it yields on some bytes, it yields again on the value's canonical text, with all texts borrowed,
-/// and leaves exactly what follows: any bytes that begin with `)` or CR. A text too long for its length to be told as a literal is excepted.
-#[tactic(auto, using(crate::proofs::SectionTexts::keeps_section_msgtext, crate::proofs::SectionTexts::keeps_section_text, crate::proofs::SectionTexts::keeps_section_part, crate::proofs::SectionTexts::keeps_section_spec, crate::proofs::SectionTexts::keeps_section, imap_structure::proofs::EnvelopeTexts::keeps_address, imap_structure::proofs::EnvelopeTexts::keeps_addresses, imap_structure::proofs::EnvelopeTexts::keeps_envelope, imap_structure::proofs::FieldTexts::keeps_params, imap_structure::proofs::FieldTexts::keeps_encoding, imap_structure::proofs::FieldTexts::keeps_fields, imap_structure::proofs::ExtensionTexts::keeps_disposition, imap_structure::proofs::ExtensionTexts::keeps_language, imap_structure::proofs::ExtensionTexts::keeps_body_extension, imap_structure::proofs::ExtensionTexts::keeps_ext_1part, imap_structure::proofs::ExtensionTexts::keeps_ext_mpart, imap_structure::proofs::BodyTexts::keeps_body_structure))]
+/// and leaves exactly what follows: any bytes that begin with `)` or CR, and behind an attribute also with a space. A text too long for its length to be told as a literal is excepted.
+#[tactic(auto, using(crate::proofs::SectionTexts::keeps_section_msgtext, crate::proofs::SectionTexts::keeps_section_text, crate::proofs::SectionTexts::keeps_section_part, crate::proofs::SectionTexts::keeps_section_spec, crate::proofs::SectionTexts::keeps_section, imap_structure::proofs::EnvelopeTexts::keeps_address, imap_structure::proofs::EnvelopeTexts::keeps_addresses, imap_structure::proofs::EnvelopeTexts::keeps_envelope, imap_structure::proofs::FieldTexts::keeps_params, imap_structure::proofs::FieldTexts::keeps_encoding, imap_structure::proofs::FieldTexts::keeps_fields, imap_structure::proofs::ExtensionTexts::keeps_disposition, imap_structure::proofs::ExtensionTexts::keeps_language, imap_structure::proofs::ExtensionTexts::keeps_body_extension, imap_structure::proofs::ExtensionTexts::keeps_ext_1part, imap_structure::proofs::ExtensionTexts::keeps_ext_mpart, imap_structure::proofs::BodyTexts::keeps_body_structure, crate::proofs::AttributeTexts::keeps_body_section, crate::proofs::AttributeTexts::keeps_body_structure, crate::proofs::AttributeTexts::keeps_envelope, crate::proofs::AttributeTexts::keeps_internal_date, crate::proofs::AttributeTexts::keeps_flags, crate::proofs::AttributeTexts::keeps_mod_seq, crate::proofs::AttributeTexts::keeps_rfc822, crate::proofs::AttributeTexts::keeps_rfc822_header, crate::proofs::AttributeTexts::keeps_rfc822_size, crate::proofs::AttributeTexts::keeps_rfc822_text, crate::proofs::AttributeTexts::keeps_uid, crate::proofs::AttributeTexts::keeps_gmail_labels, crate::proofs::AttributeTexts::keeps_gmail_msgid, crate::proofs::AttributeTexts::keeps_gmail_thrid, crate::proofs::AttributeTexts::keeps_email_id, crate::proofs::AttributeTexts::keeps_thread_id, crate::proofs::AttributeTexts::keeps_unknown, crate::proofs::AttributeTexts::keeps_attribute, crate::proofs::AttributeTexts::keeps_attribute_list))]
 pub fn read_back()
     ensures section_msgtext { Keeps sections.section_msgtext as_is canonical_text spells_message_text Closes }
     ensures section_text { Keeps sections.section_text as_is canonical_text spells_text Closes }
@@ -85,4 +87,23 @@ pub fn read_back()
     ensures body_ext_mpart { Keeps extensions.body_ext_mpart lent_ext_mpart canonical_ext_mpart spells_ext_mpart Closes }
     ensures body { (level : ℕ) → Keeps (bodies.body level) lent_body canonical_body spells_body Closes }
     ensures body_structure { Keeps bodies.body_structure lent_body canonical_body spells_body Closes }
+    ensures msg_att_body_section { Keeps attributes.msg_att_body_section lent_attribute canonical_attribute spells_attribute EndsItem }
+    ensures msg_att_body_structure { Keeps attributes.msg_att_body_structure lent_attribute canonical_attribute spells_attribute EndsItem }
+    ensures msg_att_envelope { Keeps attributes.msg_att_envelope lent_attribute canonical_attribute spells_attribute EndsItem }
+    ensures msg_att_internal_date { Keeps attributes.msg_att_internal_date lent_attribute canonical_attribute spells_attribute EndsItem }
+    ensures msg_att_flags { Keeps attributes.msg_att_flags lent_attribute canonical_attribute spells_attribute EndsItem }
+    ensures msg_att_mod_seq { Keeps attributes.msg_att_mod_seq lent_attribute canonical_attribute spells_attribute EndsItem }
+    ensures msg_att_rfc822 { Keeps attributes.msg_att_rfc822 lent_attribute canonical_attribute spells_attribute EndsItem }
+    ensures msg_att_rfc822_header { Keeps attributes.msg_att_rfc822_header lent_attribute canonical_attribute spells_attribute EndsItem }
+    ensures msg_att_rfc822_size { Keeps attributes.msg_att_rfc822_size lent_attribute canonical_attribute spells_attribute EndsItem }
+    ensures msg_att_rfc822_text { Keeps attributes.msg_att_rfc822_text lent_attribute canonical_attribute spells_attribute EndsItem }
+    ensures msg_att_uid { Keeps attributes.msg_att_uid lent_attribute canonical_attribute spells_attribute EndsItem }
+    ensures msg_att_gmail_labels { Keeps attributes.msg_att_gmail_labels lent_attribute canonical_attribute spells_attribute EndsItem }
+    ensures msg_att_gmail_msgid { Keeps attributes.msg_att_gmail_msgid lent_attribute canonical_attribute spells_attribute EndsItem }
+    ensures msg_att_gmail_thrid { Keeps attributes.msg_att_gmail_thrid lent_attribute canonical_attribute spells_attribute EndsItem }
+    ensures msg_att_email_id { Keeps attributes.msg_att_email_id lent_attribute canonical_attribute spells_attribute EndsItem }
+    ensures msg_att_thread_id { Keeps attributes.msg_att_thread_id lent_attribute canonical_attribute spells_attribute EndsItem }
+    ensures msg_att_unknown { Keeps attributes.msg_att_unknown lent_attribute canonical_attribute spells_attribute EndsItem }
+    ensures attribute { Keeps attributes.attribute lent_attribute canonical_attribute spells_attribute EndsItem }
+    ensures attribute_list { Keeps attributes.attribute_list (map lent_attribute) canonical_attributes spells_attributes Closes }
 {}

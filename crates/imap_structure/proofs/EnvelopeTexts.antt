@@ -36,7 +36,7 @@ lent_already : (b : Option Bytes) → option_map as_text b ≡ lent_ntext (optio
 lent_already None = refl
 lent_already (Some b) = refl
 
-reads_byte_string : ReadsBack byte_string lent_ntext ntext Any
+pub reads_byte_string : ReadsBack byte_string lent_ntext ntext Any
 unfolding byte_string
 reads_byte_string = reads-gives (option_map as_text) (reads-same reads-nstring same_text) lent_already
 
@@ -44,7 +44,7 @@ same_bytes : (b : Option Bytes) (c : Bytes) → spells_nstring b c → spells_by
 same_bytes None c h = h
 same_bytes (Some b) c h = h
 
-byte_string_spells : Spells byte_string spells_bytes
+pub byte_string_spells : Spells byte_string spells_bytes
 unfolding byte_string
 byte_string_spells = spells-gives (option_map as_text) (spells-wider spells-nstring same_bytes)
 

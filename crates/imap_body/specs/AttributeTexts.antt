@@ -1,0 +1,94 @@
+-- The text of an attribute of a message: its word and its value.
+use Rattle.std.specs.Prelude.{ℕ, ◌<◌, ◌⊎◌, List, [], length, Option, None, Some, IsTrue}
+use Rattle.std.specs.Str.{is_utf8}
+use Rattle.imap_grammar.specs.Classes.{is_atom_char}
+use Rattle.imap_grammar.specs.Text.{Bytes, Text}
+use Rattle.imap_grammar.specs.Pieces.{Pieces, ◌then◌, words, space, number_text, plain, literal_text, ntext, list_text}
+use Rattle.imap_grammar.specs.ReadBack.{Texts}
+use Rattle.imap_grammar.specs.Spelling.{this, exactly, in_any_case, ◌and◌, all_of, maybe, nil_or, spells_number, spells_nstring, spells_string_text, spells_some_list}
+use Rattle.imap_items.specs.FlagTexts.{canonical_flag_list, spells_flag_list}
+use Rattle.imap_items.specs.GmailTexts.{canonical_label_list, canonical_msgid, canonical_thrid, spells_label_list, spells_msgid, spells_thrid}
+use Rattle.imap_structure.specs.EnvelopeTexts.{canonical_envelope, behind_space, spells_bytes, spells_envelope}
+use Rattle.imap_structure.specs.BodyTexts.{canonical_body, spells_body}
+use Rattle.imap_body.specs.SectionTexts.{canonical_section, spells_section}
+use Rattle.imap_body.specs.Attributes.{is_inside, is_bare}
+use Rattle.imap_body.specs.AttributeValues.{AttributeValue, BodySection, BodyStructure, Envelope, Flags, InternalDate, ModSeq, Rfc822, Rfc822Header, Rfc822Size, Rfc822Text, Uid, GmailLabels, GmailMsgId, GmailThrId, EmailId, ThreadId, Unknown}
+
+-- ---- canonical text
+
+-- from which byte the contents of a section were sent
+abbrev pub canonical_origin : Option ℕ → Pieces
+canonical_origin None = []
+canonical_origin (Some n) = words "<" then number_text n then words ">"
+
+-- an object's identifier, in brackets
+abbrev pub canonical_id : Text → Pieces
+canonical_id id = words "(" then plain id then words ")"
+
+abbrev pub canonical_nid : Option Text → Pieces
+canonical_nid None = words "NIL"
+canonical_nid (Some id) = canonical_id id
+
+-- an unknown attribute's name and value are not kept: `X NIL` stands for any
+abbrev pub canonical_attribute : AttributeValue → Pieces
+canonical_attribute (BodySection path origin contents) = words "BODY" then canonical_section path then canonical_origin origin then space then ntext contents
+canonical_attribute (BodyStructure body) = words "BODYSTRUCTURE " then canonical_body body
+canonical_attribute (Envelope envelope) = words "ENVELOPE " then canonical_envelope envelope
+canonical_attribute (InternalDate date) = words "INTERNALDATE " then literal_text date
+canonical_attribute (Flags flags) = words "FLAGS " then canonical_flag_list flags
+canonical_attribute (ModSeq n) = words "MODSEQ " then words "(" then number_text n then words ")"
+canonical_attribute (Rfc822 message) = words "RFC822 " then ntext message
+canonical_attribute (Rfc822Header header) = words "RFC822.HEADER " then ntext header
+canonical_attribute (Rfc822Size n) = words "RFC822.SIZE " then number_text n
+canonical_attribute (Rfc822Text text) = words "RFC822.TEXT " then ntext text
+canonical_attribute (Uid n) = words "UID " then number_text n
+canonical_attribute (GmailLabels labels) = canonical_label_list labels
+canonical_attribute (GmailMsgId n) = canonical_msgid n
+canonical_attribute (GmailThrId n) = canonical_thrid n
+canonical_attribute (EmailId id) = words "EMAILID " then canonical_id id
+canonical_attribute (ThreadId id) = words "THREADID " then canonical_nid id
+canonical_attribute Unknown = words "X NIL"
+
+abbrev pub canonical_attributes : List AttributeValue → Pieces
+canonical_attributes = list_text canonical_attribute
+
+-- ---- spelling
+
+abbrev pub spells_origin : Option ℕ → Texts
+spells_origin None = this []
+spells_origin (Some n) = exactly "<" and spells_number n and exactly ">"
+
+abbrev pub spells_id : Text → Texts
+spells_id id = exactly "(" and this id.bytes and exactly ")"
+
+-- any name: atom-chars that are UTF-8
+abbrev pub is_name : Texts
+is_name c = all_of is_atom_char c × (0 < length c) × IsTrue (is_utf8 c)
+
+-- any value: in brackets up to the first `)`, an nstring, or bytes other than SP and `)`; line ends may be among them
+abbrev pub is_any_value : Texts
+is_any_value c =
+    (exactly "(" and all_of is_inside and exactly ")") c
+    ⊎ (((v : Option Bytes) × spells_nstring v c) ⊎ (all_of is_bare c × (0 < length c)))
+
+abbrev pub spells_attribute : AttributeValue → Texts
+spells_attribute (BodySection path origin contents) = in_any_case "BODY" and spells_section path and spells_origin origin and behind_space (spells_bytes contents)
+spells_attribute (BodyStructure body) = in_any_case "BODYSTRUCTURE " and spells_body body
+spells_attribute (Envelope envelope) = in_any_case "ENVELOPE " and spells_envelope envelope
+spells_attribute (InternalDate date) = in_any_case "INTERNALDATE " and spells_string_text date
+spells_attribute (Flags flags) = in_any_case "FLAGS " and spells_flag_list flags
+spells_attribute (ModSeq n) = in_any_case "MODSEQ " and exactly "(" and spells_number n and exactly ")"
+spells_attribute (Rfc822 message) = in_any_case "RFC822 " and spells_bytes message
+spells_attribute (Rfc822Header header) = in_any_case "RFC822.HEADER " and maybe (exactly " ") and spells_bytes header
+spells_attribute (Rfc822Size n) = in_any_case "RFC822.SIZE " and spells_number n
+spells_attribute (Rfc822Text text) = in_any_case "RFC822.TEXT " and spells_bytes text
+spells_attribute (Uid n) = in_any_case "UID " and spells_number n
+spells_attribute (GmailLabels labels) = spells_label_list labels
+spells_attribute (GmailMsgId n) = spells_msgid n
+spells_attribute (GmailThrId n) = spells_thrid n
+spells_attribute (EmailId id) = in_any_case "EMAILID " and spells_id id
+spells_attribute (ThreadId id) = in_any_case "THREADID " and nil_or spells_id id
+spells_attribute Unknown = is_name and exactly " " and is_any_value
+
+abbrev pub spells_attributes : List AttributeValue → Texts
+spells_attributes = spells_some_list spells_attribute
