@@ -136,8 +136,8 @@ over_none (Some v) = refl
 pub put_owned_entries : (m : IdTable) → IsDistinct same_bytes (map (λ e. e.0) m.entries) → put_entries empty (map owned_of m.entries) ≡ owned_id (id_value m)
 put_owned_entries m h = alike (put_entries empty (map owned_of m.entries)) (owned_id (id_value m))
     (λ q. get-put_entries m.entries empty q h ∙ ap (or_else (find (slice_cmp nat_cmp) q (map owned_of m.entries))) (get-empty (slice_cmp nat_cmp) q) ∙ over_none (find (slice_cmp nat_cmp) q (map owned_of m.entries))
-        ∙ ap (find (slice_cmp nat_cmp) q) (sym (map-map owned_entry entry_value m.entries)) ∙ find_changed owned_text q (map entry_value m.entries)
-        ∙ ap (option_map owned_text) (sym (get-from_entries nat_list_cmp_total (map entry_value m.entries) q)) ∙ sym (get-changed owned_text (id_value m) q))
+    ∙ ap (find (slice_cmp nat_cmp) q) (sym (map-map owned_entry entry_value m.entries)) ∙ find_changed owned_text q (map entry_value m.entries)
+    ∙ ap (option_map owned_text) (sym (get-from_entries nat_list_cmp_total (map entry_value m.entries) q)) ∙ sym (get-changed owned_text (id_value m) q))
 
 pub bytes_said : (x : CowStr Global) → (text_of x).bytes ≡ cow_str_bytes x
 bytes_said (Borrowed s) = refl

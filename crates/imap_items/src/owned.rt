@@ -1,9 +1,11 @@
 //! Owned texts: what a value has once it borrows nothing. An owned text is moved.
 
-ghost use Rattle.std.specs.Prelude.{◌≡◌, map, IfOk, IsOk};
+ghost use Rattle.std.specs.Prelude.{◌≡◌, map, option_map, IfOk, IsOk};
 ghost use Rattle.imap_grammar.specs.Text.{text_of};
-ghost use Rattle.imap_items.specs.Owned.{owned_text as owned, IsOwned};
+ghost use Rattle.imap_items.specs.Capabilities.{capability_value};
+ghost use Rattle.imap_items.specs.Owned.{owned_text as owned, owned_capability, IsOwned};
 
+use crate::types::capabilities::Capability;
 use std::alloc::{AllocError, Global};
 use std::borrow::CowStr;
 
@@ -18,6 +20,19 @@ pub fn owned_text(alloc: Global, text: CowStr<'_>) -> Result<CowStr<'static>, Al
     }
 }
 
+/// The same, owned, of a text that may be missing.
+pub fn owned_optional_text(
+    alloc: Global,
+    text: Option<CowStr<'_>>,
+) -> Result<Option<CowStr<'static>>, AllocError>
+    ensures { IfOk result (λ t. option_map text_of t ≡ option_map owned (option_map text_of text.entry)) }
+{
+    Ok(match text {
+        None => None,
+        Some(text) => Some(owned_text(alloc, text)?),
+    })
+}
+
 /// The same texts, owned. It takes memory for the list, and for borrowed texts; `Err` where there is none.
 pub fn owned_texts(
     alloc: Global,
@@ -28,6 +43,20 @@ pub fn owned_texts(
     let mut owned = Vec::with_capacity(alloc, texts.len())?;
     for text in texts {
         owned.push(owned_text(alloc, text)?)?;
+    }
+    Ok(owned)
+}
+
+/// The same capabilities, their texts owned. It takes memory for the list, and for borrowed texts; `Err` where there is none.
+pub fn owned_capabilities(
+    alloc: Global,
+    capabilities: Vec<Capability<'_>>,
+) -> Result<Vec<Capability<'static>>, AllocError>
+    ensures { IfOk result (λ v. map capability_value v.items ≡ map owned_capability (map capability_value capabilities.entry.items)) }
+{
+    let mut owned = Vec::with_capacity(alloc, capabilities.len())?;
+    for capability in capabilities {
+        owned.push(capability.into_owned(alloc)?)?;
     }
     Ok(owned)
 }

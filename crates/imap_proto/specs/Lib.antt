@@ -2,3 +2,4 @@ pub mod Responses
 pub mod Outcomes
 pub mod Lines
 pub mod Kept
+pub mod Owned

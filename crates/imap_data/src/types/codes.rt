@@ -2,12 +2,11 @@
 
 ghost use Rattle.std.specs.Prelude.{◌≡◌, map, option_map, IfOk};
 ghost use Rattle.imap_grammar.specs.Text.{text_of};
-ghost use Rattle.imap_items.specs.Capabilities.{capability_value};
-ghost use Rattle.imap_items.specs.Owned.{owned_text as owned, owned_capability};
+ghost use Rattle.imap_items.specs.Owned.{owned_text as owned};
 ghost use Rattle.imap_data.specs.Codes.{code_value};
 ghost use Rattle.imap_data.specs.Owned.{owned_code};
 
-use imap_items::owned::owned_texts;
+use imap_items::owned::{owned_capabilities, owned_texts};
 use imap_items::{Capability, UidSetMember};
 use std::alloc::{AllocError, Global};
 use std::borrow::CowStr;
@@ -65,19 +64,6 @@ fn owned_charsets(
         None => None,
         Some(charsets) => Some(owned_texts(alloc, charsets)?),
     })
-}
-
-fn owned_capabilities(
-    alloc: Global,
-    capabilities: Vec<Capability<'_>>,
-) -> Result<Vec<Capability<'static>>, AllocError>
-    ensures { IfOk result (λ v. map capability_value v.items ≡ map owned_capability (map capability_value capabilities.entry.items)) }
-{
-    let mut owned = Vec::with_capacity(alloc, capabilities.len())?;
-    for capability in capabilities {
-        owned.push(capability.into_owned(alloc)?)?;
-    }
-    Ok(owned)
 }
 
 impl<'a> ResponseCode<'a> {

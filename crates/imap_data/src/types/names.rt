@@ -3,12 +3,11 @@
 ghost use Rattle.std.specs.Prelude.{◌≡◌, IfOk, IsOk, map};
 ghost use Rattle.std.specs.Option.{option_map};
 ghost use Rattle.imap_grammar.specs.Text.{text_of};
-ghost use Rattle.imap_items.specs.Owned.{owned_text as owned};
 ghost use Rattle.imap_data.specs.Names.{attribute_value, list_value, IsLentAttribute};
 ghost use Rattle.imap_data.specs.Owned.{owned_attribute, owned_list};
 
 use imap_items::copies::copied_text;
-use imap_items::owned::owned_text;
+use imap_items::owned::{owned_optional_text, owned_text};
 use std::alloc::{AllocError, Global};
 use std::borrow::CowStr;
 
@@ -129,18 +128,6 @@ fn owned_attributes(
     Ok(owned)
 }
 
-fn owned_delimiter(
-    alloc: Global,
-    delimiter: Option<CowStr<'_>>,
-) -> Result<Option<CowStr<'static>>, AllocError>
-    ensures { IfOk result (λ t. option_map text_of t ≡ option_map owned (option_map text_of delimiter.entry)) }
-{
-    Ok(match delimiter {
-        None => None,
-        Some(text) => Some(owned_text(alloc, text)?),
-    })
-}
-
 impl<'a> MailboxListData<'a> {
     /// A copy. It takes memory for the attributes and for owned texts; `Err` where there is none.
     pub fn clone(&self) -> Result<Self, AllocError>
@@ -159,7 +146,7 @@ impl<'a> MailboxListData<'a> {
     {
         Ok(MailboxListData {
             name_attributes: owned_attributes(alloc, self.name_attributes)?,
-            delimiter: owned_delimiter(alloc, self.delimiter)?,
+            delimiter: owned_optional_text(alloc, self.delimiter)?,
             name: owned_text(alloc, self.name)?,
         })
     }

@@ -54,9 +54,10 @@ impl<'a> AclEntry<'a> {
     pub fn into_owned(self, alloc: Global) -> Result<AclEntry<'static>, AllocError>
         ensures { IfOk result (λ entry. acl_entry_value entry ≡ owned_acl_entry (acl_entry_value self.entry)) }
     {
+        let AclEntry { identifier, rights } = self;
         Ok(AclEntry {
-            identifier: owned_text(alloc, self.identifier)?,
-            rights: self.rights,
+            identifier: owned_text(alloc, identifier)?,
+            rights,
         })
     }
 }
