@@ -5,3 +5,4 @@ pub mod Attributes
 pub mod SpannedAttributes
 pub mod SectionTexts
 pub mod AttributeTexts
+pub mod Changed

@@ -8,3 +8,4 @@ pub mod CodeTexts
 pub mod NameTexts
 pub mod AnnotationTexts
 pub mod MailboxDataTexts
+pub mod Owned

@@ -1,19 +1,23 @@
 -- What a table of texts holds, as a finite map.
-use Rattle.std.proofs.Common.{◌≡◌, List, [], ◌∷◌, refl, sym, ap, ◌∙◌, Some, Bool, true, false, cond, map, nat_eq, Global}
+use Rattle.std.proofs.Common.{◌≡◌, List, [], ◌∷◌, refl, sym, ap, ◌∙◌, subst, Option, Some, None, Bool, true, false, cond, map, nat_eq, Global}
 use Rattle.std.specs.Prelude.{option_map}
 use Rattle.std.specs.Ordering.{nat_cmp, eq_by_cmp}
 use Rattle.std.specs.Cow.{cow_str_bytes}
 use Rattle.std.specs.Cmp.{on_equiv}
-use Rattle.std.specs.Cmp.Lexicographic.{slice_cmp, pointwise, texts_ties, nat_list_cmp_total, nat_list_eq_equiv}
+use Rattle.std.specs.Cmp.Lexicographic.{slice_cmp, pointwise, texts_ties, same_text, nat_list_cmp_total, nat_list_eq_equiv}
 use Rattle.std.specs.declared.borrow.CowStr.{CowStr}
-use Rattle.std.specs.declared.borrow.CowStr.TheVariants.{Borrowed}
+use Rattle.std.specs.declared.borrow.CowStr.TheVariants.{Borrowed, Owned}
 use Rattle.std.specs.Map.{lookup}
-use Rattle.std.specs.FinMap.{insert, entries, get, find, get-entries, get-from_entries, get-insert, same_map, slice_cmp-IsAntisymmetric, nat_cmp-IsAntisymmetric}
+use Rattle.std.specs.List.{IsDistinct, AllByRecursion}
+use Rattle.std.specs.FinMap.{insert, empty, entries, from_entries, get, find, get-empty, get-entries, get-from_entries, get-insert, same_map, slice_cmp-IsAntisymmetric, nat_cmp-IsAntisymmetric}
 use Rattle.std.specs.HashMap as hash
 use Rattle.std.specs.HashMap.Eq.{get_from_hash_map_eq, hash_map_eq_from_get}
+use Rattle.std.proofs.lemmas.Simd.{map-map}
 use Rattle.imap_grammar.specs.Text.{Bytes, Text, text_of, lent_text}
 use Rattle.imap_grammar.proofs.Seen.{Tells, option_tells, option_twice, texts_tell}
-use Rattle.imap_extensions.specs.Ids.{IdValue, IdTable, entry_value, id_value, lent_entry, lent_id, id_content}
+use Rattle.imap_items.specs.Owned.{owned_text}
+use Rattle.imap_extensions.specs.Ids.{IdValue, IdTable, entry_value, id_value, lent_id, id_content}
+use Rattle.imap_extensions.specs.Owned.{owned_entry, owned_id}
 
 abbrev same_bytes : CowStr Global → CowStr Global → Bool
 same_bytes x y = pointwise nat_eq (cow_str_bytes x) (cow_str_bytes y)
@@ -50,15 +54,25 @@ id_value-insert m n k v updates = alike (id_value n) (insert (id_value m) (cow_s
 
 -- ---- equality
 
-find_lent : (q : Bytes) (es : List (Bytes × Text)) → find (slice_cmp nat_cmp) q (map lent_entry es) ≡ option_map lent_text (find (slice_cmp nat_cmp) q es)
-find_lent q [] = refl
-find_lent q (e ∷ es) = elim (eq_by_cmp (slice_cmp nat_cmp) q e.0) as (λ b. cond b (Some (lent_text e.1)) (find (slice_cmp nat_cmp) q (map lent_entry es)) ≡ option_map lent_text (cond b (Some e.1) (find (slice_cmp nat_cmp) q es))) [
+-- a map whose texts are changed has the changed text at each key
+abbrev changed_entry : (Text → Text) → Bytes × Text → Bytes × Text
+changed_entry f e = (e.0, f e.1)
+
+abbrev changed_id : (Text → Text) → IdValue → IdValue
+changed_id f m = from_entries (map (changed_entry f) (entries m))
+
+find_changed : (f : Text → Text) (q : Bytes) (es : List (Bytes × Text)) → find (slice_cmp nat_cmp) q (map (changed_entry f) es) ≡ option_map f (find (slice_cmp nat_cmp) q es)
+find_changed f q [] = refl
+find_changed f q (e ∷ es) = elim (eq_by_cmp (slice_cmp nat_cmp) q e.0) as (λ b. cond b (Some (f e.1)) (find (slice_cmp nat_cmp) q (map (changed_entry f) es)) ≡ option_map f (cond b (Some e.1) (find (slice_cmp nat_cmp) q es))) [
   | true ↦ refl
-  | false ↦ find_lent q es
+  | false ↦ find_changed f q es
 ]
 
+get-changed : (f : Text → Text) (m : IdValue) (q : Bytes) → get (changed_id f m) q ≡ option_map f (get m q)
+get-changed f m q = get-from_entries nat_list_cmp_total (map (changed_entry f) (entries m)) q ∙ find_changed f q (entries m) ∙ ap (option_map f) (sym (get-entries m q))
+
 pub get-lent_id : (m : IdValue) (q : Bytes) → get (lent_id m) q ≡ option_map lent_text (get m q)
-get-lent_id m q = get-from_entries nat_list_cmp_total (map lent_entry (entries m)) q ∙ find_lent q (entries m) ∙ ap (option_map lent_text) (sym (get-entries m q))
+get-lent_id m q = get-changed lent_text m q
 
 abbrev lent_of : CowStr Global → Text
 lent_of x = lent_text (text_of x)
@@ -74,3 +88,57 @@ tables_tell = record {
       (λ q. get-id_content m (key_of q) ∙ (option_tells _ _ texts_tell).same _ _ (get_from_hash_map_eq _ _ (on_equiv cow_str_bytes nat_list_eq_equiv) m n h (key_of q)) ∙ sym (get-id_content n (key_of q)));
   equal = λ m n h. hash_map_eq_from_get _ _ m n (λ q. (option_tells _ _ texts_tell).equal _ _ (sym (get-id_content m q) ∙ ap (λ v. get v (cow_str_bytes q)) h ∙ get-id_content n q));
 }
+
+-- ---- owned maps: entries of distinct keys that are put in turn
+
+abbrev pub put_entries : IdValue → List (Bytes × Text) → IdValue
+put_entries m [] = m
+put_entries m (e ∷ es) = put_entries (insert m e.0 e.1) es
+
+-- an entry with its value owned
+abbrev pub owned_of : CowStr Global × CowStr Global → Bytes × Text
+owned_of e = owned_entry (entry_value e)
+
+or_else : Option Text → Option Text → Option Text
+or_else None d = d
+or_else (Some v) d = Some v
+
+abbrev Differs : Bytes → List (CowStr Global × CowStr Global) → Type 0
+Differs k es = AllByRecursion (λ y. pointwise nat_eq k (cow_str_bytes y) ≡ false) (map (λ e. e.0) es)
+
+none_of : (k : Bytes) (es : List (CowStr Global × CowStr Global)) → Differs k es → find (slice_cmp nat_cmp) k (map owned_of es) ≡ None
+none_of k [] h = refl
+none_of k (e ∷ es) h = ap (λ b. cond b (Some (owned_text (text_of e.1))) (find (slice_cmp nat_cmp) k (map owned_of es))) (sym (texts_ties k (cow_str_bytes e.0)) ∙ h.0) ∙ none_of k es h.1
+
+module _ (q k : Bytes) (v : Text) (es : List (CowStr Global × CowStr Global)) (m : IdValue) where
+  chosen : (b : Bool) → pointwise nat_eq q k ≡ b → Differs k es
+      → or_else (find (slice_cmp nat_cmp) q (map owned_of es)) (cond b (Some v) (get m q)) ≡ or_else (cond b (Some v) (find (slice_cmp nat_cmp) q (map owned_of es))) (get m q)
+  unfolding or_else
+  chosen true is h = ap (λ f. or_else f (Some v)) (subst (λ z. find (slice_cmp nat_cmp) z (map owned_of es) ≡ None) (sym (same_text q k (sym is))) (none_of k es h))
+  chosen false is h = refl
+
+get-put_entries : (es : List (CowStr Global × CowStr Global)) (m : IdValue) (q : Bytes) → IsDistinct same_bytes (map (λ e. e.0) es)
+    → get (put_entries m (map owned_of es)) q ≡ or_else (find (slice_cmp nat_cmp) q (map owned_of es)) (get m q)
+unfolding or_else IsDistinct
+get-put_entries [] m q h = refl
+get-put_entries (e ∷ es) m q h =
+    get-put_entries es (insert m (cow_str_bytes e.0) (owned_text (text_of e.1))) q h.1
+    ∙ ap (or_else (find (slice_cmp nat_cmp) q (map owned_of es))) (get-insert nat_list_cmp_total m (cow_str_bytes e.0) (owned_text (text_of e.1)) q ∙ ap (λ b. cond b (Some (owned_text (text_of e.1))) (get m q)) (sym (texts_ties q (cow_str_bytes e.0))))
+    ∙ chosen q (cow_str_bytes e.0) (owned_text (text_of e.1)) es m (pointwise nat_eq q (cow_str_bytes e.0)) refl h.0
+    ∙ ap (λ b. or_else (cond b (Some (owned_text (text_of e.1))) (find (slice_cmp nat_cmp) q (map owned_of es))) (get m q)) (texts_ties q (cow_str_bytes e.0))
+
+over_none : (o : Option Text) → or_else o None ≡ o
+unfolding or_else
+over_none None = refl
+over_none (Some v) = refl
+
+-- all entries of a table put in turn into no map are the owned map
+pub put_owned_entries : (m : IdTable) → IsDistinct same_bytes (map (λ e. e.0) m.entries) → put_entries empty (map owned_of m.entries) ≡ owned_id (id_value m)
+put_owned_entries m h = alike (put_entries empty (map owned_of m.entries)) (owned_id (id_value m))
+    (λ q. get-put_entries m.entries empty q h ∙ ap (or_else (find (slice_cmp nat_cmp) q (map owned_of m.entries))) (get-empty (slice_cmp nat_cmp) q) ∙ over_none (find (slice_cmp nat_cmp) q (map owned_of m.entries))
+    ∙ ap (find (slice_cmp nat_cmp) q) (sym (map-map owned_entry entry_value m.entries)) ∙ find_changed owned_text q (map entry_value m.entries)
+    ∙ ap (option_map owned_text) (sym (get-from_entries nat_list_cmp_total (map entry_value m.entries) q)) ∙ sym (get-changed owned_text (id_value m) q))
+
+pub bytes_said : (x : CowStr Global) → (text_of x).bytes ≡ cow_str_bytes x
+bytes_said (Borrowed s) = refl
+bytes_said (Owned s) = refl

@@ -6,3 +6,4 @@ pub mod QuotaTexts
 pub mod IdTexts
 pub mod VanishingTexts
 pub mod AclTexts
+pub mod Owned

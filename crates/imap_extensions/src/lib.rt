@@ -6,5 +6,5 @@ pub mod readers;
 mod types;
 
 pub use types::acls::{Acl, AclEntry, ListRights, MyRights};
-pub use types::ids::IdMap;
+pub use types::ids::{IdMap, owned_id_map};
 pub use types::quotas::{Quota, QuotaResource, QuotaResourceName, QuotaRoot};

@@ -13,4 +13,5 @@ pub mod UidSetTexts
 pub mod MailboxTexts
 pub mod RightTexts
 pub mod Copies
+pub mod Owned
 pub mod Spanned

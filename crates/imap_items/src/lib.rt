@@ -4,6 +4,7 @@
 pub mod at;
 pub mod copies;
 pub mod laws;
+pub mod owned;
 pub mod readers;
 mod types;
 

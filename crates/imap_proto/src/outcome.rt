@@ -1,4 +1,14 @@
+//! What a status line says besides its status.
+
+ghost use Rattle.std.specs.Prelude.{◌≡◌, option_map, IfOk};
+ghost use Rattle.imap_data.specs.Codes.{code_value};
+ghost use Rattle.imap_data.specs.Owned.{owned_code as owned};
+ghost use Rattle.imap_proto.specs.Responses.{outcome_value};
+ghost use Rattle.imap_proto.specs.Owned.{owned_outcome};
+
 use imap_data::ResponseCode;
+use imap_items::owned::owned_optional_text;
+use std::alloc::{AllocError, Global};
 use std::borrow::CowStr;
 
 /// What a status line says besides its status (RFC 3501, section 7.1).
@@ -8,4 +18,28 @@ pub struct Outcome<'a> {
     pub code: Option<ResponseCode<'a>>,
     /// The text for a person, if there is any.
     pub information: Option<CowStr<'a>>,
+}
+
+fn owned_code(
+    alloc: Global,
+    code: Option<ResponseCode<'_>>,
+) -> Result<Option<ResponseCode<'static>>, AllocError>
+    ensures { IfOk result (λ c. option_map code_value c ≡ option_map owned (option_map code_value code.entry)) }
+{
+    Ok(match code {
+        None => None,
+        Some(code) => Some(code.into_owned(alloc)?),
+    })
+}
+
+impl<'a> Outcome<'a> {
+    /// The same outcome with all texts owned. It takes memory; `Err` where there is none.
+    pub fn into_owned(self, alloc: Global) -> Result<Outcome<'static>, AllocError>
+        ensures { IfOk result (λ o. outcome_value o ≡ owned_outcome (outcome_value self.entry)) }
+    {
+        Ok(Outcome {
+            code: owned_code(alloc, self.code)?,
+            information: owned_optional_text(alloc, self.information)?,
+        })
+    }
 }

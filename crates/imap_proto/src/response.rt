@@ -1,9 +1,14 @@
 //! Responses.
 
-ghost use Rattle.std.specs.Prelude.{◌≡◌, string_bytes, IfOk};
+ghost use Rattle.std.specs.Prelude.{◌≡◌, map, option_map, string_bytes, IfOk};
 ghost use Rattle.imap_grammar.specs.Answer.{Answers, Gives};
 ghost use Rattle.imap_grammar.specs.Step.{step};
+ghost use Rattle.imap_extensions.specs.Ids.{id_value};
+ghost use Rattle.imap_extensions.specs.Owned.{owned_id as owned_map};
+ghost use Rattle.imap_body.specs.AttributeValues.{attribute_value};
+ghost use Rattle.imap_body.specs.Changed.{owned_attribute};
 ghost use Rattle.imap_proto.specs.Responses.{response_value, EndsLine};
+ghost use Rattle.imap_proto.specs.Owned.{owned_response};
 ghost use Rattle.imap_proto.specs.Lines as rule;
 
 use crate::lines;
@@ -11,7 +16,9 @@ use crate::outcome::Outcome;
 use imap_body::AttributeValue;
 use imap_bytes::IResult;
 use imap_data::{Acl, Capability, ListRights, MailboxDatum, MyRights, Quota, QuotaRoot, Status};
-use std::alloc::Global;
+use imap_extensions::{IdMap, owned_id_map};
+use imap_items::owned::owned_capabilities;
+use std::alloc::{AllocError, Global};
 use std::borrow::CowStr;
 use std::collections::HashMap;
 use std::ops::RangeInclusive;
@@ -26,6 +33,13 @@ impl RequestId {
         ensures { result.now ≡ string_bytes self.now.0 }
     {
         self.0.as_bytes()
+    }
+
+    /// The same tag. It takes memory; `Err` where there is none.
+    pub fn clone(&self) -> Result<Self, AllocError>
+        ensures { IfOk result (λ copy. string_bytes copy.0 ≡ string_bytes self.now.0) }
+    {
+        Ok(RequestId(self.0.clone()?))
     }
 }
 
@@ -75,7 +89,66 @@ pub enum Response<'a> {
 /// What `Response::parse` answers.
 pub type ParseResult<'a> = IResult<&'a [u8], Response<'a>>;
 
+fn owned_attributes(
+    alloc: Global,
+    attributes: Vec<AttributeValue<'_>>,
+) -> Result<Vec<AttributeValue<'static>>, AllocError>
+    ensures { IfOk result (λ v. map attribute_value v.items ≡ map owned_attribute (map attribute_value attributes.entry.items)) }
+{
+    let mut owned = Vec::with_capacity(alloc, attributes.len())?;
+    for attribute in attributes {
+        owned.push(attribute.into_owned(alloc)?)?;
+    }
+    Ok(owned)
+}
+
+fn owned_id(alloc: Global, id: Option<IdMap<'_>>) -> Result<Option<IdMap<'static>>, AllocError>
+    ensures { IfOk result (λ m. option_map id_value m ≡ option_map owned_map (option_map id_value id.entry)) }
+{
+    Ok(match id {
+        None => None,
+        Some(map) => Some(owned_id_map(alloc, map)?),
+    })
+}
+
 impl<'a> Response<'a> {
+    /// The same response with all texts owned, so that the bytes which it was read from need not be kept. It takes memory; `Err` where there is none.
+    pub fn into_owned(self, alloc: Global) -> Result<Response<'static>, AllocError>
+        ensures { IfOk result (λ r. response_value r ≡ owned_response (response_value self.entry)) }
+    {
+        Ok(match self {
+            Response::Capabilities(capabilities) => {
+                Response::Capabilities(owned_capabilities(alloc, capabilities)?)
+            }
+            Response::Continue(outcome) => Response::Continue(outcome.into_owned(alloc)?),
+            Response::Done {
+                tag,
+                status,
+                outcome,
+            } => Response::Done {
+                tag,
+                status,
+                outcome: outcome.into_owned(alloc)?,
+            },
+            Response::Data { status, outcome } => Response::Data {
+                status,
+                outcome: outcome.into_owned(alloc)?,
+            },
+            Response::Expunge(number) => Response::Expunge(number),
+            Response::Vanished { earlier, uids } => Response::Vanished { earlier, uids },
+            Response::Fetch(number, attributes) => {
+                Response::Fetch(number, owned_attributes(alloc, attributes)?)
+            }
+            Response::MailboxData(datum) => Response::MailboxData(datum.into_owned(alloc)?),
+            Response::Quota(quota) => Response::Quota(quota.into_owned(alloc)?),
+            Response::QuotaRoot(root) => Response::QuotaRoot(root.into_owned(alloc)?),
+            Response::Id(id) => Response::Id(owned_id(alloc, id)?),
+            Response::Acl(acl) => Response::Acl(acl.into_owned(alloc)?),
+            Response::ListRights(rights) => Response::ListRights(rights.into_owned(alloc)?),
+            Response::MyRights(rights) => Response::MyRights(rights.into_owned(alloc)?),
+        })
+    }
+
     /// The response at the front of the message, and the bytes behind it (RFC 3501, section 9: response).
     ///
     /// `Error`: no bytes behind these make a response. `Incomplete`: more bytes are needed. `Failure`: memory ran out,

@@ -5,3 +5,4 @@ pub mod ExtensionValues
 pub mod BodyValues
 pub mod Search
 pub mod Lent
+pub mod Changed

@@ -1,6 +1,14 @@
 //! Response codes.
 
+ghost use Rattle.std.specs.Prelude.{◌≡◌, map, option_map, IfOk};
+ghost use Rattle.imap_grammar.specs.Text.{text_of};
+ghost use Rattle.imap_items.specs.Owned.{owned_text as owned};
+ghost use Rattle.imap_data.specs.Codes.{code_value};
+ghost use Rattle.imap_data.specs.Owned.{owned_code};
+
+use imap_items::owned::{owned_capabilities, owned_texts};
 use imap_items::{Capability, UidSetMember};
+use std::alloc::{AllocError, Global};
 use std::borrow::CowStr;
 
 /// A code in a response (RFC 3501, section 7.1, and the extensions named below).
@@ -44,4 +52,51 @@ pub enum ResponseCode<'a> {
     MetadataTooMany,
     /// `METADATA NOPRIVATE` (RFC 5464, section 4.3)
     MetadataNoPrivate,
+}
+
+fn owned_charsets(
+    alloc: Global,
+    charsets: Option<Vec<CowStr<'_>>>,
+) -> Result<Option<Vec<CowStr<'static>>>, AllocError>
+    ensures { IfOk result (λ c. option_map (λ v. map text_of v.items) c ≡ option_map (map owned) (option_map (λ v. map text_of v.items) charsets.entry)) }
+{
+    Ok(match charsets {
+        None => None,
+        Some(charsets) => Some(owned_texts(alloc, charsets)?),
+    })
+}
+
+impl<'a> ResponseCode<'a> {
+    /// The same code with all texts owned. It takes memory only for lists of texts; `Err` where there is none.
+    pub fn into_owned(self, alloc: Global) -> Result<ResponseCode<'static>, AllocError>
+        ensures { IfOk result (λ c. code_value c ≡ owned_code (code_value self.entry)) }
+    {
+        Ok(match self {
+            ResponseCode::Alert => ResponseCode::Alert,
+            ResponseCode::BadCharset(charsets) => {
+                ResponseCode::BadCharset(owned_charsets(alloc, charsets)?)
+            }
+            ResponseCode::Capabilities(capabilities) => {
+                ResponseCode::Capabilities(owned_capabilities(alloc, capabilities)?)
+            }
+            ResponseCode::HighestModSeq(n) => ResponseCode::HighestModSeq(n),
+            ResponseCode::Parse => ResponseCode::Parse,
+            ResponseCode::PermanentFlags(flags) => {
+                ResponseCode::PermanentFlags(owned_texts(alloc, flags)?)
+            }
+            ResponseCode::ReadOnly => ResponseCode::ReadOnly,
+            ResponseCode::ReadWrite => ResponseCode::ReadWrite,
+            ResponseCode::TryCreate => ResponseCode::TryCreate,
+            ResponseCode::UidNext(uid) => ResponseCode::UidNext(uid),
+            ResponseCode::UidValidity(n) => ResponseCode::UidValidity(n),
+            ResponseCode::Unseen(number) => ResponseCode::Unseen(number),
+            ResponseCode::AppendUid(n, uids) => ResponseCode::AppendUid(n, uids),
+            ResponseCode::CopyUid(n, from, to) => ResponseCode::CopyUid(n, from, to),
+            ResponseCode::UidNotSticky => ResponseCode::UidNotSticky,
+            ResponseCode::MetadataLongEntries(n) => ResponseCode::MetadataLongEntries(n),
+            ResponseCode::MetadataMaxSize(n) => ResponseCode::MetadataMaxSize(n),
+            ResponseCode::MetadataTooMany => ResponseCode::MetadataTooMany,
+            ResponseCode::MetadataNoPrivate => ResponseCode::MetadataNoPrivate,
+        })
+    }
 }

@@ -2,12 +2,14 @@
 
 ghost use Rattle.std.specs.Prelude.{◌≡◌, IfOk, IsOk};
 ghost use Rattle.imap_data.specs.MailboxValues.{mailbox_value, IsNumber};
+ghost use Rattle.imap_data.specs.Owned.{owned_mailbox};
 
 use super::annotations::{Metadata, copied_annotations};
 use super::counts::StatusAttribute;
 use super::names::MailboxListData;
 use imap_items::copies::{copied_text, copied_texts};
-use std::alloc::AllocError;
+use imap_items::owned::{owned_text, owned_texts};
+use std::alloc::{AllocError, Global};
 use std::borrow::CowStr;
 
 /// Data of a mailbox (RFC 3501, section 7.2; RFC 5256, section 4; RFC 5464, section 4.4; Gmail's items).
@@ -98,6 +100,41 @@ impl<'a> MailboxDatum<'a> {
             MailboxDatum::GmailLabels(labels) => MailboxDatum::GmailLabels(copied_texts(labels)?),
             MailboxDatum::GmailMsgId(number) => MailboxDatum::GmailMsgId(*number),
             MailboxDatum::GmailThrId(number) => MailboxDatum::GmailThrId(*number),
+        })
+    }
+
+    /// The same data with all texts owned. It takes memory; `Err` where there is none.
+    pub fn into_owned(self, alloc: Global) -> Result<MailboxDatum<'static>, AllocError>
+        ensures { IfOk result (λ d. mailbox_value d ≡ owned_mailbox (mailbox_value self.entry)) }
+    {
+        Ok(match self {
+            MailboxDatum::Exists(count) => MailboxDatum::Exists(count),
+            MailboxDatum::Flags(flags) => MailboxDatum::Flags(owned_texts(alloc, flags)?),
+            MailboxDatum::List(list) => MailboxDatum::List(list.into_owned(alloc)?),
+            MailboxDatum::Search(numbers) => MailboxDatum::Search(numbers),
+            MailboxDatum::Sort(numbers) => MailboxDatum::Sort(numbers),
+            MailboxDatum::Status { mailbox, status } => MailboxDatum::Status {
+                mailbox: owned_text(alloc, mailbox)?,
+                status,
+            },
+            MailboxDatum::Recent(count) => MailboxDatum::Recent(count),
+            MailboxDatum::MetadataSolicited { mailbox, values } => {
+                MailboxDatum::MetadataSolicited {
+                    mailbox: owned_text(alloc, mailbox)?,
+                    values,
+                }
+            }
+            MailboxDatum::MetadataUnsolicited { mailbox, values } => {
+                MailboxDatum::MetadataUnsolicited {
+                    mailbox: owned_text(alloc, mailbox)?,
+                    values: owned_texts(alloc, values)?,
+                }
+            }
+            MailboxDatum::GmailLabels(labels) => {
+                MailboxDatum::GmailLabels(owned_texts(alloc, labels)?)
+            }
+            MailboxDatum::GmailMsgId(number) => MailboxDatum::GmailMsgId(number),
+            MailboxDatum::GmailThrId(number) => MailboxDatum::GmailThrId(number),
         })
     }
 }

@@ -4,9 +4,11 @@ ghost use Rattle.std.specs.Prelude.{◌≡◌, IfOk, IsOk, map};
 ghost use Rattle.std.specs.Option.{option_map};
 ghost use Rattle.imap_grammar.specs.Text.{text_of};
 ghost use Rattle.imap_data.specs.Names.{attribute_value, list_value, IsLentAttribute};
+ghost use Rattle.imap_data.specs.Owned.{owned_attribute, owned_list};
 
 use imap_items::copies::copied_text;
-use std::alloc::AllocError;
+use imap_items::owned::{owned_optional_text, owned_text};
+use std::alloc::{AllocError, Global};
 use std::borrow::CowStr;
 
 /// An attribute of a mailbox's name (RFC 3501, section 7.2.2; RFC 6154, section 2).
@@ -70,6 +72,26 @@ impl<'a> NameAttribute<'a> {
             NameAttribute::Extension(text) => NameAttribute::Extension(copied_text(text)?),
         })
     }
+
+    /// The same attribute with its text owned. It takes memory only where that is borrowed; `Err` where there is none.
+    pub fn into_owned(self, alloc: Global) -> Result<NameAttribute<'static>, AllocError>
+        ensures { IfOk result (λ a. attribute_value a ≡ owned_attribute (attribute_value self.entry)) }
+    {
+        Ok(match self {
+            NameAttribute::NoInferiors => NameAttribute::NoInferiors,
+            NameAttribute::NoSelect => NameAttribute::NoSelect,
+            NameAttribute::Marked => NameAttribute::Marked,
+            NameAttribute::Unmarked => NameAttribute::Unmarked,
+            NameAttribute::All => NameAttribute::All,
+            NameAttribute::Archive => NameAttribute::Archive,
+            NameAttribute::Drafts => NameAttribute::Drafts,
+            NameAttribute::Flagged => NameAttribute::Flagged,
+            NameAttribute::Junk => NameAttribute::Junk,
+            NameAttribute::Sent => NameAttribute::Sent,
+            NameAttribute::Trash => NameAttribute::Trash,
+            NameAttribute::Extension(text) => NameAttribute::Extension(owned_text(alloc, text)?),
+        })
+    }
 }
 
 fn copied_attributes<'a>(
@@ -93,6 +115,19 @@ fn copied_delimiter<'a>(delimiter: &Option<CowStr<'a>>) -> Result<Option<CowStr<
     })
 }
 
+fn owned_attributes(
+    alloc: Global,
+    attributes: Vec<NameAttribute<'_>>,
+) -> Result<Vec<NameAttribute<'static>>, AllocError>
+    ensures { IfOk result (λ v. map attribute_value v.items ≡ map owned_attribute (map attribute_value attributes.entry.items)) }
+{
+    let mut owned = Vec::with_capacity(alloc, attributes.len())?;
+    for attribute in attributes {
+        owned.push(attribute.into_owned(alloc)?)?;
+    }
+    Ok(owned)
+}
+
 impl<'a> MailboxListData<'a> {
     /// A copy. It takes memory for the attributes and for owned texts; `Err` where there is none.
     pub fn clone(&self) -> Result<Self, AllocError>
@@ -102,6 +137,17 @@ impl<'a> MailboxListData<'a> {
             name_attributes: copied_attributes(&self.name_attributes)?,
             delimiter: copied_delimiter(&self.delimiter)?,
             name: copied_text(&self.name)?,
+        })
+    }
+
+    /// The same data with all texts owned. It takes memory; `Err` where there is none.
+    pub fn into_owned(self, alloc: Global) -> Result<MailboxListData<'static>, AllocError>
+        ensures { IfOk result (λ l. list_value l ≡ owned_list (list_value self.entry)) }
+    {
+        Ok(MailboxListData {
+            name_attributes: owned_attributes(alloc, self.name_attributes)?,
+            delimiter: owned_optional_text(alloc, self.delimiter)?,
+            name: owned_text(alloc, self.name)?,
         })
     }
 }

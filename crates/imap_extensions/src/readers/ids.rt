@@ -1,15 +1,12 @@
 //! What an implementation says of itself.
 
-ghost use Rattle.std.specs.Prelude.{◌≡◌, option_map, map, IfOk, OnOk};
-ghost use Rattle.std.specs.FinMap.{insert};
-ghost use Rattle.std.specs.Cow.{cow_str_bytes};
+ghost use Rattle.std.specs.Prelude.{◌≡◌, option_map, map, IfOk};
 ghost use Rattle.imap_grammar.specs.Answer.{Answers, Gives};
 ghost use Rattle.imap_grammar.specs.Step.{step};
-ghost use Rattle.imap_grammar.specs.Text.{text_of};
 ghost use Rattle.imap_extensions.specs.Ids as ids;
 ghost use Rattle.imap_extensions.specs.Ids.{id_value, pair_value, map_of_pairs};
 
-use crate::types::ids::IdMap;
+use crate::types::ids::{IdMap, put};
 use imap_bytes::lists::{Separator, separated};
 use imap_bytes::tags::{blanks0, blanks1, tag, word};
 use imap_bytes::{IResult, first, nil, nstring_utf8, string_utf8};
@@ -48,14 +45,6 @@ fn id_list(alloc: Global, i: &[u8]) -> IResult<&[u8], Vec<IdPair<'_>>>
     let (rest, _) = blanks0(rest)?;
     let (rest, _) = tag(b")", rest)?;
     Ok((rest, pairs))
-}
-
-// The map with this value at this key.
-fn put<'a>(map: &mut IdMap<'a>, key: CowStr<'a>, value: CowStr<'a>) -> Result<(), AllocError>
-    ensures { OnOk result (id_value map.new ≡ insert (id_value map.old) (cow_str_bytes key.entry) (text_of value.entry)) }
-{
-    map.insert(key, value)?;
-    Ok(())
 }
 
 // The map of the pairs: those without a value are dropped, and of equal keys the last wins.

@@ -1,6 +1,12 @@
 //! Access control lists.
 
+ghost use Rattle.std.specs.Prelude.{◌≡◌, map, IfOk};
+ghost use Rattle.imap_extensions.specs.Acls.{acl_entry_value, acl_value, list_rights_value, my_rights_value};
+ghost use Rattle.imap_extensions.specs.Owned.{owned_acl_entry, owned_acl, owned_list_rights, owned_my_rights};
+
 use imap_items::AclRight;
+use imap_items::owned::owned_text;
+use std::alloc::{AllocError, Global};
 use std::borrow::CowStr;
 
 /// Who has which rights (RFC 4314, section 3.6).
@@ -41,4 +47,68 @@ pub struct MyRights<'a> {
     pub mailbox: CowStr<'a>,
     /// The rights, in the order of their letters.
     pub rights: Vec<AclRight>,
+}
+
+impl<'a> AclEntry<'a> {
+    /// The same entry with its text owned. It takes memory only where that is borrowed; `Err` where there is none.
+    pub fn into_owned(self, alloc: Global) -> Result<AclEntry<'static>, AllocError>
+        ensures { IfOk result (λ entry. acl_entry_value entry ≡ owned_acl_entry (acl_entry_value self.entry)) }
+    {
+        let AclEntry { identifier, rights } = self;
+        Ok(AclEntry {
+            identifier: owned_text(alloc, identifier)?,
+            rights,
+        })
+    }
+}
+
+fn owned_entries(
+    alloc: Global,
+    entries: Vec<AclEntry<'_>>,
+) -> Result<Vec<AclEntry<'static>>, AllocError>
+    ensures { IfOk result (λ v. map acl_entry_value v.items ≡ map owned_acl_entry (map acl_entry_value entries.entry.items)) }
+{
+    let mut owned = Vec::with_capacity(alloc, entries.len())?;
+    for entry in entries {
+        owned.push(entry.into_owned(alloc)?)?;
+    }
+    Ok(owned)
+}
+
+impl<'a> Acl<'a> {
+    /// The same list with all texts owned. It takes memory; `Err` where there is none.
+    pub fn into_owned(self, alloc: Global) -> Result<Acl<'static>, AllocError>
+        ensures { IfOk result (λ acl. acl_value acl ≡ owned_acl (acl_value self.entry)) }
+    {
+        Ok(Acl {
+            mailbox: owned_text(alloc, self.mailbox)?,
+            acls: owned_entries(alloc, self.acls)?,
+        })
+    }
+}
+
+impl<'a> ListRights<'a> {
+    /// The same rights with all texts owned. It takes memory only for borrowed texts; `Err` where there is none.
+    pub fn into_owned(self, alloc: Global) -> Result<ListRights<'static>, AllocError>
+        ensures { IfOk result (λ rights. list_rights_value rights ≡ owned_list_rights (list_rights_value self.entry)) }
+    {
+        Ok(ListRights {
+            mailbox: owned_text(alloc, self.mailbox)?,
+            identifier: owned_text(alloc, self.identifier)?,
+            required: self.required,
+            optional: self.optional,
+        })
+    }
+}
+
+impl<'a> MyRights<'a> {
+    /// The same rights with the mailbox's name owned. It takes memory only where that is borrowed; `Err` where there is none.
+    pub fn into_owned(self, alloc: Global) -> Result<MyRights<'static>, AllocError>
+        ensures { IfOk result (λ rights. my_rights_value rights ≡ owned_my_rights (my_rights_value self.entry)) }
+    {
+        Ok(MyRights {
+            mailbox: owned_text(alloc, self.mailbox)?,
+            rights: self.rights,
+        })
+    }
 }

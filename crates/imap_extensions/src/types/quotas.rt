@@ -2,9 +2,11 @@
 
 ghost use Rattle.std.specs.Prelude.{◌≡◌, map, IfOk, IsOk};
 ghost use Rattle.imap_extensions.specs.Quotas.{quota_resource_name_value, quota_resource_value, quota_value, quota_root_value, IsLentName};
+ghost use Rattle.imap_extensions.specs.Owned.{owned_quota_resource_name, owned_quota_resource, owned_quota, owned_quota_root};
 
 use imap_items::copies::{copied_text, copied_texts};
-use std::alloc::AllocError;
+use imap_items::owned::{owned_text, owned_texts};
+use std::alloc::{AllocError, Global};
 use std::borrow::CowStr;
 
 /// What a resource of a quota is called (RFC 2087, section 3).
@@ -59,6 +61,17 @@ impl<'a> QuotaResourceName<'a> {
             QuotaResourceName::Atom(name) => QuotaResourceName::Atom(copied_text(name)?),
         })
     }
+
+    /// The same name with its text owned. It takes memory only where that is borrowed; `Err` where there is none.
+    pub fn into_owned(self, alloc: Global) -> Result<QuotaResourceName<'static>, AllocError>
+        ensures { IfOk result (λ name. quota_resource_name_value name ≡ owned_quota_resource_name (quota_resource_name_value self.entry)) }
+    {
+        Ok(match self {
+            QuotaResourceName::Storage => QuotaResourceName::Storage,
+            QuotaResourceName::Message => QuotaResourceName::Message,
+            QuotaResourceName::Atom(name) => QuotaResourceName::Atom(owned_text(alloc, name)?),
+        })
+    }
 }
 
 impl<'a> QuotaResource<'a> {
@@ -71,6 +84,18 @@ impl<'a> QuotaResource<'a> {
             name: self.name.clone()?,
             usage: self.usage,
             limit: self.limit,
+        })
+    }
+
+    /// The same resource with its text owned. It takes memory only where that is borrowed; `Err` where there is none.
+    pub fn into_owned(self, alloc: Global) -> Result<QuotaResource<'static>, AllocError>
+        ensures { IfOk result (λ resource. quota_resource_value resource ≡ owned_quota_resource (quota_resource_value self.entry)) }
+    {
+        let QuotaResource { name, usage, limit } = self;
+        Ok(QuotaResource {
+            name: name.into_owned(alloc)?,
+            usage,
+            limit,
         })
     }
 }
@@ -87,6 +112,19 @@ fn copied_resources<'a>(
     Ok(copies)
 }
 
+fn owned_resources(
+    alloc: Global,
+    resources: Vec<QuotaResource<'_>>,
+) -> Result<Vec<QuotaResource<'static>>, AllocError>
+    ensures { IfOk result (λ v. map quota_resource_value v.items ≡ map owned_quota_resource (map quota_resource_value resources.entry.items)) }
+{
+    let mut owned = Vec::with_capacity(alloc, resources.len())?;
+    for resource in resources {
+        owned.push(resource.into_owned(alloc)?)?;
+    }
+    Ok(owned)
+}
+
 impl<'a> Quota<'a> {
     /// The same quota. It takes memory for the resources, and for owned texts.
     pub fn clone(&self) -> Result<Self, AllocError>
@@ -95,6 +133,16 @@ impl<'a> Quota<'a> {
         Ok(Quota {
             root_name: copied_text(&self.root_name)?,
             resources: copied_resources(&self.resources)?,
+        })
+    }
+
+    /// The same quota with all texts owned. It takes memory; `Err` where there is none.
+    pub fn into_owned(self, alloc: Global) -> Result<Quota<'static>, AllocError>
+        ensures { IfOk result (λ quota. quota_value quota ≡ owned_quota (quota_value self.entry)) }
+    {
+        Ok(Quota {
+            root_name: owned_text(alloc, self.root_name)?,
+            resources: owned_resources(alloc, self.resources)?,
         })
     }
 }
@@ -107,6 +155,16 @@ impl<'a> QuotaRoot<'a> {
         Ok(QuotaRoot {
             mailbox_name: copied_text(&self.mailbox_name)?,
             quota_root_names: copied_texts(&self.quota_root_names)?,
+        })
+    }
+
+    /// The same roots with all texts owned. It takes memory; `Err` where there is none.
+    pub fn into_owned(self, alloc: Global) -> Result<QuotaRoot<'static>, AllocError>
+        ensures { IfOk result (λ root. quota_root_value root ≡ owned_quota_root (quota_root_value self.entry)) }
+    {
+        Ok(QuotaRoot {
+            mailbox_name: owned_text(alloc, self.mailbox_name)?,
+            quota_root_names: owned_texts(alloc, self.quota_root_names)?,
         })
     }
 }

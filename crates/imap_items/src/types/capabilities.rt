@@ -1,5 +1,11 @@
 //! Capabilities.
 
+ghost use Rattle.std.specs.Prelude.{◌≡◌, IfOk};
+ghost use Rattle.imap_items.specs.Capabilities.{capability_value};
+ghost use Rattle.imap_items.specs.Owned.{owned_capability};
+
+use crate::owned::owned_text;
+use std::alloc::{AllocError, Global};
 use std::borrow::CowStr;
 
 /// A capability (RFC 3501, section 7.2.1).
@@ -11,4 +17,17 @@ pub enum Capability<'a> {
     Auth(CowStr<'a>),
     /// Any other, as it stands.
     Atom(CowStr<'a>),
+}
+
+impl<'a> Capability<'a> {
+    /// The same with its text owned. It takes memory only where that is borrowed; `Err` where there is none.
+    pub fn into_owned(self, alloc: Global) -> Result<Capability<'static>, AllocError>
+        ensures { IfOk result (λ c. capability_value c ≡ owned_capability (capability_value self.entry)) }
+    {
+        Ok(match self {
+            Capability::Imap4rev1 => Capability::Imap4rev1,
+            Capability::Auth(mechanism) => Capability::Auth(owned_text(alloc, mechanism)?),
+            Capability::Atom(name) => Capability::Atom(owned_text(alloc, name)?),
+        })
+    }
 }

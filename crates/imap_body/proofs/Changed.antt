@@ -1,0 +1,40 @@
+-- What an attribute says where each of its texts is changed: the change of what it said.
+use Rattle.std.proofs.Common.{◌≡◌, ℕ, refl, sym, ap}
+use Rattle.std.specs.declared.borrow.CowSlice.{CowSlice}
+use Rattle.std.specs.declared.borrow.CowStr.{CowStr}
+use Rattle.std.proofs.lemmas.Simd.{map-map}
+use Rattle.imap_grammar.specs.Text.{Text, text_of}
+use Rattle.imap_grammar.proofs.Seen.{option_twice}
+use Rattle.imap_shapes.specs.BodyValues.{body_seen}
+use Rattle.imap_shapes.specs.Spans.{bytes_of, owned}
+use Rattle.imap_shapes.specs.declared.shapes.bodies.BodyStructure.{BodyStructure as Structure}
+use Rattle.imap_shapes.proofs.Changed.{envelope_changed, body_changed}
+use Rattle.imap_body.specs.AttributeValues.{BodySection, BodyStructure, Envelope, Flags, Rfc822, Rfc822Header, Rfc822Text, GmailLabels, ThreadId, attribute_seen, attribute_value, attribute_owned}
+use Rattle.imap_body.specs.SectionValues.{path_value}
+use Rattle.std.specs.Option.{option_map}
+use Rattle.imap_body.specs.Changed.{changed_attribute, owned_attribute}
+use Rattle.imap_body.specs.declared.types.attributes.AttributeParts.{AttributeParts}
+use Rattle.imap_body.specs.declared.types.attributes.AttributeParts.TheVariants as parts
+
+module _ {S B : Type 0} (f : S → Text) (g : B → Text) (h : Text → Text) where
+  attribute_changed : (x : AttributeParts S B (Structure S B)) → attribute_seen (λ s. h (f s)) (λ b. h (g b)) (body_seen (λ s. h (f s)) (λ b. h (g b))) x ≡ changed_attribute h (attribute_seen f g (body_seen f g) x)
+  attribute_changed (parts.BodySection section index contents) = ap (BodySection (option_map path_value section) index) (option_twice g h contents)
+  attribute_changed (parts.BodyStructure body) = ap BodyStructure (body_changed f g h body)
+  attribute_changed (parts.Envelope envelope) = ap Envelope (envelope_changed g h envelope.value)
+  attribute_changed (parts.Flags flags) = ap Flags (sym (map-map h f flags.items))
+  attribute_changed (parts.InternalDate date) = refl
+  attribute_changed (parts.ModSeq n) = refl
+  attribute_changed (parts.Rfc822 message) = ap Rfc822 (option_twice g h message)
+  attribute_changed (parts.Rfc822Header header) = ap Rfc822Header (option_twice g h header)
+  attribute_changed (parts.Rfc822Size n) = refl
+  attribute_changed (parts.Rfc822Text text) = ap Rfc822Text (option_twice g h text)
+  attribute_changed (parts.Uid n) = refl
+  attribute_changed (parts.GmailLabels labels) = ap GmailLabels (sym (map-map h f labels.items))
+  attribute_changed (parts.GmailMsgId n) = refl
+  attribute_changed (parts.GmailThrId n) = refl
+  attribute_changed (parts.EmailId id) = refl
+  attribute_changed (parts.ThreadId id) = ap ThreadId (option_twice f h id)
+  attribute_changed parts.Unknown = refl
+
+pub attribute_is_owned : {Z : Type 0} (x : AttributeParts (CowStr Z) (CowSlice ℕ Z) (Structure (CowStr Z) (CowSlice ℕ Z))) → attribute_owned x ≡ owned_attribute (attribute_value x)
+attribute_is_owned x = attribute_changed text_of bytes_of owned x

@@ -1,0 +1,26 @@
+-- The same responses with all texts owned. A tag's text is owned always.
+use Rattle.std.specs.Prelude.{option_map, map}
+use Rattle.imap_items.specs.Owned.{owned_text, owned_capability}
+use Rattle.imap_data.specs.Owned.{owned_code, owned_mailbox}
+use Rattle.imap_extensions.specs.Owned.{owned_quota, owned_quota_root, owned_id, owned_acl, owned_list_rights, owned_my_rights}
+use Rattle.imap_body.specs.Changed.{owned_attribute}
+use Rattle.imap_proto.specs.Responses.{OutcomeValue, ResponseValue, Capabilities, Continue, Done, Data, Expunge, Vanished, Fetch, MailboxData, Quota, QuotaRoot, Id, Acl, ListRights, MyRights}
+
+abbrev pub owned_outcome : OutcomeValue → OutcomeValue
+owned_outcome o = record { code = option_map owned_code o.code; information = option_map owned_text o.information }
+
+abbrev pub owned_response : ResponseValue → ResponseValue
+owned_response (Capabilities capabilities) = Capabilities (map owned_capability capabilities)
+owned_response (Continue o) = Continue (owned_outcome o)
+owned_response (Done tag status o) = Done tag status (owned_outcome o)
+owned_response (Data status o) = Data status (owned_outcome o)
+owned_response (Expunge n) = Expunge n
+owned_response (Vanished earlier uids) = Vanished earlier uids
+owned_response (Fetch n attributes) = Fetch n (map owned_attribute attributes)
+owned_response (MailboxData datum) = MailboxData (owned_mailbox datum)
+owned_response (Quota quota) = Quota (owned_quota quota)
+owned_response (QuotaRoot root) = QuotaRoot (owned_quota_root root)
+owned_response (Id map) = Id (option_map owned_id map)
+owned_response (Acl acl) = Acl (owned_acl acl)
+owned_response (ListRights rights) = ListRights (owned_list_rights rights)
+owned_response (MyRights rights) = MyRights (owned_my_rights rights)
