@@ -1,3 +1,6 @@
 pub mod Lists
 pub mod Trees
 pub mod Visits
+pub mod Equality
+pub mod EqualTrees
+pub mod EqualBodies
