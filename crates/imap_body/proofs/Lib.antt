@@ -6,3 +6,4 @@ pub mod Standing
 pub mod SectionTexts
 pub mod Behind
 pub mod AttributeTexts
+pub mod Equality
