@@ -7,3 +7,4 @@ pub mod SectionTexts
 pub mod Behind
 pub mod AttributeTexts
 pub mod Changed
+pub mod Equality

@@ -1,5 +1,13 @@
 //! Laws of the rules of this crate and of `imap_structure`, as contracts of functions that do nothing.
 
+ghost use Rattle.imap_grammar.specs.Text.{Text, text_of, lent_text};
+ghost use Rattle.imap_grammar.specs.Equality.{Tells};
+ghost use Rattle.imap_shapes.specs.Spans.{bytes_of};
+ghost use Rattle.imap_shapes.specs.EnvelopeValues.{address_seen, envelope_seen};
+ghost use Rattle.imap_shapes.specs.FieldValues.{params_seen, encoding_seen};
+ghost use Rattle.imap_shapes.specs.ExtensionValues.{disposition_seen, extension_seen};
+ghost use Rattle.imap_shapes.specs.BodyValues.{BodyValue, type_seen, common_seen, single_seen, body_seen};
+ghost use Rattle.imap_body.specs.SectionValues.{path_value};
 ghost use Rattle.imap_grammar.specs.Stable.{Stable};
 ghost use Rattle.imap_body.specs.Sections as sections;
 ghost use Rattle.imap_body.specs.Attributes as attributes;
@@ -10,14 +18,22 @@ ghost use Rattle.imap_structure.specs.Bodies as bodies;
 ghost use Rattle.std.specs.Option.{option_map};
 ghost use Rattle.std.specs.Prelude.{ℕ, map};
 ghost use Rattle.imap_grammar.specs.ReadBack.{Keeps, Closes, EndsItem, as_is};
-ghost use Rattle.imap_shapes.specs.Lent.{lent_address, lent_addresses, lent_envelope, lent_params, lent_encoding, lent_fields, lent_disposition, lent_languages, lent_extension, lent_ext_1part, lent_ext_mpart, lent_body};
+ghost use Rattle.imap_shapes.specs.Lent.{lent_address, lent_addresses, lent_envelope, lent_params, lent_encoding, lent_fields, lent_disposition, lent_languages, lent_extension, lent_ext_1part, lent_ext_mpart, lent_type, lent_common, lent_single, lent_body};
 ghost use Rattle.imap_body.specs.SectionTexts.{canonical_text, canonical_part, canonical_path, canonical_section, spells_message_text, spells_text, spells_part, spells_path, spells_section};
-ghost use Rattle.imap_body.specs.AttributeValues.{lent_attribute};
+ghost use Rattle.imap_body.specs.AttributeValues.{attribute_seen, attribute_value, lent_attribute};
 ghost use Rattle.imap_body.specs.AttributeTexts.{canonical_attribute, canonical_attributes, spells_attribute, spells_attributes};
 ghost use Rattle.imap_structure.specs.EnvelopeTexts.{canonical_address, canonical_addresses, canonical_envelope, spells_address, spells_addresses, spells_envelope};
 ghost use Rattle.imap_structure.specs.FieldTexts.{canonical_params, canonical_encoding, canonical_fields, spells_params, spells_encoding, spells_fields};
 ghost use Rattle.imap_structure.specs.ExtensionTexts.{canonical_disposition, canonical_languages, canonical_extension, canonical_ext_1part, canonical_ext_mpart, spells_disposition, spells_languages, spells_extension, spells_ext_1part, spells_ext_mpart};
 ghost use Rattle.imap_structure.specs.BodyTexts.{canonical_body, spells_body};
+
+use crate::types::attributes::{AttributeParts, AttributeValue};
+use crate::types::sections::{MessageSection, SectionPath};
+use imap_shapes::{
+    Address, BodyContentCommon, BodyContentSinglePart, BodyExtension, BodyParams, BodyStructure,
+    ContentDisposition, ContentEncoding, ContentType, Envelope, laws,
+};
+use std::borrow::{CowSlice, CowStr};
 
 /// Each rule has one answer, and appended bytes change neither a value nor a denial, and make what is lacking as much smaller.
 #[tactic(auto, using(imap_grammar::proofs::Stability::is_stable))]
@@ -107,3 +123,28 @@ pub fn read_back()
     ensures attribute { Keeps attributes.attribute lent_attribute canonical_attribute spells_attribute EndsItem }
     ensures attribute_list { Keeps attributes.attribute_list (map lent_attribute) canonical_attributes spells_attributes Closes }
 {}
+
+// Where `==` tells texts and bodies by what f, g and h say of them, it tells attributes of these so too.
+fn attributes_equality<S: PartialEq, B: PartialEq, Y: PartialEq>()
+    ensures { (f : S → Text) (g : B → Text) (h : Y → BodyValue) → Tells S.eq (λ s. lent_text (f s)) → Tells B.eq (λ b. lent_text (g b)) → Tells Y.eq (λ y. lent_body (h y)) → Tells ⟦<AttributeParts<S, B, Y> as PartialEq>⟧.eq (λ x. lent_attribute (attribute_seen f g h x)) }
+{}
+
+/// `==` tells whether two values say the same: texts by their bytes, whichever lie in the input.
+pub fn equality()
+    ensures message_section { Tells ⟦<MessageSection as PartialEq>⟧.eq (λ x. x) }
+    ensures section_path { Tells ⟦<SectionPath as PartialEq>⟧.eq path_value }
+    ensures address { Tells ⟦<Address<'static> as PartialEq>⟧.eq (λ x. lent_address (address_seen bytes_of x)) }
+    ensures envelope { Tells ⟦<Envelope<'static> as PartialEq>⟧.eq (λ x. lent_envelope (envelope_seen bytes_of x)) }
+    ensures body_params { Tells ⟦<BodyParams<'static> as PartialEq>⟧.eq (λ x. lent_params (params_seen text_of x)) }
+    ensures content_encoding { Tells ⟦<ContentEncoding<'static> as PartialEq>⟧.eq (λ x. lent_encoding (encoding_seen text_of x)) }
+    ensures content_disposition { Tells ⟦<ContentDisposition<'static> as PartialEq>⟧.eq (λ x. lent_disposition (disposition_seen text_of x)) }
+    ensures body_extension { Tells ⟦<BodyExtension<'static> as PartialEq>⟧.eq (λ x. lent_extension (extension_seen text_of x)) }
+    ensures content_type { Tells ⟦<ContentType<'static> as PartialEq>⟧.eq (λ x. lent_type (type_seen text_of x)) }
+    ensures content_common { Tells ⟦<BodyContentCommon<'static> as PartialEq>⟧.eq (λ x. lent_common (common_seen text_of x)) }
+    ensures content_single_part { Tells ⟦<BodyContentSinglePart<'static> as PartialEq>⟧.eq (λ x. lent_single (single_seen text_of x)) }
+    ensures body_structure { Tells ⟦<BodyStructure<'static> as PartialEq>⟧.eq (λ x. lent_body (body_seen text_of bytes_of x)) }
+    ensures attribute { Tells ⟦<AttributeValue<'static> as PartialEq>⟧.eq (λ x. lent_attribute (attribute_value x)) }
+{
+    laws::equality::<CowStr<'static>, CowSlice<'static, u8>>();
+    attributes_equality::<CowStr<'static>, CowSlice<'static, u8>, BodyStructure<'static>>();
+}

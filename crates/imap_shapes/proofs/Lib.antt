@@ -2,3 +2,6 @@ pub mod Lists
 pub mod Trees
 pub mod Visits
 pub mod Changed
+pub mod Equality
+pub mod EqualTrees
+pub mod EqualBodies

@@ -1,0 +1,32 @@
+//! Laws of the types of this crate, as contracts of functions that do nothing.
+
+ghost use Rattle.imap_grammar.specs.Equality.{Tells};
+ghost use Rattle.imap_grammar.specs.Text.{Text, lent_text};
+ghost use Rattle.imap_shapes.specs.EnvelopeValues.{address_seen, envelope_seen};
+ghost use Rattle.imap_shapes.specs.FieldValues.{params_seen, encoding_seen};
+ghost use Rattle.imap_shapes.specs.ExtensionValues.{disposition_seen, extension_seen};
+ghost use Rattle.imap_shapes.specs.BodyValues.{type_seen, common_seen, single_seen, body_seen};
+ghost use Rattle.imap_shapes.specs.Lent.{lent_address, lent_envelope, lent_params, lent_encoding, lent_disposition, lent_extension, lent_type, lent_common, lent_single, lent_body};
+
+use crate::search::PartsError;
+use crate::shapes::bodies::{BodyContentCommon, BodyContentSinglePart, BodyStructure, ContentType};
+use crate::shapes::envelopes::{Address, Envelope};
+use crate::shapes::extensions::{BodyExtension, ContentDisposition};
+use crate::shapes::fields::{BodyParams, ContentEncoding};
+use crate::spans::SpannedText;
+
+/// Where `==` tells texts by what f says of them, whichever are borrowed, it tells shapes of such texts so too: it answers whether two say the same.
+pub fn equality<S: PartialEq, B: PartialEq>()
+    ensures address { (f : B → Text) → Tells B.eq (λ b. lent_text (f b)) → Tells ⟦<Address<B> as PartialEq>⟧.eq (λ x. lent_address (address_seen f x)) }
+    ensures envelope { (f : B → Text) → Tells B.eq (λ b. lent_text (f b)) → Tells ⟦<Envelope<B> as PartialEq>⟧.eq (λ x. lent_envelope (envelope_seen f x)) }
+    ensures body_params { (f : S → Text) → Tells S.eq (λ s. lent_text (f s)) → Tells ⟦<BodyParams<S> as PartialEq>⟧.eq (λ x. lent_params (params_seen f x)) }
+    ensures content_encoding { (f : S → Text) → Tells S.eq (λ s. lent_text (f s)) → Tells ⟦<ContentEncoding<S> as PartialEq>⟧.eq (λ x. lent_encoding (encoding_seen f x)) }
+    ensures content_disposition { (f : S → Text) → Tells S.eq (λ s. lent_text (f s)) → Tells ⟦<ContentDisposition<S> as PartialEq>⟧.eq (λ x. lent_disposition (disposition_seen f x)) }
+    ensures body_extension { (f : S → Text) → Tells S.eq (λ s. lent_text (f s)) → Tells ⟦<BodyExtension<S> as PartialEq>⟧.eq (λ x. lent_extension (extension_seen f x)) }
+    ensures content_type { (f : S → Text) → Tells S.eq (λ s. lent_text (f s)) → Tells ⟦<ContentType<S> as PartialEq>⟧.eq (λ x. lent_type (type_seen f x)) }
+    ensures content_common { (f : S → Text) → Tells S.eq (λ s. lent_text (f s)) → Tells ⟦<BodyContentCommon<S> as PartialEq>⟧.eq (λ x. lent_common (common_seen f x)) }
+    ensures content_single_part { (f : S → Text) → Tells S.eq (λ s. lent_text (f s)) → Tells ⟦<BodyContentSinglePart<S> as PartialEq>⟧.eq (λ x. lent_single (single_seen f x)) }
+    ensures body_structure { (f : S → Text) (g : B → Text) → Tells S.eq (λ s. lent_text (f s)) → Tells B.eq (λ b. lent_text (g b)) → Tells ⟦<BodyStructure<S, B> as PartialEq>⟧.eq (λ x. lent_body (body_seen f g x)) }
+    ensures spanned_text { Tells ⟦<SpannedText as PartialEq>⟧.eq (λ x. x) }
+    ensures parts_error { Tells ⟦<PartsError as PartialEq>⟧.eq (λ x. x) }
+{}
