@@ -3,6 +3,7 @@ use Rattle.std.proofs.Common.{◌≡◌, ◌≢◌, ℕ, List, Ok, Err, refl}
 use Rattle.imap_grammar.specs.declared.answer.Err.{Err as Fault}
 use Rattle.imap_grammar.specs.declared.answer.Err.TheVariants.{Incomplete, Error, Failure}
 use Rattle.imap_grammar.specs.Rule.{Rule, ◌▹◌}
+use Rattle.imap_grammar.specs.Ranges.{fresh}
 use Rattle.imap_grammar.specs.Step.{step}
 use Rattle.imap_grammar.specs.Tags.{tag}
 use Rattle.imap_bytes.specs.Numbers.{number}
@@ -17,11 +18,11 @@ item_fault m Error h = rw h refl
 item_fault m Failure h = rw h refl
 item_fault m (Incomplete n) h = rw h refl
 
-pub item_range : (m mid rest : List ℕ) (first last : ℕ) → step number m ≡ Ok (mid, first) → step range_end mid ≡ Ok (rest, last) → step sequence_item m ≡ Ok (rest, (first, last))
+pub item_range : (m mid rest : List ℕ) (first last : ℕ) → step number m ≡ Ok (mid, first) → step range_end mid ≡ Ok (rest, last) → step sequence_item m ≡ Ok (rest, fresh first last)
 unfolding sequence_item sequence_range
 item_range m mid rest first last h e = rw (h, e) refl
 
-pub item_alone : (m mid : List ℕ) (n : ℕ) → step number m ≡ Ok (mid, n) → step range_end mid ≡ Err Error → step sequence_item m ≡ Ok (mid, (n, n))
+pub item_alone : (m mid : List ℕ) (n : ℕ) → step number m ≡ Ok (mid, n) → step range_end mid ≡ Err Error → step sequence_item m ≡ Ok (mid, fresh n n)
 unfolding sequence_item sequence_range
 item_alone m mid n h e = rw (h, e) refl
 

@@ -8,6 +8,7 @@ use Rattle.std.specs.Char.{to_ascii_lowercase, to_ascii_uppercase}
 use Rattle.imap_grammar.specs.Meaning.{Denies, differs, outside}
 use Rattle.imap_grammar.specs.Rule.{Rule, tag_by, meaning, gives, many, ◌▹◌, ◌◃◌}
 use Rattle.imap_grammar.specs.Text.{Bytes}
+use Rattle.imap_grammar.specs.Ranges.{Range}
 use Rattle.imap_grammar.specs.Classes.{is_digit, is_blank}
 use Rattle.imap_grammar.specs.Tags.{same_letter, word, sp, blanks1}
 use Rattle.imap_grammar.specs.Pieces.{Pieces, written, words, space, number_text, range_text, ranges_text, each, ◌then◌}
@@ -108,16 +109,16 @@ closes_blanks t g = denies-run1 is_blank t (closes-in (outside is_blank) refl re
 
 -- ---- a set begins with a digit
 
-abbrev pub StartsWithDigit : List (ℕ × ℕ) → Type 0
+abbrev pub StartsWithDigit : List Range → Type 0
 StartsWithDigit rs = (t : Bytes) → Starts is_digit (written (ranges_text rs) ++ t)
 
-items_yield : Yields (λ r. r.0 < 2 ^ 64) sequence_item
+items_yield : Yields (λ r. r.start < 2 ^ 64) sequence_item
 unfolding sequence_item
 items_yield = either_yields
-    (record { each = λ m r rest y. let short = (range_bounds m r rest y).0 in omega (arith, short) })
+    (record { each = λ m r rest y. let short = (range_bounds m r rest y).1 in omega (arith, short) })
     (given_yields single numbers_yield (λ n h. h))
 
 pub sets_yield : Yields StartsWithDigit sequence_set
 unfolding sequence_set
-sets_yield = given_yields (λ (v : (ℕ × ℕ) × List (ℕ × ℕ)). v.0 ∷ v.1) (first_yields items_yield)
-    (λ v small t. number_starts is_digit (λ b h. h) v.0.0 small (words ":" then number_text v.0.1 then each (λ r. words "," then range_text r) v.1) t)
+sets_yield = given_yields (λ (v : Range × List Range). v.0 ∷ v.1) (first_yields items_yield)
+    (λ v small t. number_starts is_digit (λ b h. h) v.0.start small (words ":" then number_text v.0.end then each (λ r. words "," then range_text r) v.1) t)

@@ -7,6 +7,7 @@ use Rattle.imap_grammar.specs.Meaning.{Denies, outside}
 use Rattle.imap_grammar.specs.Rule.{gives, meaning}
 use Rattle.imap_grammar.specs.Text.{Bytes, Text, lent_text}
 use Rattle.imap_grammar.specs.Classes.{is_digit, is_text_char, is_atom_char}
+use Rattle.imap_grammar.specs.Ranges.{Range, fresh}
 use Rattle.imap_grammar.specs.Tags.{tag}
 use Rattle.imap_grammar.specs.Pieces.{written, raw, plain, range_text, ranges_text}
 use Rattle.imap_grammar.specs.ReadBack.{ReadsBack, Starts, as_is}
@@ -26,21 +27,34 @@ unfolding number
 number_bound m n rest y = ltb-true n (2 ^ 32) (test-has _ _ m n rest y).1
 
 -- a range, from its numbers
-pub range_on : (a b : ℕ) → a < 2 ^ 32 → b < 2 ^ 32 → (t : Bytes) → Starts not_digit t → (meaning sequence_range).yields (written (range_text (a, b)) ++ t) (a, b) t
+pub range_on : (a b : ℕ) → a < 2 ^ 32 → b < 2 ^ 32 → (t : Bytes) → Starts not_digit t → (meaning sequence_range).yields (written (range_text (fresh a b)) ++ t) (fresh a b) t
 unfolding meaning number sequence_range
 range_on a b short short' t g =
-    let front : written (range_text (a, b)) ++ t ≡ decimal a ++ (58 ∷ (decimal b ++ t)) = append_assoc (decimal a) (58 ∷ (decimal b ++ [])) t ∙ ap (λ l. decimal a ++ (58 ∷ l)) (raw_on (decimal b) t) in (
-      58 ∷ (decimal b ++ t),
-      subst (λ l. (meaning number).yields l a (58 ∷ (decimal b ++ t))) (sym front) (number_on (2 ^ 32) a (omega arith) short _ refl),
-      ((58 ∷ [], b), (decimal b ++ t, (refl, refl), number_on (2 ^ 32) b (omega arith) short' t g), refl),
+    let front : written (range_text (fresh a b)) ++ t ≡ decimal a ++ (58 ∷ (decimal b ++ t)) = append_assoc (decimal a) (58 ∷ (decimal b ++ [])) t ∙ ap (λ l. decimal a ++ (58 ∷ l)) (raw_on (decimal b) t) in (
+      (a, b),
+      (
+        58 ∷ (decimal b ++ t),
+        subst (λ l. (meaning number).yields l a (58 ∷ (decimal b ++ t))) (sym front) (number_on (2 ^ 32) a (omega arith) short _ refl),
+        ((58 ∷ [], b), (decimal b ++ t, (refl, refl), number_on (2 ^ 32) b (omega arith) short' t g), refl),
+      ),
+      refl,
     )
 
-pub range_bounds : (m : Bytes) (r : ℕ × ℕ) (rest : Bytes) → (meaning sequence_range).yields m r rest → (r.0 < 2 ^ 32) × (r.1 < 2 ^ 32)
+-- what is read as a range is fresh, and its ends are below the bound
+pub range_bounds : (m : Bytes) (r : Range) (rest : Bytes) → (meaning sequence_range).yields m r rest → (r ≡ fresh r.start r.end) × (r.start < 2 ^ 32) × (r.end < 2 ^ 32)
 unfolding meaning sequence_range
-range_bounds m r rest y = (number_bound m r.0 y.0 y.1, number_bound y.2.1.0 r.1 rest (subst (λ n. (meaning number).yields y.2.1.0 n rest) y.2.2 y.2.1.2))
+range_bounds m r rest y =
+    let ends = y.1 in
+    let first = number_bound m y.0.0 ends.0 ends.1 in
+    let last = number_bound ends.2.1.0 y.0.1 rest (subst (λ n. (meaning number).yields ends.2.1.0 n rest) ends.2.2 ends.2.1.2) in
+    subst (λ w. (w ≡ fresh w.start w.end) × (w.start < 2 ^ 32) × (w.end < 2 ^ 32)) y.2 (refl, first, last)
 
 pub reads-sequence_range : ReadsBack sequence_range as_is range_text (Starts not_digit)
-reads-sequence_range = record { again = λ m v rest y f t g. let short = range_bounds m v rest y in range_on v.0 v.1 short.0 short.1 t g }
+reads-sequence_range = record {
+  again = λ m v rest y f t g.
+      let (is, short, short') = range_bounds m v rest y in
+      subst (λ w. (meaning sequence_range).yields (written (range_text w) ++ t) w t) (sym is) (range_on v.start v.end short short' t g);
+}
 
 -- a number alone is written as a range
 pub reads-sequence_item : ReadsBack sequence_item as_is range_text (Starts not_digit)

@@ -1,18 +1,19 @@
 -- What each rule of numbers, strings, texts and sets takes spells its value.
-use Rattle.std.proofs.Common.{◌≡◌, ℕ, ◌^◌, ◌++◌, None, Some, sym, ◌∙◌, ap, refl, inl, inr, append_assoc, codes}
+use Rattle.std.proofs.Common.{◌≡◌, ℕ, ◌^◌, ◌++◌, false, None, Some, sym, ◌∙◌, ap, refl, inl, inr, append_assoc, codes}
 use Prim.Native.String.{String}
 use Rattle.imap_grammar.specs.Rule.{Rule, meaning}
 use Rattle.imap_grammar.specs.Text.{Bytes, Text}
 use Rattle.imap_grammar.specs.Classes.{is_quoted_char, is_astring_char, is_text_char}
+use Rattle.imap_grammar.specs.Ranges.{Range}
 use Rattle.imap_grammar.specs.Tags.{tag}
 use Rattle.imap_grammar.specs.ReadBack.{Texts, Spells}
-use Rattle.imap_grammar.specs.Spelling.{exactly, ◌and◌, as_it_is, lossily, nil_or, spells_number, spells_literal, is_content_part, is_content, spells_quoted, spells_string, spells_astring, spells_nstring, spells_string_text, spells_quoted_text, spells_astring_text, spells_ntext, spells_line_text, spells_range, spells_ranges}
+use Rattle.imap_grammar.specs.Spelling.{◌and◌, as_it_is, lossily, nil_or, spells_number, spells_literal, is_content_part, is_content, spells_quoted, spells_string, spells_astring, spells_nstring, spells_string_text, spells_quoted_text, spells_astring_text, spells_ntext, spells_line_text, spells_ends, spells_range, spells_ranges}
 use Rattle.imap_grammar.proofs.ReadingWords.{exact}
 use Rattle.imap_grammar.proofs.Spelling.{◌⨾ˢ◌, ◌▹ˢ◌, ◌◃ˢ◌, spells-gives, spells-wider, spells-test, ◌orˢ◌, ◌⊎ˢ◌, spells-names, spells-word, spells-tag, spells-crlf, spells-run0, spells-run1, spells-raw, spells-counted, spells-many, spells-list1}
 use Rattle.imap_bytes.specs.Numbers.{digits, number_below, number, number_64}
 use Rattle.imap_bytes.specs.Strings.{quoted_part, quoted_content, quoted, literal_header, literal, string, astring, nil, nil_or as nil_or_rule, nstring}
 use Rattle.imap_bytes.specs.Texts.{utf8, string_utf8, quoted_utf8, astring_utf8, nstring_utf8, text}
-use Rattle.imap_bytes.specs.Sets.{sequence_range, single, sequence_item, sequence_set}
+use Rattle.imap_bytes.specs.Sets.{from_to, sequence_range, single, sequence_item, sequence_set}
 
 -- ---- numbers and strings
 
@@ -108,13 +109,17 @@ spells-text = spells-utf8 (spells-run0 is_text_char)
 
 -- ---- sets
 
-pub spells-sequence_range : Spells sequence_range (λ r. spells_number r.0 and exactly ":" and spells_number r.1)
+-- a range that is read is no spent one
+abbrev pub spells_fresh : Range → Texts
+spells_fresh r c = (r.spent ≡ false) × spells_ends r.start r.end c
+
+pub spells-sequence_range : Spells sequence_range spells_fresh
 unfolding sequence_range
-spells-sequence_range = spells-number ⨾ˢ spells-tag ":" ▹ˢ spells-number
+spells-sequence_range = spells-gives from_to (spells-wider (spells-number ⨾ˢ spells-tag ":" ▹ˢ spells-number) (λ ends c h. (refl, h)))
 
 pub spells-sequence_item : Spells sequence_item spells_range
 unfolding sequence_item
-spells-sequence_item = spells-wider spells-sequence_range (λ r c h. inl h) orˢ spells-gives single (spells-wider spells-number (λ n c h. inr (refl, h)))
+spells-sequence_item = spells-wider spells-sequence_range (λ r c h. (h.0, inl h.1)) orˢ spells-gives single (spells-wider spells-number (λ n c h. (refl, inr (refl, h))))
 
 pub spells-sequence_set : Spells sequence_set spells_ranges
 unfolding sequence_set

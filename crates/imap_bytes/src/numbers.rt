@@ -1,6 +1,7 @@
 //! Numbers. None takes memory.
 
 ghost use Rattle.imap_grammar.specs.Answer.{Answers, Exactly};
+ghost use Rattle.imap_grammar.specs.Memory.{NeverFails};
 ghost use Rattle.imap_grammar.specs.Step.{step};
 ghost use Rattle.imap_bytes.specs.Numbers as numbers;
 
@@ -15,6 +16,7 @@ use imap_grammar::at::span::rest;
 pub fn number(i: &[u8]) -> IResult<&[u8], u32>
     ensures steps { Exactly (λ x. x) result (step numbers.number i.now) }
     ensures answer { Answers numbers.number (λ x. x) i.now result }
+    ensures no_failure { NeverFails result }
 {
     let (q, n) = at::numbers::number(i, 0)?;
     Ok((rest(i, q), n))
@@ -25,6 +27,7 @@ pub fn number(i: &[u8]) -> IResult<&[u8], u32>
 pub fn number_64(i: &[u8]) -> IResult<&[u8], u64>
     ensures steps { Exactly (λ x. x) result (step numbers.number_64 i.now) }
     ensures answer { Answers numbers.number_64 (λ x. x) i.now result }
+    ensures no_failure { NeverFails result }
 {
     let (q, n) = at::numbers::number_64(i, 0)?;
     Ok((rest(i, q), n))

@@ -4,6 +4,7 @@ ghost use Rattle.std.specs.Prelude.{◌≡◌};
 ghost use Rattle.std.specs.Option.{option_map};
 ghost use Rattle.std.specs.Str.{is_utf8};
 ghost use Rattle.imap_grammar.specs.Answer.{Answers, Exactly};
+ghost use Rattle.imap_grammar.specs.Memory.{NeverFails};
 ghost use Rattle.imap_grammar.specs.Step.{step};
 ghost use Rattle.imap_grammar.specs.Rule.{run0, run1, only};
 ghost use Rattle.imap_grammar.specs.Classes as classes;
@@ -19,17 +20,19 @@ use std::str;
 pub fn quoted(i: &[u8]) -> IResult<&[u8], &[u8]>
     ensures steps { Exactly (λ x. x.now) result (step strings.quoted i.now) }
     ensures answer { Answers strings.quoted (λ x. x.now) i.now result }
+    ensures no_failure { NeverFails result }
 {
     sliced(i, at::strings::quoted(i, 0))
 }
 
-/// A literal: as many bytes as its header says, of any value (RFC 3501, section 4.3).
+/// A literal: as many bytes as its header says, of any value (RFC 3501, section 9: literal).
 ///
 /// Where fewer follow, `Needed::Size` is how many are missing.
 #[tactic(auto, using(imap_grammar::proofs::Agreement::exact_answered), unfolding(crate::specs::Strings::literal))]
 pub fn literal(i: &[u8]) -> IResult<&[u8], &[u8]>
     ensures steps { Exactly (λ x. x.now) result (step strings.literal i.now) }
     ensures answer { Answers strings.literal (λ x. x.now) i.now result }
+    ensures no_failure { NeverFails result }
 {
     sliced(i, at::strings::literal(i, 0))
 }
@@ -39,13 +42,15 @@ pub fn literal(i: &[u8]) -> IResult<&[u8], &[u8]>
 pub fn string(i: &[u8]) -> IResult<&[u8], &[u8]>
     ensures steps { Exactly (λ x. x.now) result (step strings.string i.now) }
     ensures answer { Answers strings.string (λ x. x.now) i.now result }
+    ensures no_failure { NeverFails result }
 {
     sliced(i, at::strings::string(i, 0))
 }
 
 /// At least one astring-char.
 pub fn astring_chars(i: &[u8]) -> IResult<&[u8], &[u8]>
-    ensures { Exactly (λ x. x.now) result (step (run1 classes.is_astring_char) i.now) }
+    ensures steps { Exactly (λ x. x.now) result (step (run1 classes.is_astring_char) i.now) }
+    ensures no_failure { NeverFails result }
 {
     sliced(i, at::strings::astring_chars(i, 0))
 }
@@ -55,6 +60,7 @@ pub fn astring_chars(i: &[u8]) -> IResult<&[u8], &[u8]>
 pub fn astring(i: &[u8]) -> IResult<&[u8], &[u8]>
     ensures steps { Exactly (λ x. x.now) result (step strings.astring i.now) }
     ensures answer { Answers strings.astring (λ x. x.now) i.now result }
+    ensures no_failure { NeverFails result }
 {
     sliced(i, at::strings::astring(i, 0))
 }
@@ -64,6 +70,7 @@ pub fn astring(i: &[u8]) -> IResult<&[u8], &[u8]>
 pub fn nil(i: &[u8]) -> IResult<&[u8], &[u8]>
     ensures steps { Exactly (λ x. x.now) result (step strings.nil i.now) }
     ensures answer { Answers strings.nil (λ x. x.now) i.now result }
+    ensures no_failure { NeverFails result }
 {
     sliced(i, at::strings::nil(i, 0))
 }
@@ -73,6 +80,7 @@ pub fn nil(i: &[u8]) -> IResult<&[u8], &[u8]>
 pub fn nstring(i: &[u8]) -> IResult<&[u8], Option<&[u8]>>
     ensures steps { Exactly (λ x. option_map (λ y. y.now) x) result (step strings.nstring i.now) }
     ensures answer { Answers strings.nstring (λ x. option_map (λ y. y.now) x) i.now result }
+    ensures no_failure { NeverFails result }
 {
     let (q, content) = at::strings::nstring(i, 0)?;
     match content {
@@ -93,14 +101,16 @@ pub fn as_utf8(bytes: &[u8]) -> Option<&str>
 
 /// Atom-chars, maybe none.
 pub fn atom_chars0(i: &[u8]) -> IResult<&[u8], &[u8]>
-    ensures { Exactly (λ x. x.now) result (step (run0 classes.is_atom_char) i.now) }
+    ensures steps { Exactly (λ x. x.now) result (step (run0 classes.is_atom_char) i.now) }
+    ensures no_failure { NeverFails result }
 {
     sliced(i, at::strings::atom_chars0(i, 0))
 }
 
 /// At least one atom-char.
 pub fn atom_chars(i: &[u8]) -> IResult<&[u8], &[u8]>
-    ensures { Exactly (λ x. x.now) result (step (run1 classes.is_atom_char) i.now) }
+    ensures steps { Exactly (λ x. x.now) result (step (run1 classes.is_atom_char) i.now) }
+    ensures no_failure { NeverFails result }
 {
     sliced(i, at::strings::atom_chars(i, 0))
 }
@@ -110,6 +120,7 @@ pub fn atom_chars(i: &[u8]) -> IResult<&[u8], &[u8]>
 pub fn atom(i: &[u8]) -> IResult<&[u8], &str>
     ensures steps { Exactly (λ x. x.now) result (step strings.atom i.now) }
     ensures answer { Answers strings.atom (λ x. x.now) i.now result }
+    ensures no_failure { NeverFails result }
 {
     let (q, (_, text)) = at::strings::atom_text(i, 0)?;
     Ok((rest(i, q), text))

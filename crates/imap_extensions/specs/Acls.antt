@@ -1,4 +1,4 @@
--- Access control lists (RFC 4314, section 4: acl-data, listrights-data, myrights-data).
+-- Access control lists (RFC 4314, section 7: acl-data, listrights-data, myrights-data).
 use Rattle.std.specs.Prelude.{List, map}
 use Rattle.std.specs.List.{flat_map}
 use Rattle.imap_grammar.specs.declared.lists.Separator.TheVariants.{Blanks}

@@ -1,6 +1,7 @@
 -- The text of messages that are gone.
-use Rattle.std.specs.Prelude.{ℕ, Bool, true, false, List, []}
+use Rattle.std.specs.Prelude.{Bool, true, false, List, []}
 use Rattle.imap_grammar.specs.Pieces.{Pieces, ◌then◌, words, space, ranges_text}
+use Rattle.imap_grammar.specs.Ranges.{Range}
 use Rattle.imap_grammar.specs.ReadBack.{Texts}
 use Rattle.imap_grammar.specs.Spelling.{this, in_any_case, ◌and◌, some_blanks, spells_ranges}
 
@@ -8,12 +9,12 @@ abbrev pub canonical_earlier : Bool → Pieces
 canonical_earlier true = words " (EARLIER)"
 canonical_earlier false = []
 
-abbrev pub canonical_vanished : Bool × List (ℕ × ℕ) → Pieces
+abbrev pub canonical_vanished : Bool × List Range → Pieces
 canonical_vanished v = words "VANISHED" then canonical_earlier v.0 then space then ranges_text v.1
 
 abbrev pub spells_earlier : Bool → Texts
 spells_earlier true = some_blanks and in_any_case "(EARLIER)"
 spells_earlier false = this []
 
-abbrev pub spells_vanished : Bool × List (ℕ × ℕ) → Texts
+abbrev pub spells_vanished : Bool × List Range → Texts
 spells_vanished v = in_any_case "VANISHED" and spells_earlier v.0 and some_blanks and spells_ranges v.1

@@ -1,5 +1,5 @@
 -- Readers that take no memory for some values, from their parts.
-use Rattle.std.proofs.Common.{◌≡◌, ℕ, ◌==◌, Bool, true, false, List, [], ◌∷◌, ◌++◌, Option, Some, Result, Ok, Err, refl, sym, ap, subst, ◌∙◌, inl, inr, ◌⊎◌, arith, append_assoc}
+use Rattle.std.proofs.Common.{◌≡◌, ℕ, drop, ◌==◌, Bool, true, false, List, [], ◌∷◌, ◌++◌, Option, Some, Result, Ok, Err, refl, sym, ap, subst, ◌∙◌, inl, inr, ◌⊎◌, arith, append_assoc}
 use Rattle.std.specs.Prelude.{codes, slice_get, IsOk, not, ◌||◌}
 use Prim.Native.String.{String}
 use Rattle.std.specs.Char.{to_ascii_lowercase, to_ascii_uppercase}
@@ -13,13 +13,14 @@ use Rattle.imap_grammar.specs.Step.{Step, step, tag_step}
 use Rattle.std.specs.Borrow.{Bor}
 use Rattle.imap_grammar.specs.Answer.{Returned, Gives, Exactly}
 use Rattle.imap_grammar.specs.Lists.{tried_of}
+use Rattle.imap_grammar.specs.Positions.{Reached, ExactlyAt}
 use Rattle.imap_grammar.specs.Tags.{same_letter, tag, word}
 use Rattle.imap_grammar.proofs.Agreement.{agrees, reads}
 use Rattle.imap_grammar.proofs.Steps.{ok_is}
 use Rattle.imap_grammar.proofs.ReadingWords.{exact, letter}
 use Rattle.imap_grammar.proofs.Joins.{tried_fault}
 use Rattle.imap_grammar.proofs.Yields.{Yields}
-use Rattle.imap_grammar.specs.Memory.{BeginsWord, FailsOnlyIf, SucceedsFor}
+use Rattle.imap_grammar.specs.Memory.{BeginsWord, NeverFails, FailsOnlyIf, SucceedsFor}
 
 -- ---- want of memory
 
@@ -31,6 +32,15 @@ no_memory {V} r m e h q = (agrees r m).never (h ∙ ap bad q)
 
 pub never_memory : {V : Type 0} (r : Rule V) (m : List ℕ) → ¬ (step r m ≡ Err Failure)
 never_memory r m h = (agrees r m).never h
+
+-- a reader whose answer is a step
+pub exactly_never : {A V : Type 0} (view : A → V) (r : Rule V) (m : List ℕ) (result : Returned A) → Exactly view result (step r m) → NeverFails result
+exactly_never view r m (Ok x) h = tt
+exactly_never view r m (Err e) h = λ q. no_memory r m e h q
+
+pub exactly_never_at : {A V : Type 0} (view : A → V) (r : Rule V) (m : List ℕ) (p : ℕ) (result : Reached A) → ExactlyAt view m result (step r (drop p m)) → NeverFails result
+exactly_never_at view r m p (Ok x) h = tt
+exactly_never_at view r m p (Err e) h = λ q. no_memory r (drop p m) e h q
 
 -- a word takes none
 pub word_never : (same : ℕ → ℕ → Bool) (k m : List ℕ) → ¬ (tag_step same k m ≡ Err Failure)

@@ -6,6 +6,7 @@ pub mod Answer
 pub mod Memory
 pub mod Stable
 pub mod Text
+pub mod Ranges
 pub mod Ascii
 pub mod Classes
 pub mod Tags

@@ -1,6 +1,7 @@
 -- Where a reader may answer want of memory, and where it does not.
-use Rattle.std.specs.Prelude.{◌≡◌, ℕ, List, ◌++◌, ◌⊎◌, IsTrue, codes, Ok, IfErr, IsOk}
+use Rattle.std.specs.Prelude.{◌≡◌, ◌≢◌, Result, ◌++◌, IsTrue, codes, Ok, IfErr, IsOk}
 use Prim.Native.String.{String}
+use Rattle.imap_grammar.specs.declared.answer.Err.{Err as Fault}
 use Rattle.imap_grammar.specs.declared.answer.Err.TheVariants.{Failure}
 use Rattle.imap_grammar.specs.Meaning.{is_word}
 use Rattle.imap_grammar.specs.Rule.{Rule}
@@ -12,6 +13,10 @@ use Rattle.imap_grammar.specs.Text.{Bytes}
 -- the word stands in front, its letters in either case
 abbrev pub BeginsWord : String → Bytes → Type 0
 BeginsWord k m = (front : Bytes) × (rest : Bytes) × (m ≡ front ++ rest) × IsTrue (is_word same_letter (codes k) front)
+
+-- Want of memory is not answered.
+abbrev pub NeverFails : {A : Type 0} → Result A Fault → Type 0
+NeverFails result = IfErr result (λ e. e ≢ Failure)
 
 -- Want of memory is answered only where this holds.
 abbrev pub FailsOnlyIf : {A : Type 0} → Type 0 → Returned A → Type 0

@@ -1,7 +1,8 @@
--- Canonical text: one text for each value. It is a list of pieces, which are bytes as they are, and literals (RFC 3501, section 4.3).
+-- Canonical text: one text for each value. It is a list of pieces, which are bytes as they are, and literals (RFC 3501, section 9: literal).
 use Rattle.std.specs.Prelude.{ℕ, ◌<◌, ◌^◌, List, [], ◌∷◌, ◌++◌, length, Option, None, Some, decimal, codes}
 use Prim.Native.String.{String}
 use Rattle.imap_grammar.specs.Text.{Bytes, Text}
+use Rattle.imap_grammar.specs.Ranges.{Range}
 
 pub data Piece : Type 0 where
   Raw Lit : Bytes → Piece
@@ -85,8 +86,8 @@ ntext None = words "NIL"
 ntext (Some t) = literal_text t
 
 -- the two ends of a range
-abbrev pub range_text : ℕ × ℕ → Pieces
-range_text r = number_text r.0 then words ":" then number_text r.1
+abbrev pub range_text : Range → Pieces
+range_text r = number_text r.start then words ":" then number_text r.end
 
-abbrev pub ranges_text : List (ℕ × ℕ) → Pieces
+abbrev pub ranges_text : List Range → Pieces
 ranges_text = separated (words ",") range_text

@@ -1,5 +1,5 @@
 -- Which byte texts spell a value: by cases on the value, with no order of alternatives, no waiting and no greedy end.
-use Rattle.std.specs.Prelude.{◌≡◌, ℕ, ◌<◌, ◌⊎◌, Bool, List, [], ◌∷◌, ◌++◌, length, codes, Option, None, Some, IsTrue}
+use Rattle.std.specs.Prelude.{◌≡◌, ℕ, ◌<◌, ◌⊎◌, Bool, false, List, [], ◌∷◌, ◌++◌, length, codes, Option, None, Some, IsTrue}
 use Prim.Native.String.{String}
 use Rattle.std.specs.List.{list_all}
 use Rattle.std.specs.Str.Parse.{digits_value}
@@ -8,6 +8,7 @@ use Rattle.imap_grammar.specs.Classes.{is_digit, is_blank, is_quoted_char, is_as
 use Rattle.imap_grammar.specs.Meaning.{is_word}
 use Rattle.imap_grammar.specs.Tags.{same_letter}
 use Rattle.imap_grammar.specs.Text.{Bytes, Text}
+use Rattle.imap_grammar.specs.Ranges.{Range}
 use Rattle.imap_grammar.specs.ReadBack.{Texts}
 
 -- ---- words for sets of texts
@@ -115,9 +116,13 @@ spells_ntext = nil_or spells_string_text
 abbrev pub spells_line_text : Text → Texts
 spells_line_text = lossily (as_it_is (all_of is_text_char))
 
--- a range by its ends; a single number is the range from it to it
-abbrev pub spells_range : ℕ × ℕ → Texts
-spells_range r c = (spells_number r.0 and exactly ":" and spells_number r.1) c ⊎ ((r.0 ≡ r.1) × spells_number r.0 c)
+-- two numbers with a colon between
+abbrev pub spells_ends : ℕ → ℕ → Texts
+spells_ends a b = spells_number a and exactly ":" and spells_number b
 
-abbrev pub spells_ranges : List (ℕ × ℕ) → Texts
+-- a range by its ends; a single number is the range from it to it; no text spells a spent range
+abbrev pub spells_range : Range → Texts
+spells_range r c = (r.spent ≡ false) × (spells_ends r.start r.end c ⊎ ((r.start ≡ r.end) × spells_number r.start c))
+
+abbrev pub spells_ranges : List Range → Texts
 spells_ranges = with_between (exactly ",") spells_range

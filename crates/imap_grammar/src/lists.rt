@@ -50,8 +50,8 @@ fn read_at<'a, O: Drop, F: Fn(&'a [u8]) -> IResult<&'a [u8], O>>(
     ensures answers { CalledAt (FnReturnsAt F.Fn f.now) m.now p result }
     ensures ahead { Ahead m.now p result }
 {
-    let (left, item) = f(rest(m, p))?;
-    Ok((m.len() - left.len(), item))
+    let (rest, item) = f(rest(m, p))?;
+    Ok((m.len() - rest.len(), item))
 }
 
 /// What f reads, and again behind each separator: one or more.

@@ -1,16 +1,16 @@
 //! Words, spaces and runs: the parts that other readers are made of. None takes memory.
 
-ghost use Rattle.std.specs.Prelude.{◌≡◌, ◌==◌, ◌<◌, ◌≤◌, ◌-◌, ℕ, Bool, length, take, position, IfSome};
+ghost use Rattle.std.specs.Prelude.{◌≡◌, ◌==◌, ◌<◌, ◌≤◌, ◌-◌, ℕ, Bool, length, take, position};
 ghost use Rattle.std.specs.Option.{option_map, ForSome};
 ghost use Rattle.imap_grammar.specs.Answer.{Answers, Exactly};
+ghost use Rattle.imap_grammar.specs.Memory.{NeverFails};
 ghost use Rattle.imap_grammar.specs.Step.{step};
 ghost use Rattle.imap_grammar.specs.Meaning.{outside};
 ghost use Rattle.imap_grammar.specs.Rule.{tag_by, run0, run1};
-ghost use Rattle.imap_grammar.specs.Classes as classes;
 ghost use Rattle.imap_grammar.specs.Tags as tags;
 ghost use Rattle.imap_grammar.specs.Tags.{same_letter};
 
-use crate::answer::{Err, IResult, Needed};
+use crate::answer::IResult;
 use crate::at;
 use crate::at::span::sliced;
 
@@ -37,11 +37,24 @@ macro_rules! first {
     };
 }
 
+/// Answers the reader's value as `Some`, and `None` where it denies: then nothing of `$i` is taken.
+#[macro_export]
+macro_rules! maybe {
+    ($answer:expr, $i:expr) => {
+        match $answer {
+            Ok((rest, value)) => Ok((rest, Some(value))),
+            Err($crate::Err::Error) => Ok(($i, None)),
+            Err(e) => Err(e),
+        }
+    };
+}
+
 /// Exactly these bytes.
 #[tactic(auto, using(crate::proofs::Agreement::exact_answered))]
 pub fn tag<'a>(text: &[u8], i: &'a [u8]) -> IResult<&'a [u8], &'a [u8]>
     ensures steps { Exactly (λ x. x.now) result (step (tag_by ◌==◌ text.now) i.now) }
     ensures answer { Answers (tag_by ◌==◌ text.now) (λ x. x.now) i.now result }
+    ensures no_failure { NeverFails result }
 {
     sliced(i, at::tags::tag(text, i, 0))
 }
@@ -51,25 +64,24 @@ pub fn tag<'a>(text: &[u8], i: &'a [u8]) -> IResult<&'a [u8], &'a [u8]>
 pub fn word<'a>(text: &[u8], i: &'a [u8]) -> IResult<&'a [u8], &'a [u8]>
     ensures steps { Exactly (λ x. x.now) result (step (tag_by same_letter text.now) i.now) }
     ensures answer { Answers (tag_by same_letter text.now) (λ x. x.now) i.now result }
+    ensures no_failure { NeverFails result }
 {
     sliced(i, at::tags::word(text, i, 0))
 }
 
 /// A space, or nothing.
 pub fn maybe_space(i: &[u8]) -> IResult<&[u8], Option<&[u8]>>
-    ensures { Exactly (λ x. option_map (λ y. y.now) x) result (step tags.maybe_space i.now) }
+    ensures steps { Exactly (λ x. option_map (λ y. y.now) x) result (step tags.maybe_space i.now) }
+    ensures no_failure { NeverFails result }
 {
-    match tag(b" ", i) {
-        Ok((rest, space)) => Ok((rest, Some(space))),
-        Err(Err::Error) => Ok((i, None)),
-        Err(e) => Err(e),
-    }
+    maybe!(tag(b" ", i), i)
 }
 
 /// The bytes before the first that is outside a class, where that one stands at `end`.
 pub fn cut0(end: Option<usize>, i: &[u8]) -> IResult<&[u8], &[u8]>
     requires { ForSome end (λ n. n < length i.now) }
-    ensures { (class : ℕ → Bool) → end ≡ position (outside class) i.now → Exactly (λ x. x.now) result (step (run0 class) i.now) }
+    ensures steps { (class : ℕ → Bool) → end ≡ position (outside class) i.now → Exactly (λ x. x.now) result (step (run0 class) i.now) }
+    ensures no_failure { NeverFails result }
 {
     sliced(i, at::tags::cut0(end, i, 0))
 }
@@ -77,21 +89,24 @@ pub fn cut0(end: Option<usize>, i: &[u8]) -> IResult<&[u8], &[u8]>
 /// The same, of at least one byte.
 pub fn cut1(end: Option<usize>, i: &[u8]) -> IResult<&[u8], &[u8]>
     requires { ForSome end (λ n. n < length i.now) }
-    ensures { (class : ℕ → Bool) → end ≡ position (outside class) i.now → Exactly (λ x. x.now) result (step (run1 class) i.now) }
+    ensures steps { (class : ℕ → Bool) → end ≡ position (outside class) i.now → Exactly (λ x. x.now) result (step (run1 class) i.now) }
+    ensures no_failure { NeverFails result }
 {
     sliced(i, at::tags::cut1(end, i, 0))
 }
 
 /// Spaces and tabs, maybe none.
 pub fn blanks0(i: &[u8]) -> IResult<&[u8], &[u8]>
-    ensures { Exactly (λ x. x.now) result (step tags.blanks0 i.now) }
+    ensures steps { Exactly (λ x. x.now) result (step tags.blanks0 i.now) }
+    ensures no_failure { NeverFails result }
 {
     sliced(i, at::tags::blanks0(i, 0))
 }
 
 /// Spaces and tabs, at least one.
 pub fn blanks1(i: &[u8]) -> IResult<&[u8], &[u8]>
-    ensures { Exactly (λ x. x.now) result (step tags.blanks1 i.now) }
+    ensures steps { Exactly (λ x. x.now) result (step tags.blanks1 i.now) }
+    ensures no_failure { NeverFails result }
 {
     sliced(i, at::tags::blanks1(i, 0))
 }

@@ -1,24 +1,26 @@
 -- What spans name: of a form's bytes, of a word, of flags; and what their texts rest on.
-use Rattle.std.proofs.Common.{◌≡◌, ℕ, true, ◌==◌, ◌-◌, ◌≤◌, ◌<◌, [], ◌∷◌, length, take, drop, codes, Some, Ok, refl, ap, arith}
+use Rattle.std.proofs.Common.{◌≡◌, ℕ, true, ◌-◌, ◌≤◌, ◌<◌, [], ◌∷◌, ◌++◌, length, take, drop, codes, Some, Ok, refl, sym, ◌∙◌, ap, ap₂, arith}
 use Rattle.std.proofs.lemmas.Bool.{and_parts}
-use Rattle.std.proofs.lemmas.List.{length-drop}
+use Rattle.std.proofs.Math.Seq.{take-append_seam}
+use Rattle.std.proofs.lemmas.List.{length-append, length-drop}
 use Rattle.std.proofs.lemmas.Str.{IsUtf8-from_ascii, IsUtf8-from_is_utf8, is_utf8-from_IsUtf8, utf8_lossy-IsUtf8}
 use Rattle.std.proofs.lemmas.Str.Ascii.{IsAscii-from_all}
 use Rattle.std.proofs.lemmas.List.Elements.{All-nil, All-cons}
 use Rattle.std.specs.Str.{is_utf8}
 use Rattle.imap_grammar.specs.declared.at.span.Span.{Span}
+use Rattle.imap_grammar.specs.Spelling.{this}
+use Rattle.imap_grammar.specs.ReadBack.{Spells}
 use Rattle.imap_grammar.specs.Positions.{between, named_in, Rests}
-use Rattle.imap_grammar.specs.Rule.{Rule, meaning, tag_by, raw, gives}
+use Rattle.imap_grammar.specs.Rule.{Rule, raw, gives}
 use Rattle.imap_grammar.specs.Step.{Step, step}
 use Rattle.imap_grammar.specs.Text.{Bytes, as_text, decoded}
 use Rattle.imap_grammar.proofs.Agreement.{agrees}
 use Rattle.imap_grammar.proofs.Positions.{some_rests}
-use Rattle.imap_grammar.proofs.ReadingWords.{exact}
 use Rattle.imap_grammar.proofs.Yields.{Yields, either_yields, named_yields}
 use Rattle.imap_items.specs.Flags.{flag, flag_perm}
 use Rattle.imap_items.specs.FlagTexts.{is_flag_word}
 use Rattle.imap_items.specs.Spanned.{text_in}
-use Rattle.imap_items.proofs.FlagTexts.{flag-is}
+use Rattle.imap_items.proofs.FlagTexts.{flag-is, flag_spells, flag_perm_spells}
 
 read : {V : Type 0} → Bytes → V → Step V
 read rest v = Ok (rest, v)
@@ -29,11 +31,6 @@ unfolding read
 raw_between a m p q v le within is =
     let e : length (drop p m) - length (drop q m) ≡ q - p = omega (arith, le, within, length-drop p m, length-drop q m) in
     rw is (ap (λ k. read (drop q m) (take k (drop p m))) e)
-
--- a word that was read is the word
-pub exactly_read : (k m rest v : Bytes) → step (tag_by ◌==◌ k) m ≡ Ok (rest, v) → k ≡ v
-unfolding meaning
-exactly_read k m rest v is = exact k v ((agrees (tag_by ◌==◌ k) m).yielded v rest is).1
 
 -- decoding what is UTF-8 changes nothing
 pub utf8_decoded : (a : Rule Bytes) (m rest v : Bytes) → Yields (λ b. is_utf8 b ≡ true) a → step a m ≡ Ok (rest, v) → step (gives as_text a) m ≡ Ok (rest, decoded v)
@@ -55,11 +52,21 @@ flag_perms_utf8 : Yields (λ b. is_utf8 b ≡ true) flag_perm
 unfolding flag_perm
 flag_perms_utf8 = either_yields (named_yields star_utf8) flags_utf8
 
-pub flag_decoded : (m rest v : Bytes) → step flag m ≡ Ok (rest, v) → step (gives as_text flag) m ≡ Ok (rest, decoded v)
-flag_decoded m rest v is = utf8_decoded flag m rest v flags_utf8 is
+-- What was read from p up to q, where a rule gives what it takes, and that is UTF-8.
+there : (a : Rule Bytes) (m : Bytes) (p q : ℕ) (v : Bytes) → Yields (λ b. is_utf8 b ≡ true) a → Spells a this → p ≤ q → q ≤ length m → step a (drop p m) ≡ Ok (drop q m, v) → step (gives as_text a) (drop p m) ≡ Ok (drop q m, decoded (between m p q))
+unfolding read
+there a m p q v utf8 taken le within is =
+    let bytes = taken.consumed (drop p m) v (drop q m) ((agrees a (drop p m)).yielded v (drop q m) is) in
+    let front : drop p m ≡ v ++ drop q m = bytes.1 ∙ ap (λ c. c ++ drop q m) bytes.2 in
+    let long : q - p ≡ length v = omega (arith, le, within, length-drop p m, length-drop q m, ap length front, length-append v (drop q m)) in
+    let same : v ≡ between m p q = sym (take-append_seam v (drop q m)) ∙ ap₂ take (sym long) (sym front) in
+    utf8_decoded a (drop p m) (drop q m) v utf8 is ∙ ap (λ b. read (drop q m) (decoded b)) same
 
-pub flag_perm_decoded : (m rest v : Bytes) → step flag_perm m ≡ Ok (rest, v) → step (gives as_text flag_perm) m ≡ Ok (rest, decoded v)
-flag_perm_decoded m rest v is = utf8_decoded flag_perm m rest v flag_perms_utf8 is
+pub flag_there : (m : Bytes) (p q : ℕ) (v : Bytes) → p ≤ q → q ≤ length m → step flag (drop p m) ≡ Ok (drop q m, v) → step (gives as_text flag) (drop p m) ≡ Ok (drop q m, decoded (between m p q))
+flag_there m p q v le within is = there flag m p q v flags_utf8 flag_spells le within is
+
+pub flag_perm_there : (m : Bytes) (p q : ℕ) (v : Bytes) → p ≤ q → q ≤ length m → step flag_perm (drop p m) ≡ Ok (drop q m, v) → step (gives as_text flag_perm) (drop p m) ≡ Ok (drop q m, decoded (between m p q))
+flag_perm_there m p q v le within is = there flag_perm m p q v flag_perms_utf8 flag_perm_spells le within is
 
 pub named_rests : (s : Span) (q : ℕ) (m : Bytes) → s.start ≤ s.end → s.end ≤ q → named_in (take q m) s ≡ named_in m s
 named_rests s q m ordered le = let e : Some (named_in (take q m) s) ≡ Some (named_in m s) = (some_rests s q ordered le).same m in cc

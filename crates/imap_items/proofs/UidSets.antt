@@ -1,34 +1,34 @@
 -- Sets of UIDs: each range that is read starts not above its end; what `==` tells of a member.
-use Rattle.std.proofs.Common.{◌≡◌, rules, refl, ℕ, ◌≤◌, List, [], ◌∷◌, Bool, true, false, None, Some, map, Ok, Err, arith}
+use Rattle.std.proofs.Common.{◌≡◌, rules, refl, ℕ, ◌≤◌, List, [], ◌∷◌, None, Some, map, Ok, Err, arith}
 use Rattle.std.specs.Prelude.{IfOk}
 use Rattle.std.specs.List.{All}
 use Rattle.std.proofs.lemmas.List.Elements.{All-nil, All-cons, All-head, All-tail}
-use Rattle.std.specs.Range.{range_inclusive_start, range_inclusive_end, range_inclusive_exhausted}
 use Rattle.std.specs.Global.{Vec}
 use Rattle.imap_grammar.specs.Equality.{Tells}
 use Rattle.imap_grammar.specs.declared.answer.Err.TheVariants.{Incomplete, Error, Failure}
 use Rattle.imap_grammar.specs.Rule.{Rule, gives, opt, ◌▹◌}
 use Rattle.imap_grammar.specs.Step.{Step, step, ◌>>=◌, beside, and_then, or_else}
+use Rattle.imap_grammar.specs.Ranges.{Range}
 use Rattle.imap_grammar.specs.Tags.{tag}
 use Rattle.imap_grammar.specs.Answer.{Returned, Gives}
 use Rattle.imap_grammar.proofs.Agreement.{reads}
 use Rattle.imap_grammar.proofs.Yields.{Yields, either_yields, made_yields, list_yields}
 use Rattle.imap_bytes.specs.Numbers.{number}
-use Rattle.imap_items.specs.UidSets.{MemberValue, UidRange, Uid, Spent, member_value, range_value, range_of, IsOrdered, uid_set, uid_set_member, maybe_range, member_of}
+use Rattle.imap_items.specs.UidSets.{MemberValue, UidRange, Uid, member_value, in_order, IsOrdered, uid_set, uid_set_member, maybe_range, member_of}
 use Rattle.imap_items.specs.declared.types.uid_sets.UidSetMember.{UidSetMember}
 use Rattle.imap_items.specs.declared.types.uid_sets.UidSetMember.TheVariants as member
 use Rattle.imap_items.specs.contracts.types.uid_sets.UidSetMemberPartialEq.TheImpl as member_eq
-use Rattle.imap_bytes.specs.Sets.{sequence_range}
+use Rattle.imap_bytes.specs.Sets.{from_to, sequence_range}
 
 -- ---- a number in front of a colon is read once
 
 abbrev range_end : Rule ℕ
 range_end = tag ":" ▹ number
 
-member_of_step : (s : Step ℕ) → or_else (and_then s (step range_end) >>= λ v. Ok (v.0, range_of v.1)) (s >>= λ v. Ok (v.0, Uid v.1)) ≡ (and_then s (step (opt range_end)) >>= λ v. Ok (v.0, member_of v.1))
+member_of_step : (s : Step ℕ) → or_else ((and_then s (step range_end) >>= λ (v : List ℕ × (ℕ × ℕ)). Ok (v.0, from_to v.1)) >>= λ (v : List ℕ × Range). Ok (v.0, in_order v.1)) (s >>= λ v. Ok (v.0, Uid v.1)) ≡ (and_then s (step (opt range_end)) >>= λ v. Ok (v.0, member_of v.1))
 member_of_step (Ok x) = behind (step range_end x.0)
   where
-    behind : (t : Step ℕ) → or_else ((t >>= beside x.1) >>= λ v. Ok (v.0, range_of v.1)) (Ok (x.0, Uid x.1)) ≡ ((or_else (t >>= λ v. Ok (v.0, Some v.1)) (Ok (x.0, None)) >>= beside x.1) >>= λ v. Ok (v.0, member_of v.1))
+    behind : (t : Step ℕ) → or_else (((t >>= beside x.1) >>= λ (v : List ℕ × (ℕ × ℕ)). Ok (v.0, from_to v.1)) >>= λ (v : List ℕ × Range). Ok (v.0, in_order v.1)) (Ok (x.0, Uid x.1)) ≡ ((or_else (t >>= λ v. Ok (v.0, Some v.1)) (Ok (x.0, None)) >>= beside x.1) >>= λ v. Ok (v.0, member_of v.1))
     behind (Ok y) = refl
     behind (Err Error) = refl
     behind (Err Failure) = refl
@@ -43,22 +43,17 @@ member_is m = member_of_step (step number m)
 
 -- ---- order
 
--- of a member's value: a spent range is not read at all
+-- the same of a member's value
 abbrev pub IsOrderedValue : MemberValue → Type 0
-IsOrderedValue (UidRange start end) = start ≤ end
+IsOrderedValue (UidRange r) = r.start ≤ r.end
 IsOrderedValue (Uid n) = Unit {0}
-IsOrderedValue (Spent start end) = ⊥
 
 pub set_ordered : Yields (All IsOrderedValue) uid_set
 unfolding uid_set uid_set_member
-set_ordered = list_yields IsOrderedValue (either_yields (made_yields range_of (λ ends. omega arith)) (made_yields Uid (λ n. tt)))
-
-range_ordered : (exhausted : Bool) (start end : ℕ) → IsOrderedValue (range_value exhausted start end) → start ≤ end
-range_ordered false start end h = h
-range_ordered true start end h = absurd h
+set_ordered = list_yields IsOrderedValue (either_yields (made_yields in_order (λ r. omega arith)) (made_yields Uid (λ n. tt)))
 
 member_ordered : (x : UidSetMember) → IsOrderedValue (member_value x) → IsOrdered x
-member_ordered (member.UidRange r) h = range_ordered (range_inclusive_exhausted r) (range_inclusive_start r) (range_inclusive_end r) h
+member_ordered (member.UidRange r) h = h
 member_ordered (member.Uid n) h = tt
 
 pub all_ordered : (xs : List UidSetMember) → All IsOrderedValue (map member_value xs) → All IsOrdered xs

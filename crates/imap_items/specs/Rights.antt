@@ -1,4 +1,4 @@
--- Rights and their letters (RFC 4314, section 4: rights, new-rights).
+-- Rights and their letters (RFC 4314, section 7: rights).
 use Rattle.std.specs.Prelude.{ℕ, List, map, IsTrue, ◌==◌, if◌then◌else◌, codes}
 use Rattle.std.specs.List.{list_any}
 use Rattle.std.specs.Str.{chars}

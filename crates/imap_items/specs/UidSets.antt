@@ -1,7 +1,8 @@
 -- Sets of UIDs (RFC 4315, section 4: uid-set, uid-range).
-use Rattle.std.specs.Prelude.{ℕ, min, max, ◌≤◌, Bool, true, false, List, Option, None, Some}
-use Rattle.std.specs.Range.{range_inclusive_start, range_inclusive_end, range_inclusive_exhausted}
+use Rattle.std.specs.Prelude.{ℕ, min, max, ◌≤◌, List, Option, None, Some}
+use Rattle.std.specs.Range.{range_inclusive_start, range_inclusive_end}
 use Rattle.imap_grammar.specs.Rule.{Rule, gives, list1, opt, ◌⨾◌, ◌▹◌, ◌or◌}
+use Rattle.imap_grammar.specs.Ranges.{Range, fresh, range_of}
 use Rattle.imap_grammar.specs.Tags.{tag}
 use Rattle.imap_bytes.specs.Numbers.{number}
 use Rattle.imap_bytes.specs.Sets.{sequence_range}
@@ -9,17 +10,11 @@ use Rattle.imap_items.specs.declared.types.uid_sets.UidSetMember.{UidSetMember}
 use Rattle.imap_items.specs.declared.types.uid_sets.UidSetMember.TheVariants as member
 
 pub data MemberValue : Type 0 where
-  UidRange : ℕ → ℕ → MemberValue
+  UidRange : Range → MemberValue
   Uid : ℕ → MemberValue
-  -- a range whose numbers were all taken, as an iterator takes them
-  Spent : ℕ → ℕ → MemberValue
-
-abbrev pub range_value : Bool → ℕ → ℕ → MemberValue
-range_value false start end = UidRange start end
-range_value true start end = Spent start end
 
 abbrev pub member_value : UidSetMember → MemberValue
-member_value (member.UidRange r) = range_value (range_inclusive_exhausted r) (range_inclusive_start r) (range_inclusive_end r)
+member_value (member.UidRange r) = UidRange (range_of r)
 member_value (member.Uid n) = Uid n
 
 -- a range starts not above its end
@@ -30,11 +25,11 @@ IsOrdered (member.Uid n) = Unit {0}
 -- ---- rules
 
 -- the ends in either order
-abbrev pub range_of : ℕ × ℕ → MemberValue
-range_of ends = UidRange (min ends.0 ends.1) (max ends.0 ends.1)
+abbrev pub in_order : Range → MemberValue
+in_order r = UidRange (fresh (min r.start r.end) (max r.start r.end))
 
 unfoldable pub uid_set_member : Rule MemberValue
-uid_set_member = gives range_of sequence_range or gives Uid number
+uid_set_member = gives in_order sequence_range or gives Uid number
 
 -- a member as it is read: a number, and the one behind a colon if there is one
 unfoldable pub maybe_range : Rule (ℕ × Option ℕ)
@@ -42,7 +37,7 @@ maybe_range = number ⨾ opt (tag ":" ▹ number)
 
 abbrev pub member_of : ℕ × Option ℕ → MemberValue
 member_of (n, None) = Uid n
-member_of (n, Some m) = range_of (n, m)
+member_of (n, Some m) = in_order (fresh n m)
 
 unfoldable pub uid_set : Rule (List MemberValue)
 uid_set = list1 (tag ",") uid_set_member

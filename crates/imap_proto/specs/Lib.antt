@@ -3,3 +3,4 @@ pub mod Outcomes
 pub mod Lines
 pub mod Kept
 pub mod Owned
+pub mod Streams

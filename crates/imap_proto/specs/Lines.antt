@@ -3,6 +3,7 @@ use Rattle.std.specs.Prelude.{ℕ, Bool, List, ◌==◌, ◌&&◌, not}
 use Rattle.imap_grammar.specs.Classes.{is_astring_char}
 use Rattle.imap_grammar.specs.Text.{Bytes}
 use Rattle.imap_grammar.specs.Rule.{Rule, run0, run1, gives, ◌⨾◌, ◌▹◌, ◌◃◌, ◌or◌}
+use Rattle.imap_grammar.specs.Ranges.{Range}
 use Rattle.imap_grammar.specs.Tags.{tag, word, sp, maybe_space, crlf}
 use Rattle.imap_bytes.specs.Numbers.{number}
 use Rattle.imap_bytes.specs.Strings.{in_utf8}
@@ -45,7 +46,7 @@ fetched = word " FETCH " ▹ attribute_list
 unfoldable pub fetch : Rule ResponseValue
 fetch = gives fetch_of (number ⨾ fetched)
 
-abbrev pub vanished_of : Bool × List (ℕ × ℕ) → ResponseValue
+abbrev pub vanished_of : Bool × List Range → ResponseValue
 vanished_of v = Vanished v.0 v.1
 
 unfoldable pub vanished_data : Rule ResponseValue

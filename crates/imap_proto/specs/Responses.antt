@@ -4,7 +4,7 @@ use Rattle.std.specs.String.{string_bytes}
 use Rattle.std.specs.declared.alloc.Global.{Global}
 use Rattle.std.specs.declared.vec.Vec.{Vec}
 use Rattle.imap_grammar.specs.Text.{Bytes, Text, text_of, lent_text}
-use Rattle.imap_bytes.specs.Sets.{ends}
+use Rattle.imap_grammar.specs.Ranges.{Range, range_of}
 use Rattle.imap_items.specs.declared.types.statuses.Status.{Status}
 use Rattle.imap_data.specs.Codes.{CodeValue, code_value, lent_code}
 use Rattle.imap_items.specs.Capabilities.{CapabilityValue, capability_value, lent_capability}
@@ -29,7 +29,7 @@ pub data ResponseValue : Type 0 where
   Done : Bytes → Status → OutcomeValue → ResponseValue
   Data : Status → OutcomeValue → ResponseValue
   Expunge : ℕ → ResponseValue
-  Vanished : Bool → List (ℕ × ℕ) → ResponseValue
+  Vanished : Bool → List Range → ResponseValue
   Fetch : ℕ → List AttributeValue → ResponseValue
   MailboxData : MailboxValue → ResponseValue
   Quota : QuotaValue → ResponseValue
@@ -50,7 +50,7 @@ response_value (code.Continue o) = Continue (outcome_value o)
 response_value (code.Done tag status o) = Done (string_bytes tag.0) status (outcome_value o)
 response_value (code.«Data» status o) = Data status (outcome_value o)
 response_value (code.Expunge n) = Expunge n
-response_value (code.Vanished earlier uids) = Vanished earlier (map (λ r. ends r) uids.items)
+response_value (code.Vanished earlier uids) = Vanished earlier (map (λ r. range_of r) uids.items)
 response_value (code.Fetch n attributes) = Fetch n (map attribute_value attributes.items)
 response_value (code.MailboxData datum) = MailboxData (mailbox_value datum)
 response_value (code.Quota quota) = Quota (quota_value quota)

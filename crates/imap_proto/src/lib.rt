@@ -10,6 +10,7 @@ mod lines;
 mod outcome;
 mod outcomes;
 mod response;
+pub mod stream;
 
 pub use imap_body::{
     Address, AttributeValue, BodyContentCommon, BodyContentSinglePart, BodyExt1Part, BodyExtMPart,

@@ -2,6 +2,7 @@
 
 ghost use Rattle.std.specs.Prelude.{◌≡◌, ◌≤◌, ◌<◌, ◌+◌, ◌*◌, ◌-◌, ◌^◌, length, drop, nat_lt, position, IfSome};
 ghost use Rattle.imap_grammar.specs.Positions.{AnswersAt, ExactlyAt, Ahead};
+ghost use Rattle.imap_grammar.specs.Memory.{NeverFails};
 ghost use Rattle.imap_grammar.specs.Step.{step};
 ghost use Rattle.imap_grammar.specs.Meaning.{outside};
 ghost use Rattle.imap_grammar.specs.Rule.{only};
@@ -77,6 +78,7 @@ pub fn number(m: &[u8], p: usize) -> Result<(usize, u32), Err>
     ensures steps { ExactlyAt (λ x. x) m.now result (step numbers.number (drop p m.now)) }
     ensures answer { AnswersAt numbers.number (λ x. x) m.now p result }
     ensures ahead { Ahead m.now p result }
+    ensures no_failure { NeverFails result }
 {
     let (_, i) = m.split_at(p);
     match digits_in_front(i) {
@@ -100,6 +102,7 @@ pub fn number_64(m: &[u8], p: usize) -> Result<(usize, u64), Err>
     ensures steps { ExactlyAt (λ x. x) m.now result (step numbers.number_64 (drop p m.now)) }
     ensures answer { AnswersAt numbers.number_64 (λ x. x) m.now p result }
     ensures ahead { Ahead m.now p result }
+    ensures no_failure { NeverFails result }
 {
     let (_, i) = m.split_at(p);
     match digits_in_front_64(i) {

@@ -2,12 +2,13 @@
 
 ghost use Rattle.std.specs.Prelude.{◌≤◌, length, drop, map};
 ghost use Rattle.imap_grammar.specs.Positions.{AnswersAt, ExactlyAt, GivesAt, Ahead};
+ghost use Rattle.imap_grammar.specs.Memory.{NeverFails};
 ghost use Rattle.imap_grammar.specs.Step.{step};
+ghost use Rattle.imap_grammar.specs.Ranges.{range_of};
 ghost use Rattle.imap_grammar.specs.Rule.{◌▹◌};
 ghost use Rattle.imap_grammar.specs.Tags as tags;
 ghost use Rattle.imap_bytes.specs.Numbers as numbers;
 ghost use Rattle.imap_bytes.specs.Sets as sets;
-ghost use Rattle.imap_bytes.specs.Sets.{ends};
 
 use crate::at::numbers::number;
 use imap_grammar::Err;
@@ -21,9 +22,10 @@ use std::ops::RangeInclusive;
 #[tactic(auto, using(imap_grammar::proofs::Agreement::exact_answered_at), unfolding(crate::specs::Sets::sequence_range))]
 pub fn sequence_range(m: &[u8], p: usize) -> Result<(usize, RangeInclusive<u32>), Err>
     requires { p ≤ length m.now }
-    ensures steps { ExactlyAt (λ x. ends x) m.now result (step sets.sequence_range (drop p m.now)) }
-    ensures answer { AnswersAt sets.sequence_range (λ x. ends x) m.now p result }
+    ensures steps { ExactlyAt (λ x. range_of x) m.now result (step sets.sequence_range (drop p m.now)) }
+    ensures answer { AnswersAt sets.sequence_range (λ x. range_of x) m.now p result }
     ensures ahead { Ahead m.now p result }
+    ensures no_failure { NeverFails result }
 {
     let (p, first) = number(m, p)?;
     let (p, _) = tag(b":", m, p)?;
@@ -44,8 +46,9 @@ fn range_end(m: &[u8], p: usize) -> Result<(usize, u32), Err>
 /// A range, or a number as the range of it alone. No memory.
 pub fn sequence_item(m: &[u8], p: usize) -> Result<(usize, RangeInclusive<u32>), Err>
     requires { p ≤ length m.now }
-    ensures steps { ExactlyAt (λ x. ends x) m.now result (step sets.sequence_item (drop p m.now)) }
+    ensures steps { ExactlyAt (λ x. range_of x) m.now result (step sets.sequence_item (drop p m.now)) }
     ensures ahead { Ahead m.now p result }
+    ensures no_failure { NeverFails result }
 {
     let (p, first) = number(m, p)?;
     match tried(range_end(m, p))? {
@@ -61,13 +64,13 @@ pub fn sequence_set(
     p: usize,
 ) -> Result<(usize, Vec<RangeInclusive<u32>>), Err>
     requires { p ≤ length m.now }
-    ensures steps { GivesAt (λ x. map (λ r. ends r) x.items) m.now result (step sets.sequence_set (drop p m.now)) }
-    ensures answer { AnswersAt sets.sequence_set (λ x. map (λ r. ends r) x.items) m.now p result }
+    ensures steps { GivesAt (λ x. map (λ r. range_of r) x.items) m.now result (step sets.sequence_set (drop p m.now)) }
+    ensures answer { AnswersAt sets.sequence_set (λ x. map (λ r. range_of r) x.items) m.now p result }
     ensures ahead { Ahead m.now p result }
 {
     let item = |k: usize|
         requires { k ≤ length m.now }
-        ensures steps { ExactlyAt (λ x. ends x) m.entry.now result (step sets.sequence_item (drop k m.entry.now)) }
+        ensures steps { ExactlyAt (λ x. range_of x) m.entry.now result (step sets.sequence_item (drop k m.entry.now)) }
         ensures ahead { Ahead m.entry.now k result }
     { sequence_item(m, k) };
     separated(alloc, Separator::Comma, item, m, p)

@@ -2,6 +2,7 @@
 
 ghost use Rattle.std.specs.Prelude.{◌≡◌, ◌==◌, ◌||◌, ◌≤◌, ◌<◌, length, drop, position, IfOk, IfSome};
 ghost use Rattle.imap_grammar.specs.Positions.{AnswersAt, ExactlyAt, Ahead, Inside, Lies, RestsOn, maybe_in, named_in};
+ghost use Rattle.imap_grammar.specs.Memory.{NeverFails};
 ghost use Rattle.imap_grammar.specs.Step.{step, take_step};
 ghost use Rattle.imap_grammar.specs.Meaning.{begins, outside};
 ghost use Rattle.imap_grammar.specs.Rule.{run0, run1, opt};
@@ -60,6 +61,7 @@ fn quoted_content(m: &[u8], p: usize) -> Result<(usize, Span), Err>
     requires { p ≤ length m.now }
     ensures steps { ExactlyAt (λ x. named_in m.now x) m.now result (step strings.quoted_content (drop p m.now)) }
     ensures inside { Inside m.now p result }
+    ensures no_failure { NeverFails result }
 {
     let mut q = p;
     'parts: loop {
@@ -78,6 +80,7 @@ pub fn quoted(m: &[u8], p: usize) -> Result<(usize, Span), Err>
     ensures steps { ExactlyAt (λ x. named_in m.now x) m.now result (step strings.quoted (drop p m.now)) }
     ensures answer { AnswersAt strings.quoted (λ x. named_in m.now x) m.now p result }
     ensures inside { Inside m.now p result }
+    ensures no_failure { NeverFails result }
 {
     let (p, _) = tag(b"\"", m, p)?;
     let (p, content) = quoted_content(m, p)?;
@@ -90,6 +93,7 @@ fn literal_header(m: &[u8], p: usize) -> Result<(usize, u32), Err>
     requires { p ≤ length m.now }
     ensures steps { ExactlyAt (λ x. x) m.now result (step strings.literal_header (drop p m.now)) }
     ensures ahead { Ahead m.now p result }
+    ensures no_failure { NeverFails result }
 {
     let (p, _) = tag(b"{", m, p)?;
     let (p, count) = number(m, p)?;
@@ -104,6 +108,7 @@ fn counted(count: usize, m: &[u8], p: usize) -> Result<(usize, Span), Err>
     requires { p ≤ length m.now }
     ensures steps { ExactlyAt (λ x. named_in m.now x) m.now result (take_step count (drop p m.now)) }
     ensures inside { Inside m.now p result }
+    ensures no_failure { NeverFails result }
 {
     let left = m.len() - p;
     if left < count {
@@ -113,7 +118,7 @@ fn counted(count: usize, m: &[u8], p: usize) -> Result<(usize, Span), Err>
     Ok((q, Span { start: p, end: q }))
 }
 
-/// A literal: as many bytes as its header says, of any value (RFC 3501, section 4.3).
+/// A literal: as many bytes as its header says, of any value (RFC 3501, section 9: literal).
 ///
 /// Where fewer follow, `Needed::Size` is how many are missing.
 #[tactic(auto, using(imap_grammar::proofs::Agreement::exact_answered_at), unfolding(crate::specs::Strings::literal))]
@@ -122,6 +127,7 @@ pub fn literal(m: &[u8], p: usize) -> Result<(usize, Span), Err>
     ensures steps { ExactlyAt (λ x. named_in m.now x) m.now result (step strings.literal (drop p m.now)) }
     ensures answer { AnswersAt strings.literal (λ x. named_in m.now x) m.now p result }
     ensures inside { Inside m.now p result }
+    ensures no_failure { NeverFails result }
 {
     let (p, count) = literal_header(m, p)?;
     counted(count as usize, m, p)
@@ -146,6 +152,7 @@ pub fn string(m: &[u8], p: usize) -> Result<(usize, Span), Err>
     ensures steps { ExactlyAt (λ x. named_in m.now x) m.now result (step strings.string (drop p m.now)) }
     ensures answer { AnswersAt strings.string (λ x. named_in m.now x) m.now p result }
     ensures inside { Inside m.now p result }
+    ensures no_failure { NeverFails result }
 {
     if opens_quoted(m, p) {
         quoted(m, p)
@@ -166,6 +173,7 @@ pub fn astring_chars(m: &[u8], p: usize) -> Result<(usize, Span), Err>
     requires { p ≤ length m.now }
     ensures steps { ExactlyAt (λ x. named_in m.now x) m.now result (step (run1 classes.is_astring_char) (drop p m.now)) }
     ensures inside { Inside m.now p result }
+    ensures no_failure { NeverFails result }
 {
     let (_, i) = m.split_at(p);
     cut1(astring_end(i), m, p)
@@ -178,6 +186,7 @@ pub fn astring(m: &[u8], p: usize) -> Result<(usize, Span), Err>
     ensures steps { ExactlyAt (λ x. named_in m.now x) m.now result (step strings.astring (drop p m.now)) }
     ensures answer { AnswersAt strings.astring (λ x. named_in m.now x) m.now p result }
     ensures inside { Inside m.now p result }
+    ensures no_failure { NeverFails result }
 {
     first!(astring_chars(m, p));
     string(m, p)
@@ -190,6 +199,7 @@ pub fn nil(m: &[u8], p: usize) -> Result<(usize, Span), Err>
     ensures steps { ExactlyAt (λ x. named_in m.now x) m.now result (step strings.nil (drop p m.now)) }
     ensures answer { AnswersAt strings.nil (λ x. named_in m.now x) m.now p result }
     ensures inside { Inside m.now p result }
+    ensures no_failure { NeverFails result }
 {
     word(b"NIL", m, p)
 }
@@ -214,6 +224,7 @@ pub fn nstring(m: &[u8], p: usize) -> Result<(usize, Option<Span>), Err>
     ensures answer { AnswersAt strings.nstring (λ x. maybe_in m.now x) m.now p result }
     ensures ahead { Ahead m.now p result }
     ensures rests { RestsOn maybe_in result }
+    ensures no_failure { NeverFails result }
 {
     if opens_string(m, p) {
         let (q, content) = string(m, p)?;
@@ -235,6 +246,7 @@ pub fn atom_chars0(m: &[u8], p: usize) -> Result<(usize, Span), Err>
     requires { p ≤ length m.now }
     ensures steps { ExactlyAt (λ x. named_in m.now x) m.now result (step (run0 classes.is_atom_char) (drop p m.now)) }
     ensures inside { Inside m.now p result }
+    ensures no_failure { NeverFails result }
 {
     let (_, i) = m.split_at(p);
     cut0(atom_end(i), m, p)
@@ -245,6 +257,7 @@ pub fn atom_chars(m: &[u8], p: usize) -> Result<(usize, Span), Err>
     requires { p ≤ length m.now }
     ensures steps { ExactlyAt (λ x. named_in m.now x) m.now result (step (run1 classes.is_atom_char) (drop p m.now)) }
     ensures inside { Inside m.now p result }
+    ensures no_failure { NeverFails result }
 {
     let (_, i) = m.split_at(p);
     cut1(atom_end(i), m, p)
@@ -257,6 +270,7 @@ pub(crate) fn atom_text(m: &[u8], p: usize) -> Result<(usize, (Span, &str)), Err
     ensures span { ExactlyAt (λ x. named_in m.now x.0) m.now result (step strings.atom (drop p m.now)) }
     ensures text { ExactlyAt (λ x. x.1.now) m.now result (step strings.atom (drop p m.now)) }
     ensures inside { IfOk result (λ x. Lies p x.1.0 x.0 × (x.0 ≤ length m.now)) }
+    ensures no_failure { NeverFails result }
 {
     let (q, content) = atom_chars(m, p)?;
     match as_utf8(content.bytes(m)) {
@@ -272,6 +286,7 @@ pub fn atom(m: &[u8], p: usize) -> Result<(usize, Span), Err>
     ensures steps { ExactlyAt (λ x. named_in m.now x) m.now result (step strings.atom (drop p m.now)) }
     ensures answer { AnswersAt strings.atom (λ x. named_in m.now x) m.now p result }
     ensures inside { Inside m.now p result }
+    ensures no_failure { NeverFails result }
 {
     let (q, (content, _)) = atom_text(m, p)?;
     Ok((q, content))

@@ -2,6 +2,7 @@
 
 ghost use Rattle.std.specs.Prelude.{◌≡◌, ◌≤◌, ◌<◌, length, drop, position, IfSome};
 ghost use Rattle.imap_grammar.specs.Positions.{AnswersAt, ExactlyAt, Inside, named_in};
+ghost use Rattle.imap_grammar.specs.Memory.{NeverFails};
 ghost use Rattle.imap_grammar.specs.Step.{step};
 ghost use Rattle.imap_grammar.specs.Meaning.{outside};
 ghost use Rattle.imap_grammar.specs.Rule.{run0};
@@ -26,6 +27,7 @@ pub fn text_chars(m: &[u8], p: usize) -> Result<(usize, Span), Err>
     requires { p ≤ length m.now }
     ensures steps { ExactlyAt (λ x. named_in m.now x) m.now result (step (run0 classes.is_text_char) (drop p m.now)) }
     ensures inside { Inside m.now p result }
+    ensures no_failure { NeverFails result }
 {
     let (_, i) = m.split_at(p);
     cut0(text_end(i), m, p)
@@ -38,6 +40,7 @@ pub fn text(m: &[u8], p: usize) -> Result<(usize, Span), Err>
     ensures steps { ExactlyAt (λ x. decoded (named_in m.now x)) m.now result (step texts.text (drop p m.now)) }
     ensures answer { AnswersAt texts.text (λ x. decoded (named_in m.now x)) m.now p result }
     ensures inside { Inside m.now p result }
+    ensures no_failure { NeverFails result }
 {
     let (q, content) = text_chars(m, p)?;
     Ok((q, content))

@@ -21,10 +21,10 @@ use std::alloc::{AllocError, Global};
 pub(crate) fn acl_entry(alloc: Global, i: &[u8]) -> IResult<&[u8], AclEntry<'_>>
     ensures { Gives (λ x. acl_entry_value x) result (step rules.acl_entry i.now) }
 {
-    let (i, identifier) = astring_utf8(alloc, i)?;
-    let (i, _) = blanks1(i)?;
-    let (i, rights) = rights(alloc, i)?;
-    Ok((i, AclEntry { identifier, rights }))
+    let (rest, identifier) = astring_utf8(alloc, i)?;
+    let (rest, _) = blanks1(rest)?;
+    let (rest, rights) = rights(alloc, rest)?;
+    Ok((rest, AclEntry { identifier, rights }))
 }
 
 fn acl_entries(alloc: Global, i: &[u8]) -> IResult<&[u8], Vec<AclEntry<'_>>>
@@ -36,7 +36,7 @@ fn acl_entries(alloc: Global, i: &[u8]) -> IResult<&[u8], Vec<AclEntry<'_>>>
     maybe_separated(alloc, Separator::Blanks, entry, i)
 }
 
-/// The rights of each identifier on a mailbox, maybe of none (RFC 4314, section 3.6: ACL).
+/// The rights of each identifier on a mailbox, maybe of none (RFC 4314, section 7: acl-data).
 ///
 /// It takes memory for them, and for texts that are no UTF-8.
 #[tactic(auto, using(imap_grammar::proofs::Agreement::answered), unfolding(crate::specs::Acls::acl))]
@@ -44,12 +44,12 @@ pub fn acl(alloc: Global, i: &[u8]) -> IResult<&[u8], Acl<'_>>
     ensures steps { Gives (λ x. acl_value x) result (step rules.acl i.now) }
     ensures answer { Answers rules.acl (λ x. acl_value x) i.now result }
 {
-    let (i, _) = word(b"ACL", i)?;
-    let (i, _) = blanks1(i)?;
-    let (i, mailbox) = mailbox(alloc, i)?;
-    let (i, _) = blanks0(i)?;
-    let (i, acls) = acl_entries(alloc, i)?;
-    Ok((i, Acl { mailbox, acls }))
+    let (rest, _) = word(b"ACL", i)?;
+    let (rest, _) = blanks1(rest)?;
+    let (rest, mailbox) = mailbox(alloc, rest)?;
+    let (rest, _) = blanks0(rest)?;
+    let (rest, acls) = acl_entries(alloc, rest)?;
+    Ok((rest, Acl { mailbox, acls }))
 }
 
 fn right_groups(alloc: Global, i: &[u8]) -> IResult<&[u8], Vec<Vec<AclRight>>>
@@ -75,25 +75,25 @@ fn joined(alloc: Global, groups: Vec<Vec<AclRight>>) -> Result<Vec<AclRight>, Al
 fn optional_rights(alloc: Global, i: &[u8]) -> IResult<&[u8], Vec<AclRight>>
     ensures { Gives (λ x. x.items) result (step rules.optional_rights i.now) }
 {
-    let (i, _) = blanks0(i)?;
-    let (i, groups) = right_groups(alloc, i)?;
-    Ok((i, joined(alloc, groups)?))
+    let (rest, _) = blanks0(i)?;
+    let (rest, groups) = right_groups(alloc, rest)?;
+    Ok((rest, joined(alloc, groups)?))
 }
 
 #[tactic(auto, unfolding(crate::specs::Acls::list_rights))]
 fn list_rights_parts(alloc: Global, i: &[u8]) -> IResult<&[u8], ListRights<'_>>
     ensures { Gives (λ x. list_rights_value x) result (step rules.list_rights i.now) }
 {
-    let (i, _) = word(b"LISTRIGHTS", i)?;
-    let (i, _) = blanks1(i)?;
-    let (i, mailbox) = mailbox(alloc, i)?;
-    let (i, _) = blanks1(i)?;
-    let (i, identifier) = astring_utf8(alloc, i)?;
-    let (i, _) = blanks1(i)?;
-    let (i, required) = rights(alloc, i)?;
-    let (i, optional) = optional_rights(alloc, i)?;
+    let (rest, _) = word(b"LISTRIGHTS", i)?;
+    let (rest, _) = blanks1(rest)?;
+    let (rest, mailbox) = mailbox(alloc, rest)?;
+    let (rest, _) = blanks1(rest)?;
+    let (rest, identifier) = astring_utf8(alloc, rest)?;
+    let (rest, _) = blanks1(rest)?;
+    let (rest, required) = rights(alloc, rest)?;
+    let (rest, optional) = optional_rights(alloc, rest)?;
     Ok((
-        i,
+        rest,
         ListRights {
             mailbox,
             identifier,
@@ -103,7 +103,7 @@ fn list_rights_parts(alloc: Global, i: &[u8]) -> IResult<&[u8], ListRights<'_>>
     ))
 }
 
-/// The rights that an identifier always has on a mailbox, and those that it may be granted, in order (RFC 4314, section 3.7: LISTRIGHTS).
+/// The rights that an identifier always has on a mailbox, and those that it may be granted, in order (RFC 4314, section 7: listrights-data).
 ///
 /// It takes memory for them, and for texts that are no UTF-8.
 #[tactic(auto, using(imap_grammar::proofs::Agreement::answered))]
@@ -118,15 +118,15 @@ pub fn list_rights(alloc: Global, i: &[u8]) -> IResult<&[u8], ListRights<'_>>
 fn my_rights_parts(alloc: Global, i: &[u8]) -> IResult<&[u8], MyRights<'_>>
     ensures { Gives (λ x. my_rights_value x) result (step rules.my_rights i.now) }
 {
-    let (i, _) = word(b"MYRIGHTS", i)?;
-    let (i, _) = blanks1(i)?;
-    let (i, mailbox) = mailbox(alloc, i)?;
-    let (i, _) = blanks1(i)?;
-    let (i, rights) = rights(alloc, i)?;
-    Ok((i, MyRights { mailbox, rights }))
+    let (rest, _) = word(b"MYRIGHTS", i)?;
+    let (rest, _) = blanks1(rest)?;
+    let (rest, mailbox) = mailbox(alloc, rest)?;
+    let (rest, _) = blanks1(rest)?;
+    let (rest, rights) = rights(alloc, rest)?;
+    Ok((rest, MyRights { mailbox, rights }))
 }
 
-/// The client's own rights on a mailbox (RFC 4314, section 3.8: MYRIGHTS).
+/// The client's own rights on a mailbox (RFC 4314, section 7: myrights-data).
 ///
 /// It takes memory for them, and for a mailbox that is no UTF-8.
 #[tactic(auto, using(imap_grammar::proofs::Agreement::answered))]

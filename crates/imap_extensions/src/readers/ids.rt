@@ -77,7 +77,7 @@ fn id_params(alloc: Global, i: &[u8]) -> IResult<&[u8], Option<IdMap<'_>>>
     Ok((rest, None))
 }
 
-/// `ID`, and fields with their values, or `NIL` (RFC 2971, section 3.2).
+/// `ID`, and fields with their values, or `NIL` (RFC 2971, section 4: id_response).
 ///
 /// A field whose value is `NIL` is left out, and of equal fields the last counts. `NIL` in place of the list is `None`.
 /// It takes memory for the map, and for texts that are no UTF-8.

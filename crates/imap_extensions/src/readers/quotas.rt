@@ -73,7 +73,7 @@ fn quota_parts(alloc: Global, i: &[u8]) -> IResult<&[u8], Quota<'_>>
     ))
 }
 
-/// `QUOTA`, a quota root, and its resources, maybe none (RFC 2087, section 5.1: QUOTA).
+/// `QUOTA`, a quota root, and its resources, maybe none (RFC 2087, section 6: quota_response).
 ///
 /// A usage or limit past 64 bits is `Error`. It takes memory for the resources, and for texts that are no UTF-8.
 #[tactic(auto, using(imap_grammar::proofs::Agreement::answered))]
@@ -118,7 +118,7 @@ fn quota_root_parts(alloc: Global, i: &[u8]) -> IResult<&[u8], QuotaRoot<'_>>
     ))
 }
 
-/// `QUOTAROOT`, a mailbox, and its quota roots, maybe none (RFC 2087, section 5.2: QUOTAROOT).
+/// `QUOTAROOT`, a mailbox, and its quota roots, maybe none (RFC 2087, section 6: quotaroot_response).
 ///
 /// It takes memory for the roots, and for texts that are no UTF-8.
 #[tactic(auto, using(imap_grammar::proofs::Agreement::answered))]

@@ -37,7 +37,7 @@ fn vanished_parts(alloc: Global, i: &[u8]) -> IResult<&[u8], (bool, Vec<RangeInc
     Ok((rest, (earlier, set)))
 }
 
-/// `VANISHED`, maybe `(EARLIER)`, and the unique identifiers of messages that are gone (RFC 7162, section 3.2.10).
+/// `VANISHED`, maybe `(EARLIER)`, and the unique identifiers of messages that are gone (RFC 7162, section 7: expunged-resp).
 ///
 /// Whether `(EARLIER)` stands there, and the ranges as they are written. It takes memory for the ranges.
 #[tactic(auto, using(imap_grammar::proofs::Agreement::answered))]

@@ -1,6 +1,6 @@
 //! Lists at a position, over a reader of positions that is passed: f takes a position of m, and answers one that is not before it, and not past m's end.
 
-ghost use Rattle.std.specs.Prelude.{◌≡◌, ◌≤◌, ℕ, length, drop};
+ghost use Rattle.std.specs.Prelude.{◌≤◌, ℕ, length, drop};
 ghost use Rattle.imap_grammar.specs.Positions.{ExactlyAt, Ahead, named_in};
 ghost use Rattle.imap_grammar.specs.PositionLists.{FollowsAt, Advances, KeepsAhead, Onward};
 ghost use Rattle.imap_grammar.specs.Step.{step};

@@ -2,6 +2,7 @@
 
 ghost use Rattle.std.specs.Prelude.{◌≡◌, ◌≤◌, List, ℕ, length, drop, IfOk, IsOk, IsUtf8};
 ghost use Rattle.imap_grammar.specs.Answer.{Exactly};
+ghost use Rattle.imap_grammar.specs.Memory.{NeverFails};
 ghost use Rattle.imap_grammar.specs.Step.{Step};
 ghost use Rattle.imap_grammar.specs.Positions.{named_in, Inside, ExactlyAt};
 ghost use Rattle.imap_grammar.specs.Text.{text_of, decoded};
@@ -68,7 +69,8 @@ pub fn rest(m: &[u8], p: usize) -> &[u8]
 /// What was reached from the start of m, as slices of it.
 pub fn sliced(m: &[u8], reached: Result<(usize, Span), Err>) -> IResult<&[u8], &[u8]>
     requires { Inside m.now 0 reached }
-    ensures { (s : Step (List ℕ)) → ExactlyAt (λ x. named_in m.now x) m.now reached s → Exactly (λ x. x.now) result s }
+    ensures steps { (s : Step (List ℕ)) → ExactlyAt (λ x. named_in m.now x) m.now reached s → Exactly (λ x. x.now) result s }
+    ensures no_failure { NeverFails reached → NeverFails result }
 {
     match reached {
         Ok((q, span)) => Ok((rest(m, q), span.bytes(m))),

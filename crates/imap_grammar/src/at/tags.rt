@@ -3,6 +3,7 @@
 ghost use Rattle.std.specs.Prelude.{◌≡◌, ◌==◌, ◌≤◌, ◌<◌, ◌+◌, ℕ, Bool, length, drop, position, IfSome};
 ghost use Rattle.std.specs.Option.{ForSome};
 ghost use Rattle.std.specs.List.{zip, list_all};
+ghost use Rattle.imap_grammar.specs.Memory.{NeverFails};
 ghost use Rattle.imap_grammar.specs.Positions.{ExactlyAt, Ahead, Inside, named_in, maybe_in};
 ghost use Rattle.imap_grammar.specs.Step.{step};
 ghost use Rattle.imap_grammar.specs.Meaning.{outside};
@@ -14,6 +15,7 @@ ghost use Rattle.imap_grammar.specs.Tags.{same_letter};
 use crate::answer::{Err, Needed};
 use crate::at::span::Span;
 use crate::classes::is_blank;
+use crate::maybe;
 
 // Whether the bytes are the same as far as both go.
 fn agrees(word: &[u8], i: &[u8]) -> bool
@@ -41,6 +43,7 @@ pub fn tag(text: &[u8], m: &[u8], p: usize) -> Result<(usize, Span), Err>
     requires { p ≤ length m.now }
     ensures steps { ExactlyAt (λ x. named_in m.now x) m.now result (step (tag_by ◌==◌ text.now) (drop p m.now)) }
     ensures inside { Inside m.now p result }
+    ensures no_failure { NeverFails result }
 {
     let (_, i) = m.split_at(p);
     if i.len() < text.len() {
@@ -63,6 +66,7 @@ pub fn word(text: &[u8], m: &[u8], p: usize) -> Result<(usize, Span), Err>
     requires { p ≤ length m.now }
     ensures steps { ExactlyAt (λ x. named_in m.now x) m.now result (step (tag_by same_letter text.now) (drop p m.now)) }
     ensures inside { Inside m.now p result }
+    ensures no_failure { NeverFails result }
 {
     let (_, i) = m.split_at(p);
     if i.len() < text.len() {
@@ -84,12 +88,9 @@ pub fn maybe_space(m: &[u8], p: usize) -> Result<(usize, Option<Span>), Err>
     requires { p ≤ length m.now }
     ensures steps { ExactlyAt (λ x. maybe_in m.now x) m.now result (step tags.maybe_space (drop p m.now)) }
     ensures ahead { Ahead m.now p result }
+    ensures no_failure { NeverFails result }
 {
-    match tag(b" ", m, p) {
-        Ok((q, space)) => Ok((q, Some(space))),
-        Err(Err::Error) => Ok((p, None)),
-        Err(e) => Err(e),
-    }
+    maybe!(tag(b" ", m, p), p)
 }
 
 /// The bytes before the first that is outside a class, where that one stands `end` behind p.
@@ -98,6 +99,7 @@ pub fn cut0(end: Option<usize>, m: &[u8], p: usize) -> Result<(usize, Span), Err
     requires { ForSome end (λ n. p + n < length m.now) }
     ensures steps { (class : ℕ → Bool) → end ≡ position (outside class) (drop p m.now) → ExactlyAt (λ x. named_in m.now x) m.now result (step (run0 class) (drop p m.now)) }
     ensures inside { Inside m.now p result }
+    ensures no_failure { NeverFails result }
 {
     match end {
         None => Err(Err::Incomplete(Needed::Unknown)),
@@ -113,6 +115,7 @@ pub fn cut1(end: Option<usize>, m: &[u8], p: usize) -> Result<(usize, Span), Err
     requires { ForSome end (λ n. p + n < length m.now) }
     ensures steps { (class : ℕ → Bool) → end ≡ position (outside class) (drop p m.now) → ExactlyAt (λ x. named_in m.now x) m.now result (step (run1 class) (drop p m.now)) }
     ensures inside { Inside m.now p result }
+    ensures no_failure { NeverFails result }
 {
     match end {
         None => Err(Err::Incomplete(Needed::Unknown)),
@@ -138,6 +141,7 @@ pub fn blanks0(m: &[u8], p: usize) -> Result<(usize, Span), Err>
     requires { p ≤ length m.now }
     ensures steps { ExactlyAt (λ x. named_in m.now x) m.now result (step tags.blanks0 (drop p m.now)) }
     ensures inside { Inside m.now p result }
+    ensures no_failure { NeverFails result }
 {
     let (_, i) = m.split_at(p);
     cut0(blanks_end(i), m, p)
@@ -148,6 +152,7 @@ pub fn blanks1(m: &[u8], p: usize) -> Result<(usize, Span), Err>
     requires { p ≤ length m.now }
     ensures steps { ExactlyAt (λ x. named_in m.now x) m.now result (step tags.blanks1 (drop p m.now)) }
     ensures inside { Inside m.now p result }
+    ensures no_failure { NeverFails result }
 {
     let (_, i) = m.split_at(p);
     cut1(blanks_end(i), m, p)

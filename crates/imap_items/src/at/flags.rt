@@ -2,6 +2,7 @@
 
 ghost use Rattle.std.specs.Prelude.{◌≤◌, length, drop, codes, map};
 ghost use Rattle.imap_grammar.specs.Positions.{AnswersAt, ExactlyAt, GivesAt, Ahead, Inside, RestsOn, named_in};
+ghost use Rattle.imap_grammar.specs.Memory.{NeverFails};
 ghost use Rattle.imap_grammar.specs.Step.{step};
 ghost use Rattle.imap_grammar.specs.Tags.{exactly_names};
 ghost use Rattle.imap_items.specs.Flags as flags;
@@ -20,76 +21,83 @@ fn backslashed(m: &[u8], p: usize) -> Result<(usize, Span), Err>
     requires { p ≤ length m.now }
     ensures steps { ExactlyAt (λ x. named_in m.now x) m.now result (step flags.backslashed (drop p m.now)) }
     ensures inside { Inside m.now p result }
+    ensures no_failure { NeverFails result }
 {
     let (q, _) = tag(b"\\", m, p)?;
     let (q, _) = atom_chars0(m, q)?;
     Ok((q, Span { start: p, end: q }))
 }
 
-#[tactic(auto, using(imap_grammar::proofs::Positions::kept_self), unfolding(crate::specs::Flags::backslashed_text))]
-fn backslashed_text(m: &[u8], p: usize) -> Result<(usize, Span), Err>
+#[tactic(auto, unfolding(crate::specs::Flags::backslashed_text))]
+pub(crate) fn backslashed_text(m: &[u8], p: usize) -> Result<(usize, &str), Err>
     requires { p ≤ length m.now }
-    ensures steps { ExactlyAt (λ x. named_in m.now x) m.now result (step flags.backslashed_text (drop p m.now)) }
-    ensures inside { Inside m.now p result }
+    ensures steps { ExactlyAt (λ x. x.now) m.now result (step flags.backslashed_text (drop p m.now)) }
+    ensures ahead { Ahead m.now p result }
+    ensures no_failure { NeverFails result }
 {
     let (q, flag) = backslashed(m, p)?;
     match as_utf8(flag.bytes(m)) {
         None => Err(Err::Error),
-        Some(_) => Ok((q, flag)),
+        Some(text) => Ok((q, text)),
     }
 }
 
-#[tactic(auto, using(imap_grammar::proofs::Positions::kept_self), unfolding(crate::specs::Flags::keyword))]
-fn keyword(m: &[u8], p: usize) -> Result<(usize, Span), Err>
+#[tactic(auto, unfolding(crate::specs::Flags::keyword))]
+fn keyword(m: &[u8], p: usize) -> Result<(usize, &str), Err>
     requires { p ≤ length m.now }
-    ensures steps { ExactlyAt (λ x. named_in m.now x) m.now result (step flags.keyword (drop p m.now)) }
-    ensures inside { Inside m.now p result }
+    ensures steps { ExactlyAt (λ x. x.now) m.now result (step flags.keyword (drop p m.now)) }
+    ensures ahead { Ahead m.now p result }
+    ensures no_failure { NeverFails result }
 {
     let (q, keyword) = astring_chars(m, p)?;
     match as_utf8(keyword.bytes(m)) {
         None => Err(Err::Error),
-        Some(_) => Ok((q, keyword)),
+        Some(text) => Ok((q, text)),
     }
 }
 
 #[tactic(auto, unfolding(crate::specs::Flags::flag))]
-pub(crate) fn flag(m: &[u8], p: usize) -> Result<(usize, Span), Err>
+pub(crate) fn flag(m: &[u8], p: usize) -> Result<(usize, &str), Err>
     requires { p ≤ length m.now }
-    ensures steps { ExactlyAt (λ x. named_in m.now x) m.now result (step flags.flag (drop p m.now)) }
-    ensures inside { Inside m.now p result }
+    ensures steps { ExactlyAt (λ x. x.now) m.now result (step flags.flag (drop p m.now)) }
+    ensures ahead { Ahead m.now p result }
+    ensures no_failure { NeverFails result }
 {
     first!(backslashed_text(m, p));
     keyword(m, p)
 }
 
-fn star(m: &[u8], p: usize) -> Result<(usize, Span), Err>
+fn star(m: &[u8], p: usize) -> Result<(usize, &str), Err>
     requires { p ≤ length m.now }
-    ensures steps { ExactlyAt (λ x. named_in m.now x) m.now result (step (exactly_names "\\*" (codes "\\*")) (drop p m.now)) }
-    ensures inside { Inside m.now p result }
+    ensures steps { ExactlyAt (λ x. x.now) m.now result (step (exactly_names "\\*" (codes "\\*")) (drop p m.now)) }
+    ensures ahead { Ahead m.now p result }
+    ensures no_failure { NeverFails result }
 {
-    let (q, star) = tag(b"\\*", m, p)?;
-    Ok((q, star))
+    let (q, _) = tag(b"\\*", m, p)?;
+    Ok((q, "\\*"))
 }
 
 #[tactic(auto, unfolding(crate::specs::Flags::flag_perm))]
-fn flag_perm(m: &[u8], p: usize) -> Result<(usize, Span), Err>
+pub(crate) fn flag_perm(m: &[u8], p: usize) -> Result<(usize, &str), Err>
     requires { p ≤ length m.now }
-    ensures steps { ExactlyAt (λ x. named_in m.now x) m.now result (step flags.flag_perm (drop p m.now)) }
-    ensures inside { Inside m.now p result }
+    ensures steps { ExactlyAt (λ x. x.now) m.now result (step flags.flag_perm (drop p m.now)) }
+    ensures ahead { Ahead m.now p result }
+    ensures no_failure { NeverFails result }
 {
     first!(star(m, p));
     flag(m, p)
 }
 
-#[tactic(auto, using(crate::proofs::Spanned::flag_perm_decoded, crate::proofs::Spanned::text_rests), unfolding(crate::specs::Flags::flag_text))]
+// The text of a flag lies from p up to the position behind it.
+#[tactic(auto, using(crate::proofs::Spanned::flag_perm_there, crate::proofs::Spanned::text_rests), unfolding(crate::specs::Flags::flag_text))]
 fn flag_text(m: &[u8], p: usize) -> Result<(usize, Span), Err>
     requires { p ≤ length m.now }
     ensures steps { ExactlyAt (λ x. text_in m.now x) m.now result (step flags.flag_text (drop p m.now)) }
     ensures ahead { Ahead m.now p result }
     ensures rests { RestsOn text_in result }
 {
-    let (q, flag) = flag_perm(m, p)?;
-    Ok((q, flag))
+    let (q, _) = flag_perm(m, p)?;
+    Ok((q, Span { start: p, end: q }))
 }
 
 /// Flags in parentheses, maybe none, each as the span of its text, which is UTF-8 (RFC 3501, section 9: flag-list).

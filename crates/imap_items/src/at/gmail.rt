@@ -14,14 +14,14 @@ use imap_bytes::at::{parenthesized_list, quoted};
 use imap_bytes::{Err, first};
 use std::alloc::Global;
 
-#[tactic(auto, using(crate::proofs::Spanned::flag_decoded))]
+#[tactic(auto, using(crate::proofs::Spanned::flag_there))]
 fn flag_label(m: &[u8], p: usize) -> Result<(usize, Span), Err>
     requires { p ≤ length m.now }
     ensures steps { ExactlyAt (λ x. text_in m.now x) m.now result (step rules.flag_label (drop p m.now)) }
     ensures inside { Inside m.now p result }
 {
-    let (q, label) = flag(m, p)?;
-    Ok((q, label))
+    let (q, _) = flag(m, p)?;
+    Ok((q, Span { start: p, end: q }))
 }
 
 #[tactic(auto, unfolding(imap_bytes::specs::Texts::quoted_utf8))]
@@ -36,10 +36,10 @@ fn quoted_label(m: &[u8], p: usize) -> Result<(usize, Span), Err>
 
 // A label: a flag, or a quoted string.
 #[tactic(auto, using(crate::proofs::Spanned::text_rests), unfolding(crate::specs::Gmail::gmail_label))]
-fn gmail_label(m: &[u8], p: usize) -> Result<(usize, Span), Err>
+pub(crate) fn gmail_label(m: &[u8], p: usize) -> Result<(usize, Span), Err>
     requires { p ≤ length m.now }
     ensures steps { ExactlyAt (λ x. text_in m.now x) m.now result (step rules.gmail_label (drop p m.now)) }
-    ensures ahead { Ahead m.now p result }
+    ensures inside { Inside m.now p result }
     ensures rests { RestsOn text_in result }
 {
     first!(flag_label(m, p));

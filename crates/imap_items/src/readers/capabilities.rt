@@ -19,16 +19,16 @@ use std::borrow::CowStr;
 fn auth(i: &[u8]) -> IResult<&[u8], Capability<'_>>
     ensures { Exactly (λ x. capability_value x) result (step capabilities.auth i.now) }
 {
-    let (i, _) = word(b"AUTH=", i)?;
-    let (i, mechanism) = atom(i)?;
-    Ok((i, Capability::Auth(CowStr::Borrowed(mechanism))))
+    let (rest, _) = word(b"AUTH=", i)?;
+    let (rest, mechanism) = atom(rest)?;
+    Ok((rest, Capability::Auth(CowStr::Borrowed(mechanism))))
 }
 
 fn name(i: &[u8]) -> IResult<&[u8], Capability<'_>>
     ensures { Exactly (λ x. capability_value x) result (step capabilities.name i.now) }
 {
-    let (i, name) = atom(i)?;
-    Ok((i, Capability::Atom(CowStr::Borrowed(name))))
+    let (rest, name) = atom(i)?;
+    Ok((rest, Capability::Atom(CowStr::Borrowed(name))))
 }
 
 #[tactic(auto, unfolding(crate::specs::Capabilities::capability))]
@@ -45,8 +45,8 @@ fn capability(i: &[u8]) -> IResult<&[u8], Capability<'_>>
 pub(crate) fn spaced_capability(i: &[u8]) -> IResult<&[u8], Capability<'_>>
     ensures { Exactly (λ x. capability_value x) result (step capabilities.spaced_capability i.now) }
 {
-    let (i, _) = tag(b" ", i)?;
-    capability(i)
+    let (rest, _) = tag(b" ", i)?;
+    capability(rest)
 }
 
 /// A name behind a space, as it stands.
@@ -87,12 +87,12 @@ fn with_revision(alloc: Global, i: &[u8]) -> IResult<&[u8], Vec<Capability<'_>>>
     ensures steps { Gives (λ x. map capability_value x.items) result (step capabilities.capability_data i.now) }
     ensures memory { FailsOnlyIf (BeginsWord "CAPABILITY" i.now) result }
 {
-    let (i, _) = word(b"CAPABILITY", i)?;
-    let (i, items) = spaced_capabilities(alloc, i)?;
+    let (rest, _) = word(b"CAPABILITY", i)?;
+    let (rest, items) = spaced_capabilities(alloc, rest)?;
     if !has_revision(&items) {
         return Err(Err::Error);
     }
-    Ok((i, items))
+    Ok((rest, items))
 }
 
 /// `CAPABILITY` and capabilities (RFC 3501, section 9: capability-data).
@@ -107,12 +107,12 @@ pub fn capability_data(alloc: Global, i: &[u8]) -> IResult<&[u8], Vec<Capability
     with_revision(alloc, i)
 }
 
-/// `ENABLED` and the names of capabilities, each as it stands, maybe none (RFC 5161, section 4: enable-data).
+/// `ENABLED` and the names of capabilities, each as it stands, maybe none (RFC 5161, section 4: response-data).
 #[tactic(auto, using(imap_grammar::proofs::Agreement::answered), unfolding(crate::specs::Capabilities::enabled_data))]
 pub fn enabled_data(alloc: Global, i: &[u8]) -> IResult<&[u8], Vec<Capability<'_>>>
     ensures steps { Gives (λ x. map capability_value x.items) result (step capabilities.enabled_data i.now) }
     ensures answer { Answers capabilities.enabled_data (λ x. map capability_value x.items) i.now result }
 {
-    let (i, _) = word(b"ENABLED", i)?;
-    spaced_names(alloc, i)
+    let (rest, _) = word(b"ENABLED", i)?;
+    spaced_names(alloc, rest)
 }

@@ -1,80 +1,53 @@
 //! Flags.
 
-ghost use Rattle.std.specs.Prelude.{codes, map};
+ghost use Rattle.std.specs.Prelude.{map};
 ghost use Rattle.imap_grammar.specs.Answer.{Answers, Exactly, Gives};
+ghost use Rattle.imap_grammar.specs.Memory.{NeverFails};
 ghost use Rattle.imap_grammar.specs.Step.{step};
-ghost use Rattle.imap_grammar.specs.Tags.{exactly_names};
 ghost use Rattle.imap_grammar.specs.Text.{text_of};
 ghost use Rattle.imap_items.specs.Flags as flags;
 
-use imap_bytes::strings::{as_utf8, astring_chars, atom_chars0};
-use imap_bytes::tags::{tag, taken};
-use imap_bytes::{Err, IResult, first, parenthesized_list};
+use crate::at;
+use imap_bytes::at::span::rest;
+use imap_bytes::{IResult, parenthesized_list};
 use std::alloc::Global;
 use std::borrow::CowStr;
-
-#[tactic(auto, unfolding(crate::specs::Flags::backslashed))]
-fn backslashed(i: &[u8]) -> IResult<&[u8], &[u8]>
-    ensures { Exactly (λ x. x.now) result (step flags.backslashed i.now) }
-{
-    let (rest, _) = tag(b"\\", i)?;
-    let (rest, _) = atom_chars0(rest)?;
-    Ok((rest, taken(i, rest)))
-}
 
 /// A backslash and atom-chars, maybe none, as text (RFC 3501, section 9: flag-extension). No memory.
 ///
 /// Bytes that are no UTF-8 are `Error`.
-#[tactic(auto, using(imap_grammar::proofs::Agreement::exact_answered), unfolding(crate::specs::Flags::backslashed_text))]
+#[tactic(auto, using(imap_grammar::proofs::Agreement::exact_answered))]
 pub fn backslashed_text(i: &[u8]) -> IResult<&[u8], &str>
     ensures steps { Exactly (λ x. x.now) result (step flags.backslashed_text i.now) }
     ensures answer { Answers flags.backslashed_text (λ x. x.now) i.now result }
+    ensures no_failure { NeverFails result }
 {
-    let (rest, bytes) = backslashed(i)?;
-    match as_utf8(bytes) {
-        None => Err(Err::Error),
-        Some(text) => Ok((rest, text)),
-    }
-}
-
-#[tactic(auto, unfolding(crate::specs::Flags::keyword))]
-fn keyword(i: &[u8]) -> IResult<&[u8], &str>
-    ensures { Exactly (λ x. x.now) result (step flags.keyword i.now) }
-{
-    let (rest, bytes) = astring_chars(i)?;
-    match as_utf8(bytes) {
-        None => Err(Err::Error),
-        Some(text) => Ok((rest, text)),
-    }
+    let (q, text) = at::flags::backslashed_text(i, 0)?;
+    Ok((rest(i, q), text))
 }
 
 /// A flag: a backslash and atom-chars, or astring-chars (RFC 3501, section 9: flag, with the crate's leniences). No memory.
 ///
 /// Bytes that are no UTF-8 are `Error`.
-#[tactic(auto, using(imap_grammar::proofs::Agreement::exact_answered), unfolding(crate::specs::Flags::flag))]
+#[tactic(auto, using(imap_grammar::proofs::Agreement::exact_answered))]
 pub fn flag(i: &[u8]) -> IResult<&[u8], &str>
     ensures steps { Exactly (λ x. x.now) result (step flags.flag i.now) }
     ensures answer { Answers flags.flag (λ x. x.now) i.now result }
+    ensures no_failure { NeverFails result }
 {
-    first!(backslashed_text(i));
-    keyword(i)
-}
-
-fn star(i: &[u8]) -> IResult<&[u8], &str>
-    ensures { Exactly (λ x. x.now) result (step (exactly_names "\\*" (codes "\\*")) i.now) }
-{
-    let (rest, _) = tag(b"\\*", i)?;
-    Ok((rest, "\\*"))
+    let (q, text) = at::flags::flag(i, 0)?;
+    Ok((rest(i, q), text))
 }
 
 /// `\*`, or a flag (RFC 3501, section 9: flag-perm). No memory.
-#[tactic(auto, using(imap_grammar::proofs::Agreement::exact_answered), unfolding(crate::specs::Flags::flag_perm))]
+#[tactic(auto, using(imap_grammar::proofs::Agreement::exact_answered))]
 pub fn flag_perm(i: &[u8]) -> IResult<&[u8], &str>
     ensures steps { Exactly (λ x. x.now) result (step flags.flag_perm i.now) }
     ensures answer { Answers flags.flag_perm (λ x. x.now) i.now result }
+    ensures no_failure { NeverFails result }
 {
-    first!(star(i));
-    flag(i)
+    let (q, text) = at::flags::flag_perm(i, 0)?;
+    Ok((rest(i, q), text))
 }
 
 /// A flag of a list, as text that lies in the input. No memory.
@@ -82,6 +55,7 @@ pub fn flag_perm(i: &[u8]) -> IResult<&[u8], &str>
 pub fn flag_text(i: &[u8]) -> IResult<&[u8], CowStr<'_>>
     ensures steps { Exactly (λ x. text_of x) result (step flags.flag_text i.now) }
     ensures answer { Answers flags.flag_text (λ x. text_of x) i.now result }
+    ensures no_failure { NeverFails result }
 {
     let (rest, text) = flag_perm(i)?;
     Ok((rest, CowStr::Borrowed(text)))

@@ -2,31 +2,25 @@
 
 ghost use Rattle.std.specs.Prelude.{map};
 ghost use Rattle.imap_grammar.specs.Answer.{Answers, Exactly, Gives};
-ghost use Rattle.imap_grammar.specs.Memory.{BeginsWord, FailsOnlyIf};
+ghost use Rattle.imap_grammar.specs.Memory.{BeginsWord, FailsOnlyIf, NeverFails};
 ghost use Rattle.imap_grammar.specs.Step.{step};
 ghost use Rattle.imap_grammar.specs.Text.{text_of};
 ghost use Rattle.imap_items.specs.Gmail as rules;
 
-use super::flags::flag;
+use crate::at;
+use imap_bytes::at::span::rest;
 use imap_bytes::tags::word;
-use imap_bytes::{IResult, first, number_64, parenthesized_list, quoted_utf8};
+use imap_bytes::{IResult, number_64, parenthesized_list};
 use std::alloc::Global;
 use std::borrow::CowStr;
 
-fn flag_label(i: &[u8]) -> IResult<&[u8], CowStr<'_>>
-    ensures { Exactly (λ x. text_of x) result (step rules.flag_label i.now) }
-{
-    let (rest, text) = flag(i)?;
-    Ok((rest, CowStr::Borrowed(text)))
-}
-
 // A label: a flag, or a quoted string.
-#[tactic(auto, unfolding(crate::specs::Gmail::gmail_label))]
 fn gmail_label(alloc: Global, i: &[u8]) -> IResult<&[u8], CowStr<'_>>
     ensures { Gives (λ x. text_of x) result (step rules.gmail_label i.now) }
 {
-    first!(flag_label(i));
-    quoted_utf8(alloc, i)
+    let (q, label) = at::gmail::gmail_label(i, 0)?;
+    let text = label.text(alloc, i)?;
+    Ok((rest(i, q), text))
 }
 
 fn gmail_labels(alloc: Global, i: &[u8]) -> IResult<&[u8], Vec<CowStr<'_>>>
@@ -62,7 +56,8 @@ pub fn gmail_label_list(alloc: Global, i: &[u8]) -> IResult<&[u8], Vec<CowStr<'_
 
 #[tactic(auto, unfolding(crate::specs::Gmail::gmail_msgid))]
 fn msgid(i: &[u8]) -> IResult<&[u8], u64>
-    ensures { Exactly (λ x. x) result (step rules.gmail_msgid i.now) }
+    ensures steps { Exactly (λ x. x) result (step rules.gmail_msgid i.now) }
+    ensures no_failure { NeverFails result }
 {
     let (rest, _) = word(b"X-GM-MSGID ", i)?;
     number_64(rest)
@@ -73,13 +68,15 @@ fn msgid(i: &[u8]) -> IResult<&[u8], u64>
 pub fn gmail_msgid(i: &[u8]) -> IResult<&[u8], u64>
     ensures steps { Exactly (λ x. x) result (step rules.gmail_msgid i.now) }
     ensures answer { Answers rules.gmail_msgid (λ x. x) i.now result }
+    ensures no_failure { NeverFails result }
 {
     msgid(i)
 }
 
 #[tactic(auto, unfolding(crate::specs::Gmail::gmail_thrid))]
 fn thrid(i: &[u8]) -> IResult<&[u8], u64>
-    ensures { Exactly (λ x. x) result (step rules.gmail_thrid i.now) }
+    ensures steps { Exactly (λ x. x) result (step rules.gmail_thrid i.now) }
+    ensures no_failure { NeverFails result }
 {
     let (rest, _) = word(b"X-GM-THRID ", i)?;
     number_64(rest)
@@ -90,6 +87,7 @@ fn thrid(i: &[u8]) -> IResult<&[u8], u64>
 pub fn gmail_thrid(i: &[u8]) -> IResult<&[u8], u64>
     ensures steps { Exactly (λ x. x) result (step rules.gmail_thrid i.now) }
     ensures answer { Answers rules.gmail_thrid (λ x. x) i.now result }
+    ensures no_failure { NeverFails result }
 {
     thrid(i)
 }

@@ -18,7 +18,7 @@ fn rights_in(alloc: Global, text: &str) -> Result<Vec<AclRight>, AllocError>
         .collect(alloc)
 }
 
-/// The rights that the characters of an astring name, in order (RFC 4314, section 4: rights).
+/// The rights that the characters of an astring name, in order (RFC 4314, section 7: rights).
 ///
 /// It takes memory for them.
 #[tactic(auto, using(imap_grammar::proofs::Agreement::answered), unfolding(crate::specs::Rights::rights))]
@@ -26,7 +26,7 @@ pub fn rights(alloc: Global, i: &[u8]) -> IResult<&[u8], Vec<AclRight>>
     ensures steps { Gives (λ x. x.items) result (step rule.rights i.now) }
     ensures answer { Answers rule.rights (λ x. x.items) i.now result }
 {
-    let (i, text) = astring_utf8(alloc, i)?;
+    let (rest, text) = astring_utf8(alloc, i)?;
     let found = rights_in(alloc, text.as_str())?;
-    Ok((i, found))
+    Ok((rest, found))
 }

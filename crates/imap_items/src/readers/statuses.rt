@@ -1,6 +1,7 @@
 //! The status of a line.
 
 ghost use Rattle.imap_grammar.specs.Answer.{Answers, Exactly};
+ghost use Rattle.imap_grammar.specs.Memory.{NeverFails};
 ghost use Rattle.imap_grammar.specs.Step.{step};
 ghost use Rattle.imap_items.specs.Statuses as rule;
 
@@ -56,10 +57,11 @@ fn status_word(i: &[u8]) -> IResult<&[u8], Status>
 }
 
 /// A status word in any case (RFC 3501, section 9: resp-cond-state, resp-cond-auth, resp-cond-bye). No memory.
-#[tactic(auto, using(imap_grammar::proofs::Agreement::exact_answered))]
+#[tactic(auto, using(imap_grammar::proofs::Agreement::exact_answered, imap_grammar::proofs::Memory::exactly_never))]
 pub fn status(i: &[u8]) -> IResult<&[u8], Status>
     ensures steps { Exactly (λ x. x) result (step rule.status i.now) }
     ensures answer { Answers rule.status (λ x. x) i.now result }
+    ensures no_failure { NeverFails result }
 {
     status_word(i)
 }

@@ -14,7 +14,7 @@ use crate::types::uid_sets::UidSetMember;
 use imap_bytes::lists::{Separator, separated};
 use imap_bytes::numbers::number;
 use imap_bytes::tags::tag;
-use imap_bytes::{Err, IResult};
+use imap_bytes::{IResult, maybe};
 use std::alloc::Global;
 
 // A colon and the number behind it.
@@ -28,11 +28,7 @@ fn range_end(i: &[u8]) -> IResult<&[u8], u32>
 fn maybe_range_end(i: &[u8]) -> IResult<&[u8], Option<u32>>
     ensures { Exactly (λ x. x) result (step (opt (colon ":" ▹ number_rule)) i.now) }
 {
-    match range_end(i) {
-        Ok((rest, last)) => Ok((rest, Some(last))),
-        Err(Err::Error) => Ok((i, None)),
-        Err(e) => Err(e),
-    }
+    maybe!(range_end(i), i)
 }
 
 #[tactic(auto, unfolding(crate::specs::UidSets::maybe_range))]

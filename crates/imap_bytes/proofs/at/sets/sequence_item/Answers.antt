@@ -1,5 +1,7 @@
 use Rattle.std.proofs.Common.{drop, sym, ◌∙◌}
 use Rattle.std.proofs.lemmas.Result.{err_from_is_err_and}
+use Rattle.imap_grammar.proofs.Memory.{exactly_never_at}
+use Rattle.imap_bytes.specs.Sets.{sequence_item}
 use Rattle.imap_grammar.proofs.Joins.{tried_some, tried_none, tried_fault}
 use Rattle.imap_bytes.proofs.Ranges.{item_fault, item_range, item_alone, item_stops}
 use Rattle.imap_bytes.proofs.at.sets.sequence_item.Goals as goal
@@ -18,9 +20,12 @@ returns-in_err-q-clause-steps c =
 pub returns-in-Some-clause-steps : goal.returns-in-Some-clause-steps
 returns-in-Some-clause-steps c =
     let is = tried_some _ _ _ (sym c.tried.ensures ∙ c.in_ok-q.was) c.in-Some.is in
-    rw (c.new.ensures.start, c.new.ensures.end) (item_range _ _ _ _ _ c.in_ok-p.ensures.steps (rw is at c.range_end.ensures.steps))
+    rw (c.new.ensures.start, c.new.ensures.end, c.new.ensures.exhausted) (item_range _ _ _ _ _ c.in_ok-p.ensures.steps (rw is at c.range_end.ensures.steps))
 
 pub returns-in-None-clause-steps : goal.returns-in-None-clause-steps
 returns-in-None-clause-steps c =
     let is = tried_none _ _ (sym c.tried.ensures ∙ c.in_ok-q.was) c.in-None.is in
-    rw (c.new-in-None.ensures.start, c.new-in-None.ensures.end) (item_alone _ _ _ c.in_ok-p.ensures.steps (rw is at c.range_end.ensures.steps))
+    rw (c.new-in-None.ensures.start, c.new-in-None.ensures.end, c.new-in-None.ensures.exhausted) (item_alone _ _ _ c.in_ok-p.ensures.steps (rw is at c.range_end.ensures.steps))
+
+pub returns-in_err-q-clause-no_failure : goal.returns-in_err-q-clause-no_failure
+returns-in_err-q-clause-no_failure c = exactly_never_at _ sequence_item c.args.m.now c.args.p _ (returns-in_err-q-clause-steps c)

@@ -3,8 +3,8 @@ use Rattle.imap_grammar.specs.Tags.{word}
 use Rattle.imap_grammar.proofs.Memory.{part_failed, holds_already, begins_word}
 use Rattle.imap_items.proofs.readers.capabilities.with_revision.Goals as goal
 
-pub returns-in_err-i-clause-memory : goal.returns-in_err-i-clause-memory
-returns-in_err-i-clause-memory c = part_failed _ (word "CAPABILITY") _ c.in_err-i.field-0.0 _ (search rules) c.in_err-i.ensures.steps
+pub returns-in_err-rest-clause-memory : goal.returns-in_err-rest-clause-memory
+returns-in_err-rest-clause-memory c = part_failed _ (word "CAPABILITY") _ c.in_err-rest.field-0.0 _ (search rules) c.in_err-rest.ensures.steps
 
-pub returns-in_err-i-2-clause-memory : goal.returns-in_err-i-2-clause-memory
-returns-in_err-i-2-clause-memory c = holds_already _ c.from_residual-in_err-i-2.result (begins_word "CAPABILITY" _ _ _ c.in_ok-i.ensures.steps)
+pub returns-in_err-rest-2-clause-memory : goal.returns-in_err-rest-2-clause-memory
+returns-in_err-rest-2-clause-memory c = holds_already _ c.from_residual-in_err-rest-2.result (begins_word "CAPABILITY" _ _ _ c.in_ok-rest.ensures.steps)
