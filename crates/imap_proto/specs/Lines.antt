@@ -3,6 +3,7 @@ use Rattle.std.specs.Prelude.{ℕ, Bool, List, ◌==◌, ◌&&◌, not}
 use Rattle.imap_grammar.specs.Classes.{is_astring_char}
 use Rattle.imap_grammar.specs.Text.{Bytes}
 use Rattle.imap_grammar.specs.Rule.{Rule, run0, run1, gives, ◌⨾◌, ◌▹◌, ◌◃◌, ◌or◌}
+use Rattle.imap_grammar.specs.Ranges.{Range}
 use Rattle.imap_grammar.specs.Tags.{tag, word, sp, maybe_space, crlf}
 use Rattle.imap_bytes.specs.Numbers.{number}
 use Rattle.imap_bytes.specs.Strings.{in_utf8}
