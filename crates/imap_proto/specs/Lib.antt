@@ -4,3 +4,5 @@ pub mod Lines
 pub mod Kept
 pub mod Owned
 pub mod Streams
+pub mod OutcomeTexts
+pub mod LineTexts
