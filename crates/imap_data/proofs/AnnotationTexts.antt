@@ -155,7 +155,7 @@ unfolding annotation
 reads_annotation =
     reads-gives annotation_of (reads_entry ⨾ʳ takes-text " " ▹ʳ reads-same reads-nstring_utf8 value_text) (λ x. ap (valued x.0.bytes) (value_lent x.1))
 
-reads_metadata : ReadsBack metadata_mailbox lent_text canonical_metadata Any
+pub reads_metadata : ReadsBack metadata_mailbox lent_text canonical_metadata Any
 unfolding metadata_mailbox
 reads_metadata = takes-word "METADATA " "METADATA " refl ▹ʳ reads-quoted_utf8 ◃ʳ takes-text " "
 

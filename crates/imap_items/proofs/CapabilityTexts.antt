@@ -117,7 +117,7 @@ names_yield : Yields (All IsName) enabled_data
 unfolding enabled_data spaced_name
 names_yield = right_yields (many_yield {P = IsName} (right_yields (made_yields {P = IsName} atom_of (λ x. refl))))
 
-enabled_yields : Yields (λ cs. list_any is_revision cs ≡ false) enabled_data
+pub enabled_yields : Yields (λ cs. list_any is_revision cs ≡ false) enabled_data
 enabled_yields = record { each = λ m v rest y. none v (names_yield.each m v rest y) }
 
 stop_space : (t : Bytes) → Closes t → Denies (meaning sp) t

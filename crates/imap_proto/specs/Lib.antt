@@ -4,3 +4,5 @@ pub mod Lines
 pub mod Kept
 pub mod Streams
 pub mod Owned
+pub mod OutcomeTexts
+pub mod LineTexts

@@ -5,6 +5,9 @@ ghost use Rattle.imap_command.specs.Apart.{CallsToldApart};
 ghost use Rattle.imap_proto.specs.Outcomes as outcomes;
 ghost use Rattle.imap_proto.specs.Lines as rule;
 ghost use Rattle.imap_proto.specs.Streams.{SomeSplit, OneSplit, BeginningsWait, SplitsGoOn, FeedsSplit, CuttingsAlike};
+ghost use Rattle.imap_grammar.specs.ReadBack.{Spells};
+ghost use Rattle.imap_proto.specs.LineTexts.{spells_response, CanonicalReadsBack, Same};
+ghost use Rattle.imap_proto.specs.Responses.{ResponseValue, lent_response};
 
 /// Each rule has one answer, and appended bytes change neither a value nor a denial, and make what is lacking as much smaller.
 #[tactic(auto, using(imap_grammar::proofs::Stability::is_stable))]
@@ -33,6 +36,16 @@ pub fn streams()
     ensures splits_go_on { SplitsGoOn }
     ensures feeds_split { FeedsSplit }
     ensures cuttings_alike { CuttingsAlike }
+{}
+
+/// What the grammar takes spells the response. And a response that it yields on some bytes, it yields again on the response's canonical text, with all texts borrowed,
+/// and leaves exactly what follows, whatever that is. Two kinds are excepted: `bracket`, whose information would be read as a code, and `toolong`, a text of which is too long
+/// for its length to be told. A response with its texts borrowed is the same response.
+#[tactic(auto, using(crate::proofs::LineTexts::response_spells, crate::proofs::LineTexts::canonical_reads_back, crate::proofs::LentTwice::lent_is_same))]
+pub fn read_back()
+    ensures spells { Spells rule.response spells_response }
+    ensures canonical { CanonicalReadsBack }
+    ensures same { (r : ResponseValue) → Same (lent_response r) r }
 {}
 
 /// Finished commands with equal bytes were built by equal calls, ranges compared by their printed ends:

@@ -9,6 +9,7 @@ ghost use Rattle.imap_body.specs.AttributeValues.{attribute_value};
 ghost use Rattle.imap_body.specs.Changed.{owned_attribute};
 ghost use Rattle.imap_proto.specs.Responses.{response_value, EndsLine};
 ghost use Rattle.imap_proto.specs.Owned.{owned_response};
+ghost use Rattle.imap_proto.specs.LineTexts.{Spelled};
 ghost use Rattle.imap_proto.specs.Lines as rule;
 
 use crate::lines;
@@ -154,10 +155,11 @@ impl<'a> Response<'a> {
     /// `Error`: no bytes behind these make a response. `Incomplete`: more bytes are needed. `Failure`: memory ran out,
     /// and nothing else. Texts borrow from the message exactly where their bytes are UTF-8, but for the keys of an ID map:
     /// of two equal keys either one may be kept. The message is only read.
-    #[tactic(auto, using(imap_grammar::proofs::Agreement::answered, crate::proofs::Ending::line_ends))]
+    #[tactic(auto, using(imap_grammar::proofs::Agreement::answered, crate::proofs::LineTexts::line_spells, crate::proofs::Ending::line_ends))]
     pub fn parse(alloc: Global, msg: &'a [u8]) -> ParseResult<'a>
         ensures steps { Gives response_value result (step rule.response msg.now) }
         ensures answer { Answers rule.response response_value msg.now result }
+        ensures spells { IfOk result (λ x. Spelled msg.now x.0.now (response_value x.1)) }
         ensures line { IfOk result (λ x. EndsLine msg.now x.0.now) }
     {
         lines::response(alloc, msg)

@@ -10,6 +10,8 @@ mod bodies;
 #[cfg(test)]
 mod bytes;
 #[cfg(test)]
+mod canonical;
+#[cfg(test)]
 mod codes;
 #[cfg(test)]
 mod commands;

@@ -1,0 +1,235 @@
+-- To borrow all texts twice is to borrow them once: so a value with its texts borrowed is the same value.
+use Rattle.std.proofs.Common.{◌≡◌, List, [], ◌∷◌, Option, None, Some, ap, ap₂, refl, map, sym, ◌∙◌, cond, nat_cmp, Bool, true, false}
+use Rattle.std.specs.Option.{option_map}
+use Rattle.std.specs.Ordering.{eq_by_cmp}
+use Rattle.std.specs.Cmp.Lexicographic.{slice_cmp, nat_list_cmp_total}
+use Rattle.std.specs.FinMap.{entries, get, find, from_entries, get-entries, get-from_entries, same_map, slice_cmp-IsAntisymmetric, nat_cmp-IsAntisymmetric}
+use Rattle.imap_grammar.specs.Text.{Bytes, Text, lent_text}
+use Rattle.imap_items.specs.Capabilities.{CapabilityValue, Imap4rev1, Auth, Atom, lent_capability}
+use Rattle.imap_data.specs.Codes.{CodeValue, Alert, Parse, ReadOnly, ReadWrite, TryCreate, UidNotSticky, MetadataTooMany, MetadataNoPrivate, BadCharset, Capabilities as CodeCapabilities, PermanentFlags, UidNext, UidValidity, Unseen, HighestModSeq, MetadataLongEntries, MetadataMaxSize, AppendUid, CopyUid, lent_code}
+use Rattle.imap_data.specs.Names.{NameAttributeValue, NoInferiors, NoSelect, Marked, Unmarked, All, Archive, Drafts, Flagged, Junk, Sent, Trash, Extension, ListValue, lent_attribute as lent_name, lent_list}
+use Rattle.imap_data.specs.MailboxValues.{MailboxValue, Exists, Flags, Listed, Search, Sort, Status, Recent, MetadataSolicited, MetadataUnsolicited, GmailLabels, GmailMsgId, GmailThrId, lent_mailbox}
+use Rattle.imap_extensions.specs.Quotas.{QuotaResourceNameValue, QuotaResourceValue, QuotaValue, QuotaRootValue, Storage, Message as MessageResource, Atom as AtomResource, lent_quota_resource_name, lent_quota_resource, lent_quota, lent_quota_root}
+use Rattle.imap_extensions.specs.Ids.{IdValue, lent_entry, lent_id}
+use Rattle.imap_extensions.specs.Acls.{AclEntryValue, AclValue, lent_acl_entry, lent_acl, lent_list_rights, lent_my_rights}
+use Rattle.imap_shapes.specs.declared.shapes.fields.ContentEncoding.TheVariants.{SevenBit, EightBit, Binary, Base64, QuotedPrintable, Other}
+use Rattle.imap_shapes.specs.EnvelopeValues.{AddressValue, EnvelopeValue}
+use Rattle.imap_shapes.specs.ExtensionValues.{DispositionValue, ExtensionValue, Num, Str, Listed as Members, Extensions, no_extensions, one_extension}
+use Rattle.imap_shapes.specs.BodyValues.{TypeValue, CommonValue, SingleValue, BodyValue, Basic, TextBody, Message, Multipart, Bodies, no_bodies, one_body}
+use Rattle.imap_shapes.specs.Lent.{lent_ntext, lent_address, lent_addresses, lent_envelope, lent_pair, lent_params, lent_encoding, lent_disposition, lent_languages, lent_extension, lent_extensions, lent_type, lent_common, lent_single, lent_last, lent_body, lent_bodies}
+use Rattle.imap_body.specs.AttributeValues.{AttributeValue, BodySection, BodyStructure, Envelope, Flags as FlagsAttribute, InternalDate, ModSeq, Rfc822, Rfc822Header, Rfc822Size, Rfc822Text, Uid, GmailLabels as LabelsAttribute, GmailMsgId as MsgIdAttribute, GmailThrId as ThrIdAttribute, EmailId, ThreadId, Unknown, lent_attribute}
+use Rattle.imap_proto.specs.Responses.{OutcomeValue, ResponseValue, Capabilities, Continue, Done, Data, Expunge, Vanished, Fetch, MailboxData, Quota, QuotaRoot, Id, Acl, ListRights, MyRights, lent_outcome, lent_response}
+use Rattle.imap_proto.specs.LineTexts.{Same}
+
+abbrev Twice : {V : Type 0} → (V → V) → Type 0
+Twice {V} f = (v : V) → f (f v) ≡ f v
+
+map-twice : {V : Type 0} {f : V → V} → Twice f → Twice (map f)
+map-twice h [] = refl
+map-twice h (v ∷ vs) = ap₂ (λ x xs. x ∷ xs) (h v) (map-twice h vs)
+
+option-twice : {V : Type 0} {f : V → V} → Twice f → Twice (option_map f)
+option-twice h None = refl
+option-twice h (Some v) = ap (λ x. Some x) (h v)
+
+texts : Twice (map lent_text)
+texts = map-twice (λ t. refl)
+
+ntext : Twice lent_ntext
+ntext = option-twice (λ t. refl)
+
+-- ---- statuses, mailboxes
+
+capability : Twice lent_capability
+capability Imap4rev1 = refl
+capability (Auth t) = refl
+capability (Atom t) = refl
+
+code : Twice lent_code
+code (BadCharset c) = ap (λ x. BadCharset x) (option-twice texts c)
+code (CodeCapabilities cs) = ap (λ x. CodeCapabilities x) (map-twice capability cs)
+code (PermanentFlags fs) = ap (λ x. PermanentFlags x) (texts fs)
+code Alert = refl
+code Parse = refl
+code ReadOnly = refl
+code ReadWrite = refl
+code TryCreate = refl
+code UidNotSticky = refl
+code MetadataTooMany = refl
+code MetadataNoPrivate = refl
+code (UidNext n) = refl
+code (UidValidity n) = refl
+code (Unseen n) = refl
+code (HighestModSeq n) = refl
+code (MetadataLongEntries n) = refl
+code (MetadataMaxSize n) = refl
+code (AppendUid n uids) = refl
+code (CopyUid n from to) = refl
+
+outcome : Twice lent_outcome
+outcome o = rw (option-twice code o.code, ntext o.information) refl
+
+name : Twice lent_name
+name NoInferiors = refl
+name NoSelect = refl
+name Marked = refl
+name Unmarked = refl
+name All = refl
+name Archive = refl
+name Drafts = refl
+name Flagged = refl
+name Junk = refl
+name Sent = refl
+name Trash = refl
+name (Extension t) = refl
+
+list_data : Twice lent_list
+list_data l = rw (map-twice name l.name_attributes, ntext l.delimiter) refl
+
+mailbox : Twice lent_mailbox
+mailbox (Flags fs) = ap (λ x. Flags x) (texts fs)
+mailbox (Listed l) = ap (λ x. Listed x) (list_data l)
+mailbox (Status box items) = refl
+mailbox (MetadataSolicited box values) = refl
+mailbox (MetadataUnsolicited box values) = ap (λ x. MetadataUnsolicited (lent_text box) x) (texts values)
+mailbox (GmailLabels labels) = ap (λ x. GmailLabels x) (texts labels)
+mailbox (Exists n) = refl
+mailbox (Recent n) = refl
+mailbox (Search ns) = refl
+mailbox (Sort ns) = refl
+mailbox (GmailMsgId n) = refl
+mailbox (GmailThrId n) = refl
+
+-- ---- extensions
+
+resource_name : Twice lent_quota_resource_name
+resource_name Storage = refl
+resource_name MessageResource = refl
+resource_name (AtomResource t) = refl
+
+resource : Twice lent_quota_resource
+resource r = rw (resource_name r.name) refl
+
+quota : Twice lent_quota
+quota q = rw (map-twice resource q.resources) refl
+
+quota_root : Twice lent_quota_root
+quota_root q = rw (texts q.quota_root_names) refl
+
+acl : Twice lent_acl
+acl a = rw (map-twice {f = lent_acl_entry} (λ e. refl) a.acls) refl
+
+-- a borrowed map gives each value borrowed
+find_lent : (q : Bytes) (es : List (Bytes × Text)) → find (slice_cmp nat_cmp) q (map lent_entry es) ≡ option_map lent_text (find (slice_cmp nat_cmp) q es)
+find_lent q [] = refl
+find_lent q (e ∷ es) = at (eq_by_cmp (slice_cmp nat_cmp) q e.0) (find_lent q es)
+  where
+    at : (b : Bool) → find (slice_cmp nat_cmp) q (map lent_entry es) ≡ option_map lent_text (find (slice_cmp nat_cmp) q es)
+        → cond b (Some (lent_text e.1)) (find (slice_cmp nat_cmp) q (map lent_entry es)) ≡ option_map lent_text (cond b (Some e.1) (find (slice_cmp nat_cmp) q es))
+    at true h = refl
+    at false h = h
+
+get_lent : (m : IdValue) (q : Bytes) → get (lent_id m) q ≡ option_map lent_text (get m q)
+get_lent m q = get-from_entries nat_list_cmp_total (map lent_entry (entries m)) q ∙ find_lent q (entries m) ∙ ap (option_map lent_text) (sym (get-entries m q))
+
+params : Twice lent_id
+params m = same_map nat_list_cmp_total (slice_cmp-IsAntisymmetric nat_cmp-IsAntisymmetric) _ _
+    (λ q. get_lent (lent_id m) q ∙ ap (option_map lent_text) (get_lent m q) ∙ ntext (get m q) ∙ sym (get_lent m q))
+
+-- ---- envelopes and bodies
+
+address : Twice lent_address
+address a = rw (ntext a.name, ntext a.adl, ntext a.mailbox, ntext a.host) refl
+
+addresses : Twice lent_addresses
+addresses = option-twice (map-twice address)
+
+envelope : Twice lent_envelope
+envelope e =
+    rw (ntext e.date, ntext e.subject, addresses e.from, addresses e.sender, addresses e.reply_to, addresses e.to, addresses e.cc, addresses e.bcc, ntext e.in_reply_to, ntext e.message_id) refl
+
+body_params : Twice lent_params
+body_params = option-twice (map-twice {f = lent_pair} (λ p. refl))
+
+encoding : Twice lent_encoding
+encoding SevenBit = refl
+encoding EightBit = refl
+encoding Binary = refl
+encoding Base64 = refl
+encoding QuotedPrintable = refl
+encoding (Other t) = refl
+
+disposition : Twice lent_disposition
+disposition d = rw (body_params d.params) refl
+
+mutual
+  extension : Twice lent_extension
+  extension (Num n) = refl
+  extension (Str t) = ap (λ x. Str x) (ntext t)
+  extension (Members es) = ap (λ x. Members x) (members es)
+
+  members : Twice lent_extensions
+  members no_extensions = refl
+  members (one_extension e es) = ap₂ (λ x xs. one_extension x xs) (extension e) (members es)
+
+last : Twice lent_last
+last = option-twice extension
+
+type : Twice lent_type
+type t = rw (body_params t.params) refl
+
+common : Twice lent_common
+common c = rw (type c.ty, option-twice disposition c.disposition, option-twice texts c.language, ntext c.location) refl
+
+single : Twice lent_single
+single s = rw (ntext s.id, ntext s.md5, ntext s.description, encoding s.transfer_encoding) refl
+
+mutual
+  body : Twice lent_body
+  body (Basic c s e) = rw (common c, single s, last e) refl
+  body (TextBody c s n e) = rw (common c, single s, last e) refl
+  body (Message c s v b n e) = rw (common c, single s, envelope v, body b, last e) refl
+  body (Multipart c bs e) = rw (common c, bodies bs, last e) refl
+
+  bodies : Twice lent_bodies
+  bodies no_bodies = refl
+  bodies (one_body b bs) = ap₂ (λ x xs. one_body x xs) (body b) (bodies bs)
+
+-- ---- attributes
+
+attribute : Twice lent_attribute
+attribute (BodySection path origin contents) = ap (λ x. BodySection path origin x) (ntext contents)
+attribute (BodyStructure b) = ap (λ x. BodyStructure x) (body b)
+attribute (Envelope e) = ap (λ x. Envelope x) (envelope e)
+attribute (FlagsAttribute fs) = ap (λ x. FlagsAttribute x) (texts fs)
+attribute (InternalDate t) = refl
+attribute (ModSeq n) = refl
+attribute (Rfc822 t) = ap (λ x. Rfc822 x) (ntext t)
+attribute (Rfc822Header t) = ap (λ x. Rfc822Header x) (ntext t)
+attribute (Rfc822Size n) = refl
+attribute (Rfc822Text t) = ap (λ x. Rfc822Text x) (ntext t)
+attribute (Uid n) = refl
+attribute (LabelsAttribute ts) = ap (λ x. LabelsAttribute x) (texts ts)
+attribute (MsgIdAttribute n) = refl
+attribute (ThrIdAttribute n) = refl
+attribute (EmailId t) = refl
+attribute (ThreadId t) = ap (λ x. ThreadId x) (ntext t)
+attribute Unknown = refl
+
+-- ---- responses
+
+pub lent_is_same : (r : ResponseValue) → Same (lent_response r) r
+lent_is_same (Capabilities cs) = ap (λ x. Capabilities x) (map-twice capability cs)
+lent_is_same (Continue o) = ap (λ x. Continue x) (outcome o)
+lent_is_same (Done tag status o) = ap (λ x. Done tag status x) (outcome o)
+lent_is_same (Data status o) = ap (λ x. Data status x) (outcome o)
+lent_is_same (Expunge n) = refl
+lent_is_same (Vanished earlier uids) = refl
+lent_is_same (Fetch n attributes) = ap (λ x. Fetch n x) (map-twice attribute attributes)
+lent_is_same (MailboxData d) = ap (λ x. MailboxData x) (mailbox d)
+lent_is_same (Quota q) = ap (λ x. Quota x) (quota q)
+lent_is_same (QuotaRoot q) = ap (λ x. QuotaRoot x) (quota_root q)
+lent_is_same (Id m) = ap (λ x. Id x) (option-twice params m)
+lent_is_same (Acl a) = ap (λ x. Acl x) (acl a)
+lent_is_same (ListRights r) = refl
+lent_is_same (MyRights r) = refl

@@ -1,0 +1,112 @@
+-- The text of a response: one line.
+use Rattle.std.specs.Prelude.{◌≡◌, ◌^◌, ◌⊎◌, Bool, false, not, nat_lt, [], ◌∷◌, ◌++◌, length}
+use Rattle.std.specs.List.{list_any}
+use Rattle.imap_grammar.specs.Text.{Bytes}
+use Rattle.imap_grammar.specs.Rule.{meaning}
+use Rattle.imap_grammar.specs.Pieces.{Piece, Raw, Lit, Pieces, ◌then◌, words, raw, space, number_text, written}
+use Rattle.imap_grammar.specs.ReadBack.{Texts}
+use Rattle.imap_grammar.specs.Spelling.{this, exactly, in_any_case, ◌and◌, all_of, maybe, spells_number}
+use Rattle.imap_items.specs.StatusTexts.{canonical_status, spells_status}
+use Rattle.imap_items.specs.CapabilityTexts.{canonical_capabilities, spells_capability_data, spells_enabled_data}
+use Rattle.imap_data.specs.MailboxDataTexts.{canonical_datum, spells_datum}
+use Rattle.imap_extensions.specs.VanishingTexts.{canonical_vanished, spells_vanished}
+use Rattle.imap_extensions.specs.QuotaTexts.{canonical_quota, spells_quota, canonical_quota_root, spells_quota_root}
+use Rattle.imap_extensions.specs.IdTexts.{canonical_id, spells_id}
+use Rattle.imap_extensions.specs.AclTexts.{canonical_acl, spells_acl, canonical_list_rights, spells_list_rights, canonical_my_rights, spells_my_rights}
+use Rattle.imap_body.specs.AttributeTexts.{canonical_attributes, spells_attributes}
+use Rattle.imap_proto.specs.Responses.{ResponseValue, Capabilities, Continue, Done, Data, Expunge, Vanished, Fetch, MailboxData, Quota, QuotaRoot, Id, Acl, ListRights, MyRights, lent_response}
+use Rattle.imap_proto.specs.OutcomeTexts.{canonical_outcome, canonical_spaced, bracketed, spells_outcome, spells_spaced}
+use Rattle.imap_proto.specs.Lines.{is_space, response}
+
+-- ---- canonical text
+
+-- CRLF
+abbrev pub line_end : Pieces
+line_end = raw (13 ∷ 10 ∷ [])
+
+-- what stands between `* ` and the end of the line, which a continuation and a tagged line have not
+abbrev pub canonical_data : ResponseValue → Pieces
+canonical_data (Data status o) = canonical_status status then canonical_spaced o
+canonical_data (MailboxData datum) = canonical_datum datum
+canonical_data (Expunge n) = number_text n then words " EXPUNGE"
+canonical_data (Fetch n attributes) = number_text n then words " FETCH " then canonical_attributes attributes
+canonical_data (Capabilities capabilities) = canonical_capabilities capabilities
+canonical_data (Vanished earlier uids) = canonical_vanished (earlier, uids)
+canonical_data (Quota quota) = canonical_quota quota
+canonical_data (QuotaRoot root) = canonical_quota_root root
+canonical_data (Id params) = canonical_id params
+canonical_data (Acl acl) = canonical_acl acl
+canonical_data (ListRights rights) = canonical_list_rights rights
+canonical_data (MyRights rights) = canonical_my_rights rights
+canonical_data (Continue o) = []
+canonical_data (Done tag status o) = []
+
+abbrev pub canonical_response : ResponseValue → Pieces
+canonical_response (Continue o) = words "+" then space then canonical_outcome o then line_end
+canonical_response (Done tag status o) = raw tag then space then canonical_status status then canonical_spaced o then line_end
+canonical_response r = words "* " then canonical_data r then line_end
+
+abbrev pub canonical_bytes : ResponseValue → Bytes
+canonical_bytes r = written (canonical_response r)
+
+-- ---- spelling
+
+abbrev pub spells_data : ResponseValue → Texts
+spells_data (Data status o) = spells_status status and spells_spaced o
+spells_data (MailboxData datum) = spells_datum datum
+spells_data (Expunge n) = spells_number n and in_any_case " EXPUNGE"
+spells_data (Fetch n attributes) = spells_number n and in_any_case " FETCH " and spells_attributes attributes
+spells_data (Capabilities capabilities) = λ c. spells_capability_data capabilities c ⊎ spells_enabled_data capabilities c
+spells_data (Vanished earlier uids) = spells_vanished (earlier, uids)
+spells_data (Quota quota) = spells_quota quota
+spells_data (QuotaRoot root) = spells_quota_root root
+spells_data (Id params) = spells_id params
+spells_data (Acl acl) = spells_acl acl
+spells_data (ListRights rights) = spells_list_rights rights
+spells_data (MyRights rights) = spells_my_rights rights
+spells_data (Continue o) = λ c. ⊥
+spells_data (Done tag status o) = λ c. ⊥
+
+abbrev pub ends_line : Texts
+ends_line = this (13 ∷ 10 ∷ [])
+
+-- spaces may stand before the end of a data line
+abbrev pub spells_response : ResponseValue → Texts
+spells_response (Continue o) = exactly "+" and maybe (exactly " ") and spells_outcome o and ends_line
+spells_response (Done tag status o) = this tag and exactly " " and spells_status status and spells_spaced o and ends_line
+spells_response r = exactly "* " and spells_data r and all_of is_space and ends_line
+
+-- what stands before the rest spells the response
+abbrev pub Spelled : Bytes → Bytes → ResponseValue → Type 0
+Spelled m rest r = (c : Bytes) × (m ≡ c ++ rest) × spells_response r c
+
+-- ---- the two kinds of responses that are not read back
+
+-- information without a code that begins with `[` would be read as a code
+abbrev pub bracket : ResponseValue → Bool
+bracket (Continue o) = bracketed o
+bracket (Done tag status o) = bracketed o
+bracket (Data status o) = bracketed o
+bracket r = false
+
+-- a literal of more than 4,294,967,295 bytes, whose length no number tells
+abbrev pub is_toolong : Piece → Bool
+is_toolong (Raw b) = false
+is_toolong (Lit b) = not (nat_lt (length b) (2 ^ 32))
+
+abbrev pub toolong : ResponseValue → Bool
+toolong r = list_any is_toolong (canonical_response r)
+
+-- ---- the law of the whole grammar
+
+-- A response that the grammar yields on some bytes, and that is of neither kind, it yields again on the response's canonical text,
+-- with all texts borrowed, and leaves exactly what follows, whatever that is.
+abbrev pub CanonicalReadsBack : Type 0
+CanonicalReadsBack =
+    (m : Bytes) (r : ResponseValue) (rest : Bytes) → (meaning response).yields m r rest
+    → bracket r ≡ false → toolong r ≡ false
+    → (t : Bytes) → (meaning response).yields (canonical_bytes r ++ t) (lent_response r) t
+
+-- the same response, whichever texts are borrowed
+abbrev pub Same : ResponseValue → ResponseValue → Type 0
+Same r s = lent_response r ≡ lent_response s

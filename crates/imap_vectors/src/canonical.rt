@@ -1,0 +1,107 @@
+//! The canonical text of responses is read as the lines are that they came from, whatever follows.
+
+use crate::answers::says;
+use imap_proto::Response;
+use std::alloc::{AllocError, Global};
+use std::test::*;
+
+// A line, the canonical text of its response, and what both answer.
+struct Row {
+    line: &'static [u8],
+    canonical: &'static [u8],
+    says: &'static str,
+}
+
+const ROWS: &[Row] = &[
+    Row {
+        line: b"* ID (\"a\" NIL)\r\n",
+        canonical: b"* ID ({0}\r\n NIL)\r\n",
+        says: "Id(Some({}))",
+    },
+    Row {
+        line: b"* ID (\"a\" \"1\" \"b\" NIL \"a\" \"2\")\r\n",
+        canonical: b"* ID ({1}\r\na {1}\r\n2)\r\n",
+        says: r#"Id(Some({"a": "2"}))"#,
+    },
+    Row {
+        line: b"* id nil\r\n",
+        canonical: b"* ID NIL\r\n",
+        says: "Id(None)",
+    },
+    Row {
+        line: b"* LIST (\\HasNoChildren) \"/\" inbox\r\n",
+        canonical: b"* LIST (\\HasNoChildren) \"/\" {5}\r\nINBOX\r\n",
+        says: r#"MailboxData(List(MailboxListData { name_attributes: [Extension("\\HasNoChildren")], delimiter: Some("/"), name: "INBOX" }))"#,
+    },
+    Row {
+        line: b"* QUOTA \"\" (\"STORAGE\" 1 2)\r\n",
+        canonical: b"* QUOTA {0}\r\n ({7}\r\nSTORAGE 1 2)\r\n",
+        says: r#"Quota(Quota { root_name: "", resources: [QuotaResource { name: Atom("STORAGE"), usage: 1, limit: 2 }] })"#,
+    },
+    Row {
+        line: b"* 1 FETCH (X-GM-LABELS (\"\\\\\"))\r\n",
+        canonical: b"* 1 FETCH (X-GM-LABELS (\"\\\\\"))\r\n",
+        says: r#"Fetch(1, [GmailLabels(["\\\\"])])"#,
+    },
+    Row {
+        line: b"* ENABLED IMAP4rev1x\r\n",
+        canonical: b"* ENABLED IMAP4rev1x\r\n",
+        says: r#"Capabilities([Atom("IMAP4rev1x")])"#,
+    },
+    Row {
+        line: b"* 12 FETCH (ENVELOPE (\"d\" \"s\" ((\"T\" NIL \"gray\" \"cac\")) NIL NIL NIL NIL NIL NIL \"<i>\"))\r\n",
+        canonical: b"* 12 FETCH (ENVELOPE ({1}\r\nd {1}\r\ns (({1}\r\nT NIL {4}\r\ngray {3}\r\ncac)) NIL NIL NIL NIL NIL NIL {3}\r\n<i>))\r\n",
+        says: "Fetch(12, [Envelope(Envelope { date: Some([100]), subject: Some([115]), from: Some([Address { name: Some([84]), adl: None, mailbox: Some([103, 114, 97, 121]), host: Some([99, 97, 99]) }]), sender: None, reply_to: None, to: None, cc: None, bcc: None, in_reply_to: None, message_id: Some([60, 105, 62]) })])",
+    },
+    Row {
+        line: b"* 1 FETCH (BODYSTRUCTURE (\"text\" \"plain\" NIL NIL NIL \"7bit\" 5 1 (\"inline\" NIL)))\r\n",
+        canonical: b"* 1 FETCH (BODYSTRUCTURE (\"TEXT\" {5}\r\nplain NIL NIL NIL \"7BIT\" 5 1 NIL ({6}\r\ninline NIL) NIL NIL))\r\n",
+        says: r#"Fetch(1, [BodyStructure(Text { common: BodyContentCommon { ty: ContentType { ty: "TEXT", subtype: "plain", params: None }, disposition: Some(ContentDisposition { ty: "inline", params: None }), language: None, location: None }, other: BodyContentSinglePart { id: None, md5: None, description: None, transfer_encoding: SevenBit, octets: 5 }, lines: 1, extension: None })])"#,
+    },
+    Row {
+        line: b"* VANISHED 4:2\r\n",
+        canonical: b"* VANISHED 4:2\r\n",
+        says: "Vanished { earlier: false, uids: [4..=2] }",
+    },
+    Row {
+        line: b"* 1 FETCH (X-Y (q) UID 4 )\r\n",
+        canonical: b"* 1 FETCH (X NIL UID 4)\r\n",
+        says: "Fetch(1, [Unknown, Uid(4)])",
+    },
+];
+
+// Information that begins with `[` would be read as a code: no canonical text is promised.
+const BRACKETED: &[u8] = b"* OK [BADCHARSET ({5}\r\nabcdex";
+
+// Whether both texts, and the canonical one with more behind it, answer so.
+fn reads_back(alloc: Global, row: &Row) -> Result<bool, AllocError> {
+    let mut followed = Vec::new(alloc);
+    followed.extend_from_slice(row.canonical)?;
+    followed.extend_from_slice(b"xy")?;
+    let says_followed = format!(in alloc; "{} then \"xy\"", row.says)?;
+    Ok(
+        says(alloc, Response::parse(alloc, row.line), row.says)
+            && says(alloc, Response::parse(alloc, row.canonical), row.says)
+            && says(
+                alloc,
+                Response::parse(alloc, followed.as_slice()),
+                says_followed.as_str(),
+            ),
+    )
+}
+
+#[test]
+fn canonical_texts(rt: HostRuntime) {
+    let alloc = rt.alloc();
+    for row in ROWS {
+        assert!(rt; matches!(reads_back(alloc, row), Ok(true)), "{}", row.says);
+    }
+    assert!(rt;
+        says(
+            alloc,
+            Response::parse(alloc, BRACKETED),
+            r#"Data { status: Ok, outcome: Outcome { code: None, information: Some("[BADCHARSET ({5}") } } then "abcdex""#,
+        ),
+        "bracket",
+    );
+}
