@@ -7,6 +7,7 @@ pub mod NameTexts
 pub mod AnnotationTexts
 pub mod MailboxDataTexts
 pub mod FirstBytes
+mod SecondBytes
 pub mod Takes
 pub mod ListCodes
 pub mod NumberData

@@ -1,5 +1,6 @@
 pub mod Codes
 pub mod Names
+pub mod NameGroups
 pub mod Counts
 pub mod MailboxValues
 pub mod MailboxData

@@ -1,10 +1,11 @@
 //! Attributes of mailbox names, and the data of LIST.
 
-ghost use Rattle.std.specs.Prelude.{map};
-ghost use Rattle.std.specs.Option.{option_map};
+ghost use Rattle.std.specs.Prelude.{◌≡◌, map, slice_get};
+ghost use Rattle.std.specs.Option.{option_map, option_copied};
 ghost use Rattle.imap_grammar.specs.Answer.{Exactly, Gives};
 ghost use Rattle.imap_grammar.specs.Step.{step};
 ghost use Rattle.imap_grammar.specs.Text.{text_of};
+ghost use Rattle.imap_data.specs.NameGroups as groups;
 ghost use Rattle.imap_data.specs.Names as names;
 ghost use Rattle.imap_data.specs.Names.{attribute_value, list_value};
 
@@ -16,24 +17,84 @@ use imap_items::readers::mailboxes::mailbox;
 use std::alloc::Global;
 use std::borrow::CowStr;
 
-/// An attribute of a name: a known word in any case, or any other with its backslash (RFC 3501, section 7.2.2; RFC 6154, section 2). No memory.
-#[tactic(auto, unfolding(crate::specs::Names::name_attribute))]
-pub(crate) fn name_attribute(i: &[u8]) -> IResult<&[u8], NameAttribute<'_>>
-    ensures { Exactly (λ x. attribute_value x) result (step names.name_attribute i.now) }
+#[tactic(auto, unfolding(crate::specs::NameGroups::extension))]
+fn extension(i: &[u8]) -> IResult<&[u8], NameAttribute<'_>>
+    ensures { Exactly (λ x. attribute_value x) result (step groups.extension i.now) }
+{
+    let (rest, text) = backslashed_text(i)?;
+    Ok((rest, NameAttribute::Extension(CowStr::Borrowed(text))))
+}
+
+#[tactic(auto, unfolding(crate::specs::NameGroups::attribute_of_n))]
+fn attribute_of_n(i: &[u8]) -> IResult<&[u8], NameAttribute<'_>>
+    ensures { Exactly (λ x. attribute_value x) result (step groups.attribute_of_n i.now) }
 {
     named!(b"\\Noinferiors", i, NameAttribute::NoInferiors);
     named!(b"\\Noselect", i, NameAttribute::NoSelect);
+    extension(i)
+}
+
+#[tactic(auto, unfolding(crate::specs::NameGroups::attribute_of_m_u))]
+fn attribute_of_m_u(i: &[u8]) -> IResult<&[u8], NameAttribute<'_>>
+    ensures { Exactly (λ x. attribute_value x) result (step groups.attribute_of_m_u i.now) }
+{
     named!(b"\\Marked", i, NameAttribute::Marked);
     named!(b"\\Unmarked", i, NameAttribute::Unmarked);
+    extension(i)
+}
+
+#[tactic(auto, unfolding(crate::specs::NameGroups::attribute_of_a))]
+fn attribute_of_a(i: &[u8]) -> IResult<&[u8], NameAttribute<'_>>
+    ensures { Exactly (λ x. attribute_value x) result (step groups.attribute_of_a i.now) }
+{
     named!(b"\\All", i, NameAttribute::All);
     named!(b"\\Archive", i, NameAttribute::Archive);
+    extension(i)
+}
+
+#[tactic(auto, unfolding(crate::specs::NameGroups::attribute_of_d_f_j))]
+fn attribute_of_d_f_j(i: &[u8]) -> IResult<&[u8], NameAttribute<'_>>
+    ensures { Exactly (λ x. attribute_value x) result (step groups.attribute_of_d_f_j i.now) }
+{
     named!(b"\\Drafts", i, NameAttribute::Drafts);
     named!(b"\\Flagged", i, NameAttribute::Flagged);
     named!(b"\\Junk", i, NameAttribute::Junk);
+    extension(i)
+}
+
+#[tactic(auto, unfolding(crate::specs::NameGroups::attribute_of_s_t))]
+fn attribute_of_s_t(i: &[u8]) -> IResult<&[u8], NameAttribute<'_>>
+    ensures { Exactly (λ x. attribute_value x) result (step groups.attribute_of_s_t i.now) }
+{
     named!(b"\\Sent", i, NameAttribute::Sent);
     named!(b"\\Trash", i, NameAttribute::Trash);
-    let (rest, text) = backslashed_text(i)?;
-    Ok((rest, NameAttribute::Extension(CowStr::Borrowed(text))))
+    extension(i)
+}
+
+// The byte behind the first.
+fn second(i: &[u8]) -> Option<&u8>
+    ensures { option_copied result ≡ slice_get i.now 1 }
+{
+    i.get(1)
+}
+
+/// An attribute of a name: a known word in any case, or any other with its backslash
+/// (RFC 3501, section 9: mbx-list-flags; RFC 6154, section 6: use-attr). No memory.
+///
+/// All begin with a backslash, so the byte behind it tells which are tried.
+#[tactic(auto, using(crate::proofs::SecondBytes::attribute_alone, crate::proofs::SecondBytes::attribute_is_of_n, crate::proofs::SecondBytes::attribute_is_of_m_u, crate::proofs::SecondBytes::attribute_is_of_a, crate::proofs::SecondBytes::attribute_is_of_d_f_j, crate::proofs::SecondBytes::attribute_is_of_s_t, crate::proofs::SecondBytes::attribute_is_other))]
+pub(crate) fn name_attribute(i: &[u8]) -> IResult<&[u8], NameAttribute<'_>>
+    ensures { Exactly (λ x. attribute_value x) result (step names.name_attribute i.now) }
+{
+    match second(i) {
+        None => extension(i),
+        Some(b'n' | b'N') => attribute_of_n(i),
+        Some(b'm' | b'M' | b'u' | b'U') => attribute_of_m_u(i),
+        Some(b'a' | b'A') => attribute_of_a(i),
+        Some(b'd' | b'D' | b'f' | b'F' | b'j' | b'J') => attribute_of_d_f_j(i),
+        Some(b's' | b'S' | b't' | b'T') => attribute_of_s_t(i),
+        Some(_) => extension(i),
+    }
 }
 
 fn name_attributes(alloc: Global, i: &[u8]) -> IResult<&[u8], Vec<NameAttribute<'_>>>
