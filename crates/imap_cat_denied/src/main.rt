@@ -1,4 +1,4 @@
-//! `imap_cat`, kept with a run that ends at bytes that no response begins with: exit status 3.
+//! `imap_cat`, kept with a session of a real server that comes to a line no response begins with: exit status 3.
 #![tactic(auto)]
 
 use imap_report::{Reading, Writing, cat};

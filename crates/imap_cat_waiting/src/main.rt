@@ -1,4 +1,4 @@
-//! `imap_cat`, kept with a run that ends within a response: exit status 2.
+//! `imap_cat`, kept with a session of a real server that breaks off within a response: exit status 2.
 #![tactic(auto)]
 
 use imap_report::{Reading, Writing, cat};

@@ -12,8 +12,11 @@ use std::process::Abort;
 /// Inputs, each with what a reader answers.
 pub type Rows = &'static [(&'static [u8], &'static str)];
 
-// The debug text of what was read, and the bytes behind it where there are any; or why nothing was read.
-fn told<T: Debug + Drop>(alloc: Global, answer: IResult<&[u8], T>) -> Result<String, AllocError> {
+/// The debug text of what was read, and the bytes behind it where there are any; or why nothing was read.
+pub fn told<T: Debug + Drop>(
+    alloc: Global,
+    answer: IResult<&[u8], T>,
+) -> Result<String, AllocError> {
     match answer {
         Ok((rest, value)) => {
             if rest.is_empty() {

@@ -2,8 +2,10 @@
 
 use crate::answers::{Rows, says};
 use imap_body::readers::{body_extension, body_fields, body_structure};
-use imap_body::{BodyExtension, BodyFields, BodyParams, BodyStructure, ContentEncoding};
-use imap_proto::imap_core::{Err, IResult};
+use imap_proto::imap_core::IResult;
+use imap_proto::rfc3501::body_structure::{
+    BodyExtension, BodyFields, BodyParams, BodyStructure, ContentEncoding,
+};
 use std::alloc::{AllocError, Global};
 use std::borrow::CowStr;
 use std::test::*;
@@ -127,6 +129,14 @@ const SINGLE_PARTS: Rows = &[
         b"(\"TEXT\" \"x\" NIL NIL NIL \"BINARY\" 5 7 NIL NIL \"en\" NIL \"e\")",
         r#"Text { common: BodyContentCommon { ty: ContentType { ty: "TEXT", subtype: "x", params: None }, disposition: None, language: Some(["en"]), location: None }, other: BodyContentSinglePart { id: None, md5: None, description: None, transfer_encoding: Binary, octets: 5 }, lines: 7, extension: Some(Str(Some("e"))) }"#,
     ),
+    (
+        b"(\"A\" \"B\" NIL NIL NIL NIL 1 7)",
+        r#"Basic { common: BodyContentCommon { ty: ContentType { ty: "A", subtype: "B", params: None }, disposition: None, language: None, location: None }, other: BodyContentSinglePart { id: None, md5: None, description: None, transfer_encoding: SevenBit, octets: 1 }, extension: Some(Num(7)) }"#,
+    ),
+    (
+        b"(\"A\" \"B\" NIL NIL NIL NIL 1 (\"d\" NIL) (\"en\") 7)",
+        r#"Basic { common: BodyContentCommon { ty: ContentType { ty: "A", subtype: "B", params: None }, disposition: Some(ContentDisposition { ty: "d", params: None }), language: Some(["en"]), location: None }, other: BodyContentSinglePart { id: None, md5: None, description: None, transfer_encoding: SevenBit, octets: 1 }, extension: Some(Num(7)) }"#,
+    ),
     (b"()", "Error"),
     (b"\"A\"", "Error"),
     (b"(\"A\" \"B\" NIL NIL NIL NIL x)", "Error"),
@@ -148,6 +158,10 @@ const MESSAGES_AND_MULTIPARTS: Rows = &[
     (
         b"((\"A\" \"B\" NIL NIL NIL NIL 1) \"M\" (\"b\" \"c\") (\"d\" NIL) (\"en\") \"l\" (1))x",
         r#"Multipart { common: BodyContentCommon { ty: ContentType { ty: "MULTIPART", subtype: "M", params: Some([("b", "c")]) }, disposition: Some(ContentDisposition { ty: "d", params: None }), language: Some(["en"]), location: Some("l") }, bodies: [Basic { common: BodyContentCommon { ty: ContentType { ty: "A", subtype: "B", params: None }, disposition: None, language: None, location: None }, other: BodyContentSinglePart { id: None, md5: None, description: None, transfer_encoding: SevenBit, octets: 1 }, extension: None }], extension: Some(List([Num(1)])) } then "x""#,
+    ),
+    (
+        b"((\"A\" \"B\" NIL NIL NIL NIL 1) \"M\" (\"d\" NIL) \"en\" 7)",
+        r#"Multipart { common: BodyContentCommon { ty: ContentType { ty: "MULTIPART", subtype: "M", params: None }, disposition: Some(ContentDisposition { ty: "d", params: None }), language: Some(["en"]), location: None }, bodies: [Basic { common: BodyContentCommon { ty: ContentType { ty: "A", subtype: "B", params: None }, disposition: None, language: None, location: None }, other: BodyContentSinglePart { id: None, md5: None, description: None, transfer_encoding: SevenBit, octets: 1 }, extension: None }], extension: Some(Num(7)) }"#,
     ),
     (b"((\"A\" \"B\" NIL NIL NIL NIL 1))", "Error"),
     (
@@ -182,89 +196,4 @@ fn bodies(rt: HostRuntime) {
             assert!(rt; says(alloc, owned_body(alloc, input), want), "{want}");
         }
     }
-}
-
-/// What stands before, in and behind what is nested.
-struct Nest {
-    before: &'static [u8],
-    inside: &'static [u8],
-    behind: &'static [u8],
-}
-
-// So many levels, the inside being the last.
-fn nested(
-    alloc: Global,
-    start: &[u8],
-    nest: &Nest,
-    levels: u32,
-    end: &[u8],
-) -> Result<Vec<u8>, AllocError> {
-    let mut line = Vec::from_slice(alloc, start)?;
-    for _ in 1..levels {
-        line.extend_from_slice(nest.before)?;
-    }
-    line.extend_from_slice(nest.inside)?;
-    for _ in 1..levels {
-        line.extend_from_slice(nest.behind)?;
-    }
-    line.extend_from_slice(end)?;
-    Ok(line)
-}
-
-const MULTIPARTS: Nest = Nest {
-    before: b"(",
-    inside: b"(\"A\" \"B\" NIL NIL NIL \"7BIT\" 1)",
-    behind: b" \"M\")",
-};
-
-const MESSAGES: Nest = Nest {
-    before: b"(\"MESSAGE\" \"RFC822\" NIL NIL NIL NIL 1 (NIL NIL NIL NIL NIL NIL NIL NIL NIL NIL) ",
-    inside: b"(\"A\" \"B\" NIL NIL NIL \"7BIT\" 1)",
-    behind: b" 1)",
-};
-
-const LISTS: Nest = Nest {
-    before: b"(",
-    inside: b"(1)",
-    behind: b")",
-};
-
-const BEFORE_LISTS: &[u8] = b"(\"A\" \"B\" NIL NIL NIL \"7BIT\" 1 NIL NIL NIL NIL ";
-
-/// How a reading ended, the value left out.
-#[derive(Clone, Copy, PartialEq, Eq)]
-enum Ending {
-    Whole,
-    InPart,
-    Denied,
-    Neither,
-}
-
-fn ending_of<T: Drop>(answer: IResult<&[u8], T>) -> Ending {
-    match answer {
-        Ok((rest, _)) if rest.is_empty() => Ending::Whole,
-        Ok(_) => Ending::InPart,
-        Err(Err::Error) => Ending::Denied,
-        Err(_) => Ending::Neither,
-    }
-}
-
-#[test]
-fn nesting(rt: HostRuntime) -> Result<(), Fail> {
-    let alloc = rt.alloc();
-    for (levels, want) in [
-        (99, Ending::Whole),
-        (100, Ending::Whole),
-        (101, Ending::Denied),
-    ] {
-        for nest in [&MULTIPARTS, &MESSAGES] {
-            let line = nested(alloc, b"", nest, levels, b"")?;
-            assert!(rt; ending_of(body_structure(alloc, &line)) == want, "{levels}");
-        }
-        let line = nested(alloc, b"", &LISTS, levels, b"")?;
-        assert!(rt; ending_of(body_extension(alloc, &line)) == want, "{levels}");
-        let line = nested(alloc, BEFORE_LISTS, &LISTS, levels, b")")?;
-        assert!(rt; ending_of(body_structure(alloc, &line)) == want, "{levels}");
-    }
-    Ok(())
 }

@@ -1,10 +1,8 @@
-//! Lines that tell of a message: their attributes as they are parsed and as they are kept.
+//! Lines that tell of a message, and the readers of attributes by themselves.
 
 use crate::answers::{Rows, assert_lines, says};
 use imap_body::readers::{attribute, attribute_list};
-use imap_body::{AttributeValue, msg_att_body_section};
-use imap_proto::Response;
-use imap_proto::kept::KeptFetch;
+use imap_proto::rfc3501::body::msg_att_body_section;
 use std::test::*;
 
 const FLAGS_AND_NUMBERS: Rows = &[
@@ -39,6 +37,10 @@ const FLAGS_AND_NUMBERS: Rows = &[
     (
         b"* 1 FETCH (EMAILID (M1) THREADID (T6d) THREADID NIL EMAILID NIL)\r\n",
         r#"Fetch(1, [EmailId("M1"), ThreadId(Some("T6d")), ThreadId(None), Unknown])"#,
+    ),
+    (
+        b"* 1 FETCH (X-GM-LABELS (\"\\\\\"))\r\n",
+        r#"Fetch(1, [GmailLabels(["\\\\"])])"#,
     ),
     (b"* 1 FETCH (FLAGS (\xff))\r\n", "Fetch(1, [Unknown])"),
 ];
@@ -114,6 +116,11 @@ const UNKNOWN: Rows = &[
     ),
     (b"* 1 FETCH (X a\r\nb)\r\n", "Fetch(1, [Unknown])"),
     (b"* 1 FETCH (SAVEDATE NIL)\r\n", "Fetch(1, [Unknown])"),
+    (b"* 1 FETCH (X \"a) b\" Y {3}\r\n) )Z z UID 4)\r\n", "Error"),
+    (
+        b"* 1 FETCH (X \"a) b\" Y {3}\r\n) ) Z z UID 4)\r\n",
+        "Fetch(1, [Unknown, Unknown, Unknown, Uid(4)])",
+    ),
     (b"* 1 FETCH (X NILFOO)\r\n", "Error"),
     (b"* 1 FETCH (\xff 1)\r\n", "Error"),
     (b"* 1 FETCH (BINARY[1] {2}\r\nab)\r\n", "Error"),
@@ -152,7 +159,7 @@ const WAITING: Rows = &[
     ),
 ];
 
-const LINES: &[Rows] = &[
+pub const LINES: &[Rows] = &[
     FLAGS_AND_NUMBERS,
     TEXTS_AND_BYTES,
     STRUCTURES,
@@ -163,37 +170,6 @@ const LINES: &[Rows] = &[
 #[test]
 fn attributes(rt: HostRuntime) {
     assert_lines(&rt, rt.alloc(), LINES);
-}
-
-const KEPT: &[u8] = b"* 2 FETCH (UID 7 FLAGS (\\Seen))\r\nzz";
-
-const CONSUMED: &[u8] = b"* 2 FETCH (UID 7 FLAGS (\\Seen))\r\n";
-
-#[test]
-fn kept(rt: HostRuntime) -> Result<(), Fail> {
-    match KeptFetch::keep(rt.alloc(), KEPT) {
-        Ok(Some(kept)) => {
-            assert!(rt; kept.number() == 2);
-            assert!(rt; kept.len() == 2);
-            assert!(rt; kept.bytes() == CONSUMED);
-            if kept.len() > 0 {
-                match kept.attribute(0)? {
-                    AttributeValue::Uid(7) => {}
-                    _ => assert!(rt; false, "another attribute"),
-                }
-            }
-        }
-        _ => assert!(rt; false, "not kept"),
-    }
-    Ok(())
-}
-
-#[test]
-fn not_kept(rt: HostRuntime) {
-    match KeptFetch::keep(rt.alloc(), b"a1 OK\r\n") {
-        Ok(None) => {}
-        _ => assert!(rt; false, "kept"),
-    }
 }
 
 const SECTIONS: Rows = &[

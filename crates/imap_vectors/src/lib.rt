@@ -24,9 +24,13 @@ mod extensions;
 #[cfg(test)]
 mod fetches;
 #[cfg(test)]
+mod kept;
+#[cfg(test)]
 mod lists;
 #[cfg(test)]
 mod mailboxes;
+#[cfg(test)]
+mod nests;
 #[cfg(test)]
 mod owned;
 #[cfg(test)]

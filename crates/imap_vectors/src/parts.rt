@@ -2,8 +2,9 @@
 
 use crate::answers::says;
 use imap_body::readers::body_structure;
-use imap_body::{BodyStructParser, BodyStructure};
+use imap_proto::bodystructure::BodyStructParser;
 use imap_proto::imap_core::Err;
+use imap_proto::rfc3501::body_structure::BodyStructure;
 use std::alloc::Global;
 use std::test::*;
 

@@ -1,7 +1,9 @@
 //! Sections of bodies: which part of a message is meant.
 
 use crate::answers::{Rows, says};
-use imap_body::{MessageSection, SectionPath, section, section_msgtext, section_part};
+use imap_proto::rfc3501::body::{
+    MessageSection, SectionPath, section, section_msgtext, section_part,
+};
 use std::test::*;
 
 const WAITS: &str = "Incomplete(Unknown)";

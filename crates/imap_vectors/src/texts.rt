@@ -2,10 +2,11 @@
 
 use crate::answers::{Marked, Rows, says, says_marked, with_mark};
 use imap_proto::Response;
+use imap_proto::bodystructure::PartsError;
 use imap_proto::imap_core::{
     Err, Needed, astring_utf8, nstring_utf8, quoted_utf8, string_utf8, text,
 };
-use imap_proto::rfc3501::MailboxDatum;
+use imap_proto::rfc3501::{AttributeValue, MailboxDatum};
 use std::alloc::{AllocError, Global};
 use std::test::*;
 
@@ -80,8 +81,27 @@ fn decoded_or_nil(rt: HostRuntime) {
     assert!(rt; says(rt.alloc(), nstring_utf8(rt.alloc(), b"a"), "Error"));
 }
 
-/// The texts of a response, each with its mark: the information of a status line, the pairs of an identity, or the
-/// mailbox and the entries of annotations.
+// Adds the texts of an attribute of a message: dates, flags, labels and ids.
+fn add_texts<'a>(
+    texts: &mut Vec<Marked<'a>>,
+    attribute: &'a AttributeValue<'_>,
+) -> Result<(), AllocError> {
+    match attribute {
+        AttributeValue::InternalDate(text)
+        | AttributeValue::EmailId(text)
+        | AttributeValue::ThreadId(Some(text)) => texts.push(with_mark(text))?,
+        AttributeValue::Flags(list) | AttributeValue::GmailLabels(list) => {
+            for text in list {
+                texts.push(with_mark(text))?;
+            }
+        }
+        _ => {}
+    }
+    Ok(())
+}
+
+/// The texts of a response, each with its mark: the information of a status line, the pairs of an identity, the
+/// mailbox and the entries of annotations, or what the attributes of a message have.
 fn texts<'a>(alloc: Global, response: &'a Response<'_>) -> Result<Vec<Marked<'a>>, AllocError> {
     let mut texts = Vec::new(alloc);
     match response {
@@ -103,6 +123,11 @@ fn texts<'a>(alloc: Global, response: &'a Response<'_>) -> Result<Vec<Marked<'a>
             texts.push(with_mark(mailbox))?;
             for entry in values {
                 texts.push(with_mark(entry))?;
+            }
+        }
+        Response::Fetch(_, attributes) => {
+            for attribute in attributes {
+                add_texts(&mut texts, attribute)?;
             }
         }
         _ => {}
@@ -132,6 +157,11 @@ const MARKED_LINES: Rows = &[
         b"* METADATA \"\xff\" (/shared/comment {1}\r\n\xfe)\r\n",
         r#"[Owned("�")]"#,
     ),
+    (b"* 1 FETCH (INTERNALDATE \"\xff\")\r\n", r#"[Owned("�")]"#),
+    (
+        b"* 1 FETCH (INTERNALDATE \"a\" FLAGS (\\Seen \\*) X-GM-LABELS (\\Sent \"\xff\") EMAILID (M1) THREADID (T))\r\n",
+        r#"[Borrowed("a"), Borrowed("\\Seen"), Borrowed("\\*"), Borrowed("\\Sent"), Owned("�"), Borrowed("M1"), Borrowed("T")]"#,
+    ),
     (
         b"* METADATA \"x\" \"/shared/comment \xff\" /private/comment\r\n",
         r#"[Borrowed("x"), Owned("/shared/comment �"), Borrowed("/private/comment")]"#,
@@ -155,6 +185,13 @@ fn texts_of_faults(rt: HostRuntime) -> Result<(), Fail> {
         (Err::Incomplete(Needed::Size(3)), "more bytes are needed"),
         (Err::Error, "denied"),
         (Err::Failure, "out of memory"),
+    ];
+    for (fault, want) in rows {
+        assert_eq!(rt; format!(in rt.alloc(); "{fault}")?.as_str(), want);
+    }
+    let rows = [
+        (PartsError::OutOfMemory, "out of memory"),
+        (PartsError::TooManyParts, "too many parts"),
     ];
     for (fault, want) in rows {
         assert_eq!(rt; format!(in rt.alloc(); "{fault}")?.as_str(), want);

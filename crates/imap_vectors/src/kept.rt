@@ -1,0 +1,243 @@
+//! Fetches that are kept, and attributes as positions: what they tell of their message, and of another one in its place.
+
+use crate::answers::{says, says_at};
+use crate::{codes, extensions, fetches, mailboxes, statuses};
+use imap_body::AttributeValue;
+use imap_body::spanned::{SpannedAttribute, attribute_list_at};
+use imap_body::spans::Span;
+use imap_proto::Response;
+use imap_proto::imap_core::Err;
+use imap_proto::kept::KeptFetch;
+use std::alloc::{AllocError, Global};
+use std::test::*;
+
+// The attributes of a kept fetch, each asked for by its place.
+fn attributes(alloc: Global, kept: &KeptFetch) -> Result<Vec<AttributeValue<'_>>, AllocError> {
+    let mut values = Vec::new(alloc);
+    for k in 0..kept.len() {
+        values.push(kept.attribute(k)?)?;
+    }
+    Ok(values)
+}
+
+// Whether a kept fetch is told so as a response, with what is left of the line behind its bytes.
+fn tells(alloc: Global, kept: &KeptFetch, line: &[u8], want: &str) -> bool {
+    let front = kept.bytes();
+    match (line.get(front.len()..), attributes(alloc, kept)) {
+        (Some(rest), Ok(values)) => {
+            let response = Response::Fetch(kept.number(), values);
+            line.starts_with(front) && says(alloc, Ok((rest, response)), want)
+        }
+        _ => false,
+    }
+}
+
+/// Whether the line's fetch is kept and told so, each attribute by its place, or is refused so.
+pub fn is_kept(alloc: Global, line: &[u8], want: &str) -> bool {
+    match KeptFetch::keep(alloc, line) {
+        Ok(Some(kept)) => tells(alloc, &kept, line, want),
+        Ok(None) => false,
+        Err(error) => says(alloc, Err::<(&[u8], u32), _>(error), want),
+    }
+}
+
+// Whether nothing is kept of the line: another response stands there, or it is refused so.
+fn is_not_kept(alloc: Global, line: &[u8], want: &str) -> bool {
+    match KeptFetch::keep(alloc, line) {
+        Ok(Some(_)) => false,
+        Ok(None) => says(alloc, Response::parse(alloc, line), want),
+        Err(error) => says(alloc, Err::<(&[u8], u32), _>(error), want),
+    }
+}
+
+#[test]
+fn kept_as_parsed(rt: HostRuntime) {
+    let alloc = rt.alloc();
+    for rows in fetches::LINES {
+        for (line, want) in *rows {
+            assert!(rt; is_kept(alloc, line, want), "{want}");
+        }
+    }
+    for tables in [
+        statuses::LINES,
+        codes::LINES,
+        mailboxes::LINES,
+        extensions::LINES,
+    ] {
+        for rows in tables {
+            for (line, want) in *rows {
+                assert!(rt; is_not_kept(alloc, line, want), "{want}");
+            }
+        }
+    }
+}
+
+/// A line, what is kept of it, and what its kept bytes say when they are parsed by themselves.
+struct KeptLine {
+    line: &'static [u8],
+    number: u32,
+    attributes: usize,
+    bytes: usize,
+    told: &'static str,
+    alone: &'static str,
+}
+
+// The first reading may look past the line: where a literal is announced that the line does not have, the attribute
+// is no envelope but an unknown one, and the line by itself would wait for the rest of the literal.
+const KEPT: &[KeptLine] = &[
+    KeptLine {
+        line: b"* 2 FETCH (UID 7 FLAGS (\\Seen))\r\nzz",
+        number: 2,
+        attributes: 2,
+        bytes: 33,
+        told: r#"Fetch(2, [Uid(7), Flags(["\\Seen"])]) then "zz""#,
+        alone: r#"Fetch(2, [Uid(7), Flags(["\\Seen"])])"#,
+    },
+    KeptLine {
+        line: b"* 1 FETCH (ENVELOPE ({5}\r\n))\r\nxy",
+        number: 1,
+        attributes: 1,
+        bytes: 30,
+        told: r#"Fetch(1, [Unknown]) then "xy""#,
+        alone: "Incomplete(Size(1))",
+    },
+    KeptLine {
+        line: b"* 1 FETCH (ENVELOPE ({15}\r\n) UID 7)\r\nabcdex",
+        number: 1,
+        attributes: 2,
+        bytes: 37,
+        told: r#"Fetch(1, [Unknown, Uid(7)]) then "abcdex""#,
+        alone: "Incomplete(Size(5))",
+    },
+];
+
+// Whether what is kept of the line is this.
+fn is_kept_so(alloc: Global, want: &KeptLine) -> bool {
+    match KeptFetch::keep(alloc, want.line) {
+        Ok(Some(kept)) => {
+            kept.number() == want.number
+                && kept.len() == want.attributes
+                && kept.bytes().len() == want.bytes
+                && tells(alloc, &kept, want.line, want.told)
+                && says(alloc, Response::parse(alloc, kept.bytes()), want.alone)
+        }
+        _ => false,
+    }
+}
+
+#[test]
+fn kept_bytes(rt: HostRuntime) {
+    for want in KEPT {
+        assert!(rt; is_kept_so(rt.alloc(), want), "{}", want.told);
+    }
+}
+
+/// Attributes in parentheses from some place of a message on, and what they say of it, and of another message with
+/// other bytes in these places.
+struct Places {
+    message: &'static [u8],
+    start: usize,
+    spans: &'static str,
+    values: &'static str,
+    other: &'static [u8],
+    others: &'static str,
+}
+
+const PLACES: &[Places] = &[
+    Places {
+        message: b"* 2 FETCH (UID 7 FLAGS (\\Seen))\r\nzz",
+        start: 10,
+        spans: "[Span { start: 11, end: 16 }, Span { start: 17, end: 30 }] up to 31",
+        values: r#"[Uid(7), Flags(["\\Seen"])]"#,
+        other: b"* 2 FETCH (UID 7 FLAGS (\\Flag))\r\nzz",
+        others: r#"[Uid(7), Flags(["\\Flag"])]"#,
+    },
+    Places {
+        message: b"(BODY[1.MIME]<0> \"ab\" ENVELOPE (\"d\" NIL ((\"n\" NIL {2}\r\nma \"h\")) NIL NIL NIL NIL NIL NIL \"i\") RFC822 {3}\r\na)b RFC822.TEXT NIL RFC822.HEADER \"h\" RFC822.SIZE 9 MODSEQ (5))",
+        start: 0,
+        spans: "[Span { start: 1, end: 21 }, Span { start: 22, end: 92 }, Span { start: 93, end: 108 }, Span { start: 109, end: 124 }, Span { start: 125, end: 142 }, Span { start: 143, end: 156 }, Span { start: 157, end: 167 }] up to 168",
+        values: "[BodySection { section: Some(Part([1], Some(Mime))), index: Some(0), contents: Some([97, 98]) }, Envelope(Envelope { date: Some([100]), subject: None, from: Some([Address { name: Some([110]), adl: None, mailbox: Some([109, 97]), host: Some([104]) }]), sender: None, reply_to: None, to: None, cc: None, bcc: None, in_reply_to: None, message_id: Some([105]) }), Rfc822(Some([97, 41, 98])), Rfc822Text(None), Rfc822Header(Some([104])), Rfc822Size(9), ModSeq(5)]",
+        other: &[b'x'; 168],
+        others: "[BodySection { section: Some(Part([1], Some(Mime))), index: Some(0), contents: Some([120, 120]) }, Envelope(Envelope { date: Some([120]), subject: None, from: Some([Address { name: Some([120]), adl: None, mailbox: Some([120, 120]), host: Some([120]) }]), sender: None, reply_to: None, to: None, cc: None, bcc: None, in_reply_to: None, message_id: Some([120]) }), Rfc822(Some([120, 120, 120])), Rfc822Text(None), Rfc822Header(Some([120])), Rfc822Size(9), ModSeq(5)]",
+    },
+    Places {
+        message: b"x(INTERNALDATE \"t u\" FLAGS (\\Seen a) X-GM-LABELS (\\Sent \"b c\") X-GM-MSGID 2 EMAILID (M1) THREADID (T) X y)\r\n",
+        start: 1,
+        spans: "[Span { start: 2, end: 20 }, Span { start: 21, end: 36 }, Span { start: 37, end: 62 }, Span { start: 63, end: 75 }, Span { start: 76, end: 88 }, Span { start: 89, end: 101 }, Span { start: 102, end: 105 }] up to 106",
+        values: r#"[InternalDate("t u"), Flags(["\\Seen", "a"]), GmailLabels(["\\Sent", "b c"]), GmailMsgId(2), EmailId("M1"), ThreadId(Some("T")), Unknown]"#,
+        other: &[0xff; 108],
+        others: r#"[InternalDate("���"), Flags(["�����", "�"]), GmailLabels(["�����", "���"]), GmailMsgId(2), EmailId("��"), ThreadId(Some("�")), Unknown]"#,
+    },
+    Places {
+        message: b"(BODYSTRUCTURE (\"text\" \"plain\" (\"p\" \"q\") \"i\" \"d\" \"XY\" 5 1 \"m\" (\"a\" (\"f\" \"g\")) \"en\" \"l\" (\"e\" 7 NIL)))",
+        start: 0,
+        spans: "[Span { start: 1, end: 99 }] up to 100",
+        values: r#"[BodyStructure(Text { common: BodyContentCommon { ty: ContentType { ty: "TEXT", subtype: "plain", params: Some([("p", "q")]) }, disposition: Some(ContentDisposition { ty: "a", params: Some([("f", "g")]) }), language: Some(["en"]), location: Some("l") }, other: BodyContentSinglePart { id: Some("i"), md5: Some("m"), description: Some("d"), transfer_encoding: Other("XY"), octets: 5 }, lines: 1, extension: Some(List([Str(Some("e")), Num(7), Str(None)])) })]"#,
+        other: &[b'z'; 100],
+        others: r#"[BodyStructure(Text { common: BodyContentCommon { ty: ContentType { ty: "TEXT", subtype: "zzzzz", params: Some([("z", "z")]) }, disposition: Some(ContentDisposition { ty: "z", params: Some([("z", "z")]) }), language: Some(["zz"]), location: Some("z") }, other: BodyContentSinglePart { id: Some("z"), md5: Some("z"), description: Some("z"), transfer_encoding: Other("zz"), octets: 5 }, lines: 1, extension: Some(List([Str(Some("z")), Num(7), Str(None)])) })]"#,
+    },
+    Places {
+        message: b"FETCH (bodystructure ((\"message\" \"rfc822\" NIL NIL NIL NIL 9 (\"d\" NIL NIL NIL NIL NIL NIL NIL NIL NIL) (\"A\" \"B\" NIL NIL NIL \"base64\" 1) 2) \"M\"))\r\n",
+        start: 6,
+        spans: "[Span { start: 7, end: 142 }] up to 143",
+        values: r#"[BodyStructure(Multipart { common: BodyContentCommon { ty: ContentType { ty: "MULTIPART", subtype: "M", params: None }, disposition: None, language: None, location: None }, bodies: [Message { common: BodyContentCommon { ty: ContentType { ty: "MESSAGE", subtype: "RFC822", params: None }, disposition: None, language: None, location: None }, other: BodyContentSinglePart { id: None, md5: None, description: None, transfer_encoding: SevenBit, octets: 9 }, envelope: Envelope { date: Some([100]), subject: None, from: None, sender: None, reply_to: None, to: None, cc: None, bcc: None, in_reply_to: None, message_id: None }, body: Basic { common: BodyContentCommon { ty: ContentType { ty: "A", subtype: "B", params: None }, disposition: None, language: None, location: None }, other: BodyContentSinglePart { id: None, md5: None, description: None, transfer_encoding: Base64, octets: 1 }, extension: None }, lines: 2, extension: None }], extension: None })]"#,
+        other: &[b'y'; 145],
+        others: r#"[BodyStructure(Multipart { common: BodyContentCommon { ty: ContentType { ty: "MULTIPART", subtype: "y", params: None }, disposition: None, language: None, location: None }, bodies: [Message { common: BodyContentCommon { ty: ContentType { ty: "MESSAGE", subtype: "RFC822", params: None }, disposition: None, language: None, location: None }, other: BodyContentSinglePart { id: None, md5: None, description: None, transfer_encoding: SevenBit, octets: 9 }, envelope: Envelope { date: Some([121]), subject: None, from: None, sender: None, reply_to: None, to: None, cc: None, bcc: None, in_reply_to: None, message_id: None }, body: Basic { common: BodyContentCommon { ty: ContentType { ty: "y", subtype: "y", params: None }, disposition: None, language: None, location: None }, other: BodyContentSinglePart { id: None, md5: None, description: None, transfer_encoding: Base64, octets: 1 }, extension: None }, lines: 2, extension: None }], extension: None })]"#,
+    },
+];
+
+fn spans(alloc: Global, attributes: &[SpannedAttribute]) -> Result<Vec<Span>, AllocError> {
+    let mut spans = Vec::new(alloc);
+    for attribute in attributes {
+        spans.push(attribute.span())?;
+    }
+    Ok(spans)
+}
+
+// What the attributes name in a message.
+fn values<'a>(
+    alloc: Global,
+    attributes: &[SpannedAttribute],
+    m: &'a [u8],
+) -> Result<Vec<AttributeValue<'a>>, AllocError> {
+    let mut values = Vec::new(alloc);
+    for attribute in attributes {
+        values.push(attribute.value(alloc, m)?)?;
+    }
+    Ok(values)
+}
+
+const NOTHING: &[u8] = b"";
+
+// Whether the attributes name these values in a message.
+fn name(alloc: Global, attributes: &[SpannedAttribute], m: &[u8], want: &str) -> bool {
+    match values(alloc, attributes, m) {
+        Ok(values) => says(alloc, Ok((NOTHING, values)), want),
+        Err(_) => false,
+    }
+}
+
+// Whether the attributes stand there, and name what is wanted in both messages.
+fn stand(alloc: Global, want: &Places) -> bool {
+    if want.start > want.message.len() {
+        return false;
+    }
+    match attribute_list_at(alloc, want.message, want.start) {
+        Ok((reached, attributes)) => match spans(alloc, &attributes) {
+            Ok(spans) => {
+                says_at(alloc, Ok((reached, spans)), want.spans)
+                    && name(alloc, &attributes, want.message, want.values)
+                    && name(alloc, &attributes, want.other, want.others)
+            }
+            Err(_) => false,
+        },
+        Err(_) => false,
+    }
+}
+
+#[test]
+fn positions(rt: HostRuntime) {
+    for want in PLACES {
+        assert!(rt; stand(rt.alloc(), want), "{}", want.spans);
+    }
+}

@@ -1,0 +1,126 @@
+//! Bodies and extension lists inside one another, up to the deepest that are read and one further: by the readers, and in lines.
+
+use crate::answers::told;
+use crate::kept::is_kept;
+use imap_body::readers::{body_extension, body_structure};
+use imap_proto::Response;
+use imap_proto::imap_core::{Err, IResult};
+use imap_proto::rfc3501::body_structure::{MAX_BODY_DEPTH, MAX_EXTENSION_DEPTH};
+use std::alloc::{AllocError, Global};
+use std::test::*;
+
+/// What stands before, in and behind what is nested.
+struct Nest {
+    before: &'static [u8],
+    inside: &'static [u8],
+    behind: &'static [u8],
+}
+
+// So many levels, the inside being the last.
+fn nested(
+    alloc: Global,
+    start: &[u8],
+    nest: &Nest,
+    levels: u32,
+    end: &[u8],
+) -> Result<Vec<u8>, AllocError> {
+    let mut line = Vec::from_slice(alloc, start)?;
+    for _ in 1..levels {
+        line.extend_from_slice(nest.before)?;
+    }
+    line.extend_from_slice(nest.inside)?;
+    for _ in 1..levels {
+        line.extend_from_slice(nest.behind)?;
+    }
+    line.extend_from_slice(end)?;
+    Ok(line)
+}
+
+const MULTIPARTS: Nest = Nest {
+    before: b"(",
+    inside: b"(\"A\" \"B\" NIL NIL NIL \"7BIT\" 1)",
+    behind: b" \"M\")",
+};
+
+const MESSAGES: Nest = Nest {
+    before: b"(\"MESSAGE\" \"RFC822\" NIL NIL NIL NIL 1 (NIL NIL NIL NIL NIL NIL NIL NIL NIL NIL) ",
+    inside: b"(\"A\" \"B\" NIL NIL NIL \"7BIT\" 1)",
+    behind: b" 1)",
+};
+
+const LISTS: Nest = Nest {
+    before: b"(",
+    inside: b"(1)",
+    behind: b")",
+};
+
+const BEFORE_LISTS: &[u8] = b"(\"A\" \"B\" NIL NIL NIL \"7BIT\" 1 NIL NIL NIL NIL ";
+
+const BEFORE_BODY_IN_LINE: &[u8] = b"* 1 FETCH (BODYSTRUCTURE ";
+
+const BEFORE_LISTS_IN_LINE: &[u8] =
+    b"* 1 FETCH (BODYSTRUCTURE (\"A\" \"B\" NIL NIL NIL \"7BIT\" 1 NIL NIL NIL NIL ";
+
+/// How a reading ended, the value left out.
+#[derive(Clone, Copy, PartialEq, Eq)]
+enum Ending {
+    Whole,
+    InPart,
+    Denied,
+    Neither,
+}
+
+fn ending_of<T: Drop>(answer: IResult<&[u8], T>) -> Ending {
+    match answer {
+        Ok((rest, _)) if rest.is_empty() => Ending::Whole,
+        Ok(_) => Ending::InPart,
+        Err(Err::Error) => Ending::Denied,
+        Err(_) => Ending::Neither,
+    }
+}
+
+const DEPTHS: [(u32, Ending); 3] = [
+    (99, Ending::Whole),
+    (100, Ending::Whole),
+    (101, Ending::Denied),
+];
+
+#[test]
+fn nesting(rt: HostRuntime) -> Result<(), Fail> {
+    let alloc = rt.alloc();
+    for (levels, want) in DEPTHS {
+        for nest in [&MULTIPARTS, &MESSAGES] {
+            let line = nested(alloc, b"", nest, levels, b"")?;
+            assert!(rt; ending_of(body_structure(alloc, &line)) == want, "{levels}");
+        }
+        let line = nested(alloc, b"", &LISTS, levels, b"")?;
+        assert!(rt; ending_of(body_extension(alloc, &line)) == want, "{levels}");
+        let line = nested(alloc, BEFORE_LISTS, &LISTS, levels, b")")?;
+        assert!(rt; ending_of(body_structure(alloc, &line)) == want, "{levels}");
+    }
+    assert!(rt; MAX_BODY_DEPTH == 100);
+    assert!(rt; MAX_EXTENSION_DEPTH == 100);
+    Ok(())
+}
+
+// A body that nests too deep is tried as an unknown attribute, which ends at the first closing bracket: so the line is denied.
+#[test]
+fn nesting_in_lines(rt: HostRuntime) -> Result<(), Fail> {
+    let alloc = rt.alloc();
+    for (levels, want) in DEPTHS {
+        for (start, nest, end) in [
+            (BEFORE_BODY_IN_LINE, &MULTIPARTS, b")\r\n".as_slice()),
+            (BEFORE_BODY_IN_LINE, &MESSAGES, b")\r\n"),
+            (BEFORE_LISTS_IN_LINE, &LISTS, b"))\r\n"),
+        ] {
+            let line = nested(alloc, start, nest, levels, end)?;
+            assert!(rt;
+                ending_of(Response::parse(alloc, &line)) == want,
+                "{levels}"
+            );
+            let parsed = told(alloc, Response::parse(alloc, &line))?;
+            assert!(rt; is_kept(alloc, &line, parsed.as_str()), "{levels}");
+        }
+    }
+    Ok(())
+}
