@@ -18,3 +18,4 @@ pub mod Starts
 pub mod Pieces
 pub mod ReadBack
 pub mod Spelling
+pub mod Copying

@@ -4,6 +4,7 @@
 mod answer;
 pub mod at;
 pub mod classes;
+pub mod laws;
 pub mod lists;
 pub mod tags;
 pub mod text;

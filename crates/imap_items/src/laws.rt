@@ -3,6 +3,7 @@
 ghost use Rattle.std.specs.Prelude.{ℕ, ◌≡◌};
 ghost use Rattle.imap_grammar.specs.Stable.{Stable};
 ghost use Rattle.imap_grammar.specs.Equality.{Tells, HashesAlike};
+ghost use Rattle.imap_grammar.specs.Copying.{CopiesFreely};
 ghost use Rattle.imap_items.specs.Statuses as statuses;
 ghost use Rattle.imap_items.specs.Flags as flags;
 ghost use Rattle.imap_items.specs.Capabilities as capabilities;
@@ -68,10 +69,11 @@ pub fn hashing()
     ensures acl_right { HashesAlike ⟦<AclRight as Hash>⟧.hash_input right_content }
 {}
 
-/// A clone of a UID set's member takes no memory, and is the same value.
+/// A clone of a UID set's member or of a right takes no memory, and is the same value.
 pub fn cloning()
     ensures no_memory { (m : Member) → ⟦<UidSetMember as Clone>⟧.is_infallible m }
     ensures same { (m copy : Member) → ⟦<UidSetMember as Clone>⟧.is_clone m copy → member_value copy ≡ member_value m }
+    ensures acl_right { CopiesFreely ⟦<AclRight as Clone>⟧.is_infallible ⟦<AclRight as Clone>⟧.is_clone }
 {}
 
 /// A letter's right has that letter, and a right's letter has that right, but for a `Custom` of a letter that has a right of its own.

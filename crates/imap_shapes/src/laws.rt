@@ -1,6 +1,7 @@
 //! Laws of the types of this crate, as contracts of functions that do nothing.
 
 ghost use Rattle.imap_grammar.specs.Equality.{Tells};
+ghost use Rattle.imap_grammar.specs.Copying.{CopiesFreely};
 ghost use Rattle.imap_grammar.specs.Text.{Text, lent_text};
 ghost use Rattle.imap_shapes.specs.EnvelopeValues.{address_seen, envelope_seen};
 ghost use Rattle.imap_shapes.specs.FieldValues.{params_seen, encoding_seen};
@@ -29,4 +30,10 @@ pub fn equality<S: PartialEq, B: PartialEq>()
     ensures body_structure { (f : S → Text) (g : B → Text) → Tells S.eq (λ s. lent_text (f s)) → Tells B.eq (λ b. lent_text (g b)) → Tells ⟦<BodyStructure<S, B> as PartialEq>⟧.eq (λ x. lent_body (body_seen f g x)) }
     ensures spanned_text { Tells ⟦<SpannedText as PartialEq>⟧.eq (λ x. x) }
     ensures parts_error { Tells ⟦<PartsError as PartialEq>⟧.eq (λ x. x) }
+{}
+
+/// A clone takes no memory, and is the same value.
+pub fn cloning()
+    ensures spanned_text { CopiesFreely ⟦<SpannedText as Clone>⟧.is_infallible ⟦<SpannedText as Clone>⟧.is_clone }
+    ensures parts_error { CopiesFreely ⟦<PartsError as Clone>⟧.is_infallible ⟦<PartsError as Clone>⟧.is_clone }
 {}
