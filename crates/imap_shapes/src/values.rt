@@ -1,6 +1,7 @@
 //! What spans name in a message: the real values of trees of spans.
 
 ghost use Rattle.std.specs.Prelude.{◌≡◌, IfOk};
+ghost use Rattle.std.specs.Option.{option_map};
 ghost use Rattle.imap_grammar.specs.Text.{text_of};
 ghost use Rattle.imap_shapes.specs.Spans.{bytes_of, bytes_in, text_in};
 ghost use Rattle.imap_shapes.specs.EnvelopeValues.{address_seen, envelope_seen};
@@ -16,13 +17,29 @@ use crate::types::envelopes::{Address, Envelope};
 use crate::types::extensions::BodyExtension;
 use crate::types::fields::BodyFields;
 use std::alloc::{AllocError, Global};
+use std::borrow::CowSlice;
+
+// The bytes that a span names in m, if there is one.
+fn lent<'a>(m: &'a [u8], bytes: &Option<Span>) -> Option<CowSlice<'a, u8>>
+    ensures { option_map bytes_of result ≡ option_map (bytes_in m.now) bytes.now }
+{
+    match bytes {
+        None => None,
+        Some(span) => Some(CowSlice::Borrowed(span.part(m))),
+    }
+}
 
 impl shapes::envelopes::Address<Span> {
-    /// The address that its spans name in m. `Err` where there is no memory.
-    pub fn value<'a>(&self, m: &'a [u8]) -> Result<Address<'a>, AllocError>
-        ensures { IfOk result (λ a. address_seen bytes_of a ≡ address_seen (bytes_in m.now) self.now) }
+    /// The address that its spans name in m. No memory.
+    pub fn value<'a>(&self, m: &'a [u8]) -> Address<'a>
+        ensures { address_seen bytes_of result ≡ address_seen (bytes_in m.now) self.now }
     {
-        self.try_map(&NamedBytes { m })
+        Address {
+            name: lent(m, &self.name),
+            adl: lent(m, &self.adl),
+            mailbox: lent(m, &self.mailbox),
+            host: lent(m, &self.host),
+        }
     }
 }
 

@@ -16,7 +16,7 @@ use imap_bytes::at::span::Span;
 use imap_bytes::at::strings::{astring_chars, atom, nil, nstring, string};
 use imap_bytes::at::tags::{cut0, cut1, maybe_space, tag, word};
 use imap_bytes::strings::as_utf8;
-use imap_bytes::{Err, Needed, first};
+use imap_bytes::{Err, Needed, first, maybe};
 use imap_items::at::{flag_list, gmail_label_list};
 use imap_structure::at::bodies::body_structure;
 use imap_structure::at::envelopes::envelope;
@@ -40,11 +40,7 @@ fn maybe_origin(m: &[u8], p: usize) -> Result<(usize, Option<u32>), Err>
     ensures steps { ExactlyAt (λ x. x) m.now result (step (opt rules.origin) (drop p m.now)) }
     ensures ahead { Ahead m.now p result }
 {
-    match origin(m, p) {
-        Ok((q, index)) => Ok((q, Some(index))),
-        Err(Err::Error) => Ok((p, None)),
-        Err(e) => Err(e),
-    }
+    maybe!(origin(m, p), p)
 }
 
 #[tactic(auto, unfolding(crate::specs::Attributes::section_contents))]
@@ -425,18 +421,8 @@ fn skipped_nstring(m: &[u8], p: usize) -> Result<(usize, ()), Err>
     Ok((p, ()))
 }
 
-#[tactic(auto, unfolding(crate::specs::Attributes::skipped_bare))]
-fn skipped_bare(m: &[u8], p: usize) -> Result<(usize, ()), Err>
-    requires { p ≤ length m.now }
-    ensures steps { ExactlyAt (λ x. tt) m.now result (step rules.skipped_bare (drop p m.now)) }
-    ensures ahead { Ahead m.now p result }
-{
-    let (p, _) = bare(m, p)?;
-    Ok((p, ()))
-}
-
 // A value that is skipped, whatever it holds.
-#[tactic(auto, unfolding(crate::specs::Attributes::skipped_value))]
+#[tactic(auto, unfolding(crate::specs::Attributes::skipped_value, crate::specs::Attributes::skipped_bare))]
 fn skipped_value(m: &[u8], p: usize) -> Result<(usize, ()), Err>
     requires { p ≤ length m.now }
     ensures steps { ExactlyAt (λ x. tt) m.now result (step rules.skipped_value (drop p m.now)) }
@@ -444,7 +430,8 @@ fn skipped_value(m: &[u8], p: usize) -> Result<(usize, ()), Err>
 {
     first!(skipped_brackets(m, p));
     first!(skipped_nstring(m, p));
-    skipped_bare(m, p)
+    let (p, _) = bare(m, p)?;
+    Ok((p, ()))
 }
 
 // Any other attribute: its name, and a value that is skipped.
@@ -461,112 +448,18 @@ fn msg_att_unknown(m: &[u8], p: usize) -> Result<(usize, AttributeSpans), Err>
     Ok((p, AttributeParts::Unknown))
 }
 
-#[tactic(auto, unfolding(crate::specs::Attributes::attribute_of_b))]
-fn attribute_of_b(alloc: Global, m: &[u8], p: usize) -> Result<(usize, AttributeSpans), Err>
-    requires { p ≤ length m.now }
-    ensures steps { GivesAt (λ x. parts_in m.now x) m.now result (step rules.attribute_of_b (drop p m.now)) }
-    ensures ahead { Ahead m.now p result }
-    ensures rests { RestsOn parts_in result }
-{
-    first!(body_attribute(alloc, m, p));
-    msg_att_unknown(m, p)
-}
-
-#[tactic(auto, unfolding(crate::specs::Attributes::attribute_of_e))]
-fn attribute_of_e(alloc: Global, m: &[u8], p: usize) -> Result<(usize, AttributeSpans), Err>
-    requires { p ≤ length m.now }
-    ensures steps { GivesAt (λ x. parts_in m.now x) m.now result (step rules.attribute_of_e (drop p m.now)) }
-    ensures ahead { Ahead m.now p result }
-    ensures rests { RestsOn parts_in result }
-{
-    first!(msg_att_envelope(alloc, m, p));
-    first!(msg_att_email_id(m, p));
-    msg_att_unknown(m, p)
-}
-
-#[tactic(auto, unfolding(crate::specs::Attributes::attribute_of_f))]
-fn attribute_of_f(alloc: Global, m: &[u8], p: usize) -> Result<(usize, AttributeSpans), Err>
-    requires { p ≤ length m.now }
-    ensures steps { GivesAt (λ x. parts_in m.now x) m.now result (step rules.attribute_of_f (drop p m.now)) }
-    ensures ahead { Ahead m.now p result }
-    ensures rests { RestsOn parts_in result }
-{
-    first!(msg_att_flags(alloc, m, p));
-    msg_att_unknown(m, p)
-}
-
-#[tactic(auto, unfolding(crate::specs::Attributes::attribute_of_i))]
-fn attribute_of_i(m: &[u8], p: usize) -> Result<(usize, AttributeSpans), Err>
-    requires { p ≤ length m.now }
-    ensures steps { ExactlyAt (λ x. parts_in m.now x) m.now result (step rules.attribute_of_i (drop p m.now)) }
-    ensures ahead { Ahead m.now p result }
-    ensures rests { RestsOn parts_in result }
-{
-    first!(msg_att_internal_date(m, p));
-    msg_att_unknown(m, p)
-}
-
-#[tactic(auto, unfolding(crate::specs::Attributes::attribute_of_m))]
-fn attribute_of_m(m: &[u8], p: usize) -> Result<(usize, AttributeSpans), Err>
-    requires { p ≤ length m.now }
-    ensures steps { ExactlyAt (λ x. parts_in m.now x) m.now result (step rules.attribute_of_m (drop p m.now)) }
-    ensures ahead { Ahead m.now p result }
-    ensures rests { RestsOn parts_in result }
-{
-    first!(msg_att_mod_seq(m, p));
-    msg_att_unknown(m, p)
-}
-
-#[tactic(auto, unfolding(crate::specs::Attributes::attribute_of_r))]
-fn attribute_of_r(m: &[u8], p: usize) -> Result<(usize, AttributeSpans), Err>
-    requires { p ≤ length m.now }
-    ensures steps { ExactlyAt (λ x. parts_in m.now x) m.now result (step rules.attribute_of_r (drop p m.now)) }
-    ensures ahead { Ahead m.now p result }
-    ensures rests { RestsOn parts_in result }
-{
-    first!(message_attribute(m, p));
-    msg_att_unknown(m, p)
-}
-
-#[tactic(auto, unfolding(crate::specs::Attributes::attribute_of_t))]
-fn attribute_of_t(m: &[u8], p: usize) -> Result<(usize, AttributeSpans), Err>
-    requires { p ≤ length m.now }
-    ensures steps { ExactlyAt (λ x. parts_in m.now x) m.now result (step rules.attribute_of_t (drop p m.now)) }
-    ensures ahead { Ahead m.now p result }
-    ensures rests { RestsOn parts_in result }
-{
-    first!(msg_att_thread_id(m, p));
-    msg_att_unknown(m, p)
-}
-
-#[tactic(auto, unfolding(crate::specs::Attributes::attribute_of_u))]
-fn attribute_of_u(m: &[u8], p: usize) -> Result<(usize, AttributeSpans), Err>
-    requires { p ≤ length m.now }
-    ensures steps { ExactlyAt (λ x. parts_in m.now x) m.now result (step rules.attribute_of_u (drop p m.now)) }
-    ensures ahead { Ahead m.now p result }
-    ensures rests { RestsOn parts_in result }
-{
-    first!(msg_att_uid(m, p));
-    msg_att_unknown(m, p)
-}
-
-#[tactic(auto, unfolding(crate::specs::Attributes::attribute_of_x))]
-fn attribute_of_x(alloc: Global, m: &[u8], p: usize) -> Result<(usize, AttributeSpans), Err>
-    requires { p ≤ length m.now }
-    ensures steps { GivesAt (λ x. parts_in m.now x) m.now result (step rules.attribute_of_x (drop p m.now)) }
-    ensures ahead { Ahead m.now p result }
-    ensures rests { RestsOn parts_in result }
-{
-    first!(msg_att_gmail_labels(alloc, m, p));
-    first!(msg_att_gmail_msgid(m, p));
-    first!(msg_att_gmail_thrid(m, p));
-    msg_att_unknown(m, p)
+// What the first of the readers that does not deny answers, and else an attribute that is unknown.
+macro_rules! known {
+    ($($answer:expr),+; $m:expr, $p:expr) => {{
+        $(first!($answer);)+
+        msg_att_unknown($m, $p)
+    }};
 }
 
 /// An attribute (RFC 3501, section 9: msg-att): of the alternatives those are tried, in order, that may start with the first byte.
 ///
 /// It takes memory for lists, envelopes and body structures.
-#[tactic(auto, using(crate::proofs::AttributeFirstBytes::attribute_none, crate::proofs::AttributeFirstBytes::attribute_is_of_b, crate::proofs::AttributeFirstBytes::attribute_is_of_e, crate::proofs::AttributeFirstBytes::attribute_is_of_f, crate::proofs::AttributeFirstBytes::attribute_is_of_i, crate::proofs::AttributeFirstBytes::attribute_is_of_m, crate::proofs::AttributeFirstBytes::attribute_is_of_r, crate::proofs::AttributeFirstBytes::attribute_is_of_t, crate::proofs::AttributeFirstBytes::attribute_is_of_u, crate::proofs::AttributeFirstBytes::attribute_is_of_x, crate::proofs::AttributeFirstBytes::attribute_other))]
+#[tactic(auto, using(crate::proofs::AttributeFirstBytes::attribute_none, crate::proofs::AttributeFirstBytes::attribute_is_of_b, crate::proofs::AttributeFirstBytes::attribute_is_of_e, crate::proofs::AttributeFirstBytes::attribute_is_of_f, crate::proofs::AttributeFirstBytes::attribute_is_of_i, crate::proofs::AttributeFirstBytes::attribute_is_of_m, crate::proofs::AttributeFirstBytes::attribute_is_of_r, crate::proofs::AttributeFirstBytes::attribute_is_of_t, crate::proofs::AttributeFirstBytes::attribute_is_of_u, crate::proofs::AttributeFirstBytes::attribute_is_of_x, crate::proofs::AttributeFirstBytes::attribute_other), unfolding(crate::specs::Attributes::attribute_of_b, crate::specs::Attributes::attribute_of_e, crate::specs::Attributes::attribute_of_f, crate::specs::Attributes::attribute_of_i, crate::specs::Attributes::attribute_of_m, crate::specs::Attributes::attribute_of_r, crate::specs::Attributes::attribute_of_t, crate::specs::Attributes::attribute_of_u, crate::specs::Attributes::attribute_of_x))]
 pub fn attribute(alloc: Global, m: &[u8], p: usize) -> Result<(usize, AttributeSpans), Err>
     requires { p ≤ length m.now }
     ensures steps { GivesAt (λ x. parts_in m.now x) m.now result (step rules.attribute (drop p m.now)) }
@@ -576,15 +469,20 @@ pub fn attribute(alloc: Global, m: &[u8], p: usize) -> Result<(usize, AttributeS
     let (_, i) = m.split_at(p);
     match i.first() {
         None => Err(Err::Incomplete(Needed::Unknown)),
-        Some(b'b' | b'B') => attribute_of_b(alloc, m, p),
-        Some(b'e' | b'E') => attribute_of_e(alloc, m, p),
-        Some(b'f' | b'F') => attribute_of_f(alloc, m, p),
-        Some(b'i' | b'I') => attribute_of_i(m, p),
-        Some(b'm' | b'M') => attribute_of_m(m, p),
-        Some(b'r' | b'R') => attribute_of_r(m, p),
-        Some(b't' | b'T') => attribute_of_t(m, p),
-        Some(b'u' | b'U') => attribute_of_u(m, p),
-        Some(b'x' | b'X') => attribute_of_x(alloc, m, p),
+        Some(b'b' | b'B') => known!(body_attribute(alloc, m, p); m, p),
+        Some(b'e' | b'E') => known!(msg_att_envelope(alloc, m, p), msg_att_email_id(m, p); m, p),
+        Some(b'f' | b'F') => known!(msg_att_flags(alloc, m, p); m, p),
+        Some(b'i' | b'I') => known!(msg_att_internal_date(m, p); m, p),
+        Some(b'm' | b'M') => known!(msg_att_mod_seq(m, p); m, p),
+        Some(b'r' | b'R') => known!(message_attribute(m, p); m, p),
+        Some(b't' | b'T') => known!(msg_att_thread_id(m, p); m, p),
+        Some(b'u' | b'U') => known!(msg_att_uid(m, p); m, p),
+        Some(b'x' | b'X') => known!(
+            msg_att_gmail_labels(alloc, m, p),
+            msg_att_gmail_msgid(m, p),
+            msg_att_gmail_thrid(m, p);
+            m, p
+        ),
         Some(_) => msg_att_unknown(m, p),
     }
 }

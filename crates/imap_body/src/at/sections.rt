@@ -3,6 +3,7 @@
 ghost use Rattle.std.specs.Prelude.{◌≤◌, length, drop};
 ghost use Rattle.std.specs.Option.{option_map};
 ghost use Rattle.imap_grammar.specs.Positions.{ExactlyAt, GivesAt, Ahead, named_in};
+ghost use Rattle.imap_grammar.specs.Memory.{NeverFails};
 ghost use Rattle.imap_grammar.specs.Step.{step};
 ghost use Rattle.imap_grammar.specs.Rule.{opt, otherwise, ◌▹◌};
 ghost use Rattle.imap_grammar.specs.Tags as tags;
@@ -17,7 +18,7 @@ use crate::types::sections::{MessageSection, SectionPath};
 use imap_bytes::at::numbers::number;
 use imap_bytes::at::strings::astring;
 use imap_bytes::at::tags::{maybe_space, tag, word};
-use imap_bytes::{Err, Needed, first};
+use imap_bytes::{Err, Needed, first, maybe};
 use imap_shapes::spans::Span;
 use imap_structure::at::Reached;
 use imap_structure::at::lists::list_of_one;
@@ -37,11 +38,7 @@ fn next_name(m: &[u8], p: usize) -> Reached<Option<Span>>
     ensures steps { ExactlyAt (λ x. option_map (λ y. named_in m.now y) x) m.now result (step (opt (spaced strings.astring)) (drop p m.now)) }
     ensures ahead { Ahead m.now p result }
 {
-    match spaced_name(m, p) {
-        Ok((q, name)) => Ok((q, Some(name))),
-        Err(Err::Error) => Ok((p, None)),
-        Err(e) => Err(e),
-    }
+    maybe!(spaced_name(m, p), p)
 }
 
 // Names of header fields, read and dropped.
@@ -100,11 +97,7 @@ fn maybe_not(m: &[u8], p: usize) -> Reached<Option<Span>>
     ensures steps { ExactlyAt (λ x. option_map (λ y. named_in m.now y) x) m.now result (step (opt sections.not_word) (drop p m.now)) }
     ensures ahead { Ahead m.now p result }
 {
-    match word(b".NOT", m, p) {
-        Ok((q, not)) => Ok((q, Some(not))),
-        Err(Err::Error) => Ok((p, None)),
-        Err(e) => Err(e),
-    }
+    maybe!(word(b".NOT", m, p), p)
 }
 
 #[tactic(auto, unfolding(crate::specs::Sections::header_fields))]
@@ -153,17 +146,19 @@ fn mime(m: &[u8], p: usize) -> Reached<MessageSection>
     requires { p ≤ length m.now }
     ensures steps { ExactlyAt (λ x. x) m.now result (step (tags.names "MIME" what.Mime) (drop p m.now)) }
     ensures ahead { Ahead m.now p result }
+    ensures no_failure { NeverFails result }
 {
     let (p, _) = word(b"MIME", m, p)?;
     Ok((p, MessageSection::Mime))
 }
 
 /// What of a message is meant (RFC 3501, section 9: section-msgtext). No memory: names of header fields are read and dropped.
-#[tactic(auto, using(crate::proofs::SectionFirstBytes::msgtext_none, crate::proofs::SectionFirstBytes::msgtext_is_header, crate::proofs::SectionFirstBytes::msgtext_is_text, crate::proofs::SectionFirstBytes::msgtext_other))]
+#[tactic(auto, using(imap_grammar::proofs::Memory::exactly_never_at, crate::proofs::SectionFirstBytes::msgtext_none, crate::proofs::SectionFirstBytes::msgtext_is_header, crate::proofs::SectionFirstBytes::msgtext_is_text, crate::proofs::SectionFirstBytes::msgtext_other))]
 pub fn section_msgtext(m: &[u8], p: usize) -> Reached<MessageSection>
     requires { p ≤ length m.now }
     ensures steps { ExactlyAt (λ x. x) m.now result (step sections.section_msgtext (drop p m.now)) }
     ensures ahead { Ahead m.now p result }
+    ensures no_failure { NeverFails result }
 {
     let (_, i) = m.split_at(p);
     match i.first() {
@@ -180,6 +175,7 @@ pub fn section_text(m: &[u8], p: usize) -> Reached<MessageSection>
     requires { p ≤ length m.now }
     ensures steps { ExactlyAt (λ x. x) m.now result (step sections.section_text (drop p m.now)) }
     ensures ahead { Ahead m.now p result }
+    ensures no_failure { NeverFails result }
 {
     first!(section_msgtext(m, p));
     mime(m, p)
@@ -199,11 +195,7 @@ fn next_number(m: &[u8], p: usize) -> Reached<Option<u32>>
     ensures steps { ExactlyAt (λ x. option_map (λ n. n) x) m.now result (step (opt (tags.tag "." ▹ numbers.number)) (drop p m.now)) }
     ensures ahead { Ahead m.now p result }
 {
-    match dotted_number(m, p) {
-        Ok((q, n)) => Ok((q, Some(n))),
-        Err(Err::Error) => Ok((p, None)),
-        Err(e) => Err(e),
-    }
+    maybe!(dotted_number(m, p), p)
 }
 
 /// The path of a part (RFC 3501, section 9: section-part).
@@ -242,11 +234,7 @@ fn maybe_part_text(m: &[u8], p: usize) -> Reached<Option<MessageSection>>
     ensures steps { ExactlyAt (λ x. x) m.now result (step (opt sections.part_text) (drop p m.now)) }
     ensures ahead { Ahead m.now p result }
 {
-    match part_text(m, p) {
-        Ok((q, what)) => Ok((q, Some(what))),
-        Err(Err::Error) => Ok((p, None)),
-        Err(e) => Err(e),
-    }
+    maybe!(part_text(m, p), p)
 }
 
 #[tactic(auto, unfolding(crate::specs::Sections::part_path))]
@@ -279,11 +267,7 @@ fn maybe_spec(alloc: Global, m: &[u8], p: usize) -> Reached<Option<SectionPath>>
     ensures steps { GivesAt (λ x. option_map path_value x) m.now result (step (opt sections.section_spec) (drop p m.now)) }
     ensures ahead { Ahead m.now p result }
 {
-    match section_spec(alloc, m, p) {
-        Ok((q, path)) => Ok((q, Some(path))),
-        Err(Err::Error) => Ok((p, None)),
-        Err(e) => Err(e),
-    }
+    maybe!(section_spec(alloc, m, p), p)
 }
 
 /// A section in brackets, maybe an empty one (RFC 3501, section 9: section).

@@ -2,6 +2,7 @@
 
 ghost use Rattle.std.specs.Option.{option_map};
 ghost use Rattle.imap_grammar.specs.Answer.{Answers, Exactly, Gives};
+ghost use Rattle.imap_grammar.specs.Memory.{NeverFails};
 ghost use Rattle.imap_grammar.specs.Step.{step};
 ghost use Rattle.imap_body.specs.Sections as sections;
 ghost use Rattle.imap_body.specs.SectionValues.{path_value};
@@ -31,6 +32,7 @@ pub fn section_part(alloc: Global, i: &[u8]) -> IResult<&[u8], Vec<u32>>
 pub fn section_msgtext(i: &[u8]) -> IResult<&[u8], MessageSection>
     ensures steps { Exactly (λ x. x) result (step sections.section_msgtext i.now) }
     ensures answer { Answers sections.section_msgtext (λ x. x) i.now result }
+    ensures no_failure { NeverFails result }
 {
     let (q, what) = at::sections::section_msgtext(i, 0)?;
     Ok((rest(i, q), what))
@@ -54,6 +56,7 @@ impl MessageSection {
     pub fn parse(i: &[u8]) -> IResult<&[u8], MessageSection>
         ensures steps { Exactly (λ x. x) result (step sections.section_text i.now) }
         ensures answer { Answers sections.section_text (λ x. x) i.now result }
+        ensures no_failure { NeverFails result }
     {
         let (q, what) = at::sections::section_text(i, 0)?;
         Ok((rest(i, q), what))

@@ -18,7 +18,7 @@ use crate::at::lists::list_of_one;
 use crate::at::texts::{spaced_number, spaced_string_text, string_text};
 use crate::limits::MAX_BODY_DEPTH;
 use imap_bytes::at::tags::{tag, word};
-use imap_bytes::{Err, Needed, first};
+use imap_bytes::{Err, Needed, first, maybe};
 use imap_shapes::shapes::bodies::{
     BodyContentCommon, BodyContentSinglePart, BodyStructure, ContentType,
 };
@@ -299,11 +299,7 @@ fn next_body(alloc: Global, level: u32, m: &[u8], p: usize) -> Reached<Option<Sp
     ensures ahead { Ahead m.now p result }
     ensures rests { RestsOn (λ n x. option_map (body_in n) x) result }
 {
-    match body(alloc, level, m, p) {
-        Ok((q, body)) => Ok((q, Some(body))),
-        Err(Err::Error) => Ok((p, None)),
-        Err(e) => Err(e),
-    }
+    maybe!(body(alloc, level, m, p), p)
 }
 
 /// A body, up to `MAX_BODY_DEPTH` inside one another (RFC 3501, section 9: body).

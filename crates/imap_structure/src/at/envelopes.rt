@@ -3,6 +3,7 @@
 ghost use Rattle.std.specs.Prelude.{◌≤◌, length, drop, map};
 ghost use Rattle.std.specs.Option.{option_map};
 ghost use Rattle.imap_grammar.specs.Positions.{ExactlyAt, GivesAt, Ahead, RestsOn};
+ghost use Rattle.imap_grammar.specs.Memory.{NeverFails};
 ghost use Rattle.imap_grammar.specs.Step.{step};
 ghost use Rattle.imap_grammar.specs.Rule.{opt};
 ghost use Rattle.imap_structure.specs.Envelopes as envelopes;
@@ -12,9 +13,9 @@ ghost use Rattle.imap_structure.specs.Spanned.{address_in, addresses_in, envelop
 use crate::at::Reached;
 use crate::at::lists::list_of_one;
 use crate::at::texts::{byte_string, spaced_byte_string};
-use imap_bytes::Err;
 use imap_bytes::at::strings::nil;
 use imap_bytes::at::tags::tag;
+use imap_bytes::{Err, maybe};
 use imap_shapes::shapes::envelopes::{Address, Envelope};
 use imap_shapes::spans::Span;
 use std::alloc::Global;
@@ -26,6 +27,7 @@ pub fn address(m: &[u8], p: usize) -> Reached<Address<Span>>
     ensures steps { ExactlyAt (λ x. address_in m.now x) m.now result (step envelopes.address (drop p m.now)) }
     ensures ahead { Ahead m.now p result }
     ensures rests { RestsOn address_in result }
+    ensures no_failure { NeverFails result }
 {
     let (p, _) = tag(b"(", m, p)?;
     let (p, name) = byte_string(m, p)?;
@@ -66,11 +68,7 @@ fn next_address(m: &[u8], p: usize) -> Reached<Option<Address<Span>>>
     ensures ahead { Ahead m.now p result }
     ensures rests { RestsOn (λ n x. option_map (address_in n) x) result }
 {
-    match listed_address(m, p) {
-        Ok((q, address)) => Ok((q, Some(address))),
-        Err(Err::Error) => Ok((p, None)),
-        Err(e) => Err(e),
-    }
+    maybe!(listed_address(m, p), p)
 }
 
 #[tactic(auto, unfolding(crate::specs::Envelopes::some_addresses))]

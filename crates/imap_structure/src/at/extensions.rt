@@ -22,7 +22,7 @@ use crate::limits::MAX_EXTENSION_DEPTH;
 use imap_bytes::at::numbers::number;
 use imap_bytes::at::strings::nil;
 use imap_bytes::at::tags::{blanks0, tag};
-use imap_bytes::{Err, Needed, first};
+use imap_bytes::{Err, Needed, first, maybe};
 use imap_shapes::shapes::extensions::{
     BodyExt1Part, BodyExtMPart, BodyExtension, ContentDisposition,
 };
@@ -72,11 +72,7 @@ fn next_language(m: &[u8], p: usize) -> Reached<Option<SpannedText>>
     ensures ahead { Ahead m.now p result }
     ensures rests { RestsOn (λ n x. option_map (text_in n) x) result }
 {
-    match spaced_string_text(m, p) {
-        Ok((q, language)) => Ok((q, Some(language))),
-        Err(Err::Error) => Ok((p, None)),
-        Err(e) => Err(e),
-    }
+    maybe!(spaced_string_text(m, p), p)
 }
 
 #[tactic(auto, unfolding(crate::specs::Extensions::some_languages))]
@@ -268,11 +264,7 @@ fn next_extension(
     ensures ahead { Ahead m.now p result }
     ensures rests { RestsOn maybe_extension_in result }
 {
-    match spaced_extension(alloc, level, m, p) {
-        Ok((q, extension)) => Ok((q, Some(extension))),
-        Err(Err::Error) => Ok((p, None)),
-        Err(e) => Err(e),
-    }
+    maybe!(spaced_extension(alloc, level, m, p), p)
 }
 
 #[cycle(extension)]

@@ -3,6 +3,7 @@
 ghost use Rattle.std.specs.Prelude.{◌≤◌, length, drop, map};
 ghost use Rattle.std.specs.Option.{option_map};
 ghost use Rattle.imap_grammar.specs.Positions.{ExactlyAt, GivesAt, Ahead, RestsOn};
+ghost use Rattle.imap_grammar.specs.Memory.{NeverFails};
 ghost use Rattle.imap_grammar.specs.Step.{step};
 ghost use Rattle.imap_grammar.specs.Rule.{opt};
 ghost use Rattle.imap_structure.specs.Envelopes.{spaced};
@@ -14,7 +15,7 @@ use crate::at::lists::list_of_one;
 use crate::at::texts::{spaced_nstring_text, spaced_number, spaced_string_text, string_text};
 use imap_bytes::at::strings::nil;
 use imap_bytes::at::tags::{blanks0, tag, word};
-use imap_bytes::{Err, Needed, first};
+use imap_bytes::{Err, Needed, first, maybe};
 use imap_shapes::shapes::fields::{BodyFields, BodyParams, ContentEncoding};
 use imap_shapes::spans::SpannedText;
 use std::alloc::Global;
@@ -47,11 +48,7 @@ fn next_param(m: &[u8], p: usize) -> Reached<Option<(SpannedText, SpannedText)>>
     ensures ahead { Ahead m.now p result }
     ensures rests { RestsOn (λ n x. option_map (pair_in n) x) result }
 {
-    match spaced_param(m, p) {
-        Ok((q, param)) => Ok((q, Some(param))),
-        Err(Err::Error) => Ok((p, None)),
-        Err(e) => Err(e),
-    }
+    maybe!(spaced_param(m, p), p)
 }
 
 #[tactic(auto, unfolding(crate::specs::Fields::some_params))]
@@ -209,12 +206,13 @@ fn encoding_in_quotes(m: &[u8], p: usize) -> Reached<ContentEncoding<SpannedText
 }
 
 /// How a body is encoded; `NIL` is `7BIT` (RFC 3501, section 9: body-fld-enc). No memory.
-#[tactic(auto, using(crate::proofs::FirstBytes::encoding_none, crate::proofs::FirstBytes::encoding_is_in_quotes, crate::proofs::FirstBytes::encoding_is_literal, crate::proofs::FirstBytes::encoding_is_nil, crate::proofs::FirstBytes::encoding_other))]
+#[tactic(auto, using(imap_grammar::proofs::Memory::exactly_never_at, crate::proofs::FirstBytes::encoding_none, crate::proofs::FirstBytes::encoding_is_in_quotes, crate::proofs::FirstBytes::encoding_is_literal, crate::proofs::FirstBytes::encoding_is_nil, crate::proofs::FirstBytes::encoding_other))]
 pub fn body_fld_enc(m: &[u8], p: usize) -> Reached<ContentEncoding<SpannedText>>
     requires { p ≤ length m.now }
     ensures steps { ExactlyAt (λ x. encoding_in m.now x) m.now result (step fields.body_fld_enc (drop p m.now)) }
     ensures ahead { Ahead m.now p result }
     ensures rests { RestsOn encoding_in result }
+    ensures no_failure { NeverFails result }
 {
     let (_, i) = m.split_at(p);
     match i.first() {

@@ -2,6 +2,7 @@
 
 ghost use Rattle.std.specs.Prelude.{◌≤◌, length, drop};
 ghost use Rattle.imap_grammar.specs.Positions.{ExactlyAt, Ahead, RestsOn};
+ghost use Rattle.imap_grammar.specs.Memory.{NeverFails};
 ghost use Rattle.imap_grammar.specs.Step.{step};
 ghost use Rattle.imap_bytes.specs.Numbers as numbers;
 ghost use Rattle.imap_bytes.specs.Texts as texts;
@@ -24,6 +25,7 @@ pub fn byte_string(m: &[u8], p: usize) -> Reached<Option<Span>>
     ensures steps { ExactlyAt (λ x. maybe_bytes_in m.now x) m.now result (step envelopes.byte_string (drop p m.now)) }
     ensures ahead { Ahead m.now p result }
     ensures rests { RestsOn maybe_bytes_in result }
+    ensures no_failure { NeverFails result }
 {
     let (q, bytes) = nstring(m, p)?;
     Ok((q, bytes))
@@ -35,6 +37,7 @@ pub fn spaced_byte_string(m: &[u8], p: usize) -> Reached<Option<Span>>
     ensures steps { ExactlyAt (λ x. maybe_bytes_in m.now x) m.now result (step (spaced envelopes.byte_string) (drop p m.now)) }
     ensures ahead { Ahead m.now p result }
     ensures rests { RestsOn maybe_bytes_in result }
+    ensures no_failure { NeverFails result }
 {
     let (p, _) = tag(b" ", m, p)?;
     byte_string(m, p)
@@ -47,6 +50,7 @@ pub fn string_text(m: &[u8], p: usize) -> Reached<SpannedText>
     ensures steps { ExactlyAt (λ x. text_in m.now x) m.now result (step texts.string_utf8 (drop p m.now)) }
     ensures ahead { Ahead m.now p result }
     ensures rests { RestsOn text_in result }
+    ensures no_failure { NeverFails result }
 {
     let (q, content) = string(m, p)?;
     Ok((q, SpannedText::Part(content)))
@@ -58,6 +62,7 @@ pub fn spaced_string_text(m: &[u8], p: usize) -> Reached<SpannedText>
     ensures steps { ExactlyAt (λ x. text_in m.now x) m.now result (step (spaced texts.string_utf8) (drop p m.now)) }
     ensures ahead { Ahead m.now p result }
     ensures rests { RestsOn text_in result }
+    ensures no_failure { NeverFails result }
 {
     let (p, _) = tag(b" ", m, p)?;
     string_text(m, p)
@@ -70,6 +75,7 @@ pub fn nstring_text(m: &[u8], p: usize) -> Reached<Option<SpannedText>>
     ensures steps { ExactlyAt (λ x. maybe_text_in m.now x) m.now result (step texts.nstring_utf8 (drop p m.now)) }
     ensures ahead { Ahead m.now p result }
     ensures rests { RestsOn maybe_text_in result }
+    ensures no_failure { NeverFails result }
 {
     match nil(m, p) {
         Ok((q, _)) => return Ok((q, None)),
@@ -86,6 +92,7 @@ pub fn spaced_nstring_text(m: &[u8], p: usize) -> Reached<Option<SpannedText>>
     ensures steps { ExactlyAt (λ x. maybe_text_in m.now x) m.now result (step (spaced texts.nstring_utf8) (drop p m.now)) }
     ensures ahead { Ahead m.now p result }
     ensures rests { RestsOn maybe_text_in result }
+    ensures no_failure { NeverFails result }
 {
     let (p, _) = tag(b" ", m, p)?;
     nstring_text(m, p)
@@ -96,6 +103,7 @@ pub fn spaced_number(m: &[u8], p: usize) -> Reached<u32>
     requires { p ≤ length m.now }
     ensures steps { ExactlyAt (λ x. x) m.now result (step (spaced numbers.number) (drop p m.now)) }
     ensures ahead { Ahead m.now p result }
+    ensures no_failure { NeverFails result }
 {
     let (p, _) = tag(b" ", m, p)?;
     number(m, p)

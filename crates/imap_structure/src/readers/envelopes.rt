@@ -1,6 +1,7 @@
 //! Envelopes.
 
-ghost use Rattle.imap_grammar.specs.Answer.{Answers, Gives};
+ghost use Rattle.imap_grammar.specs.Answer.{Answers, Exactly, Gives};
+ghost use Rattle.imap_grammar.specs.Memory.{NeverFails};
 ghost use Rattle.imap_grammar.specs.Step.{step};
 ghost use Rattle.imap_structure.specs.Envelopes as envelopes;
 ghost use Rattle.imap_shapes.specs.EnvelopeValues.{address_seen, envelope_seen};
@@ -12,14 +13,15 @@ use imap_bytes::at::span::rest;
 use imap_shapes::{Address, Envelope};
 use std::alloc::Global;
 
-/// An address: four nstrings in parentheses (RFC 3501, section 9: address). Its byte strings are borrowed.
-#[tactic(auto, using(imap_grammar::proofs::Agreement::answered))]
+/// An address: four nstrings in parentheses (RFC 3501, section 9: address). Its byte strings are borrowed. No memory.
+#[tactic(auto, using(imap_grammar::proofs::Agreement::exact_answered))]
 pub fn address(i: &[u8]) -> IResult<&[u8], Address<'_>>
-    ensures steps { Gives (λ x. address_seen bytes_of x) result (step envelopes.address i.now) }
+    ensures steps { Exactly (λ x. address_seen bytes_of x) result (step envelopes.address i.now) }
     ensures answer { Answers envelopes.address (λ x. address_seen bytes_of x) i.now result }
+    ensures no_failure { NeverFails result }
 {
     let (q, spans) = at::envelopes::address(i, 0)?;
-    Ok((rest(i, q), spans.value(i)?))
+    Ok((rest(i, q), spans.value(i)))
 }
 
 /// An envelope: its ten fields in parentheses (RFC 3501, section 9: envelope). Its byte strings are borrowed.

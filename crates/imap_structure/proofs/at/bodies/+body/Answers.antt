@@ -44,8 +44,8 @@ body_type_msg-returns-clause-steps t c =
 pub body_type_mpart-returns-clause-steps : goal.body_type_mpart-returns-clause-steps
 body_type_mpart-returns-clause-steps t c = multipart_reads c.args.level _ _ _ _ _ _ _ _ c.in_ok-p.ensures.steps c.in_ok-p-2.ensures.steps c.in_ok-p-3.ensures.steps
 
-pub next_body-returns-in-Ok-clause-rests : goal.next_body-returns-in-Ok-clause-rests
-next_body-returns-in-Ok-clause-rests t c = something_rests body_in _ _ c.in-Ok.ensures.rests
+pub next_body-returns-in-Ok-maybe-clause-rests : goal.next_body-returns-in-Ok-maybe-clause-rests
+next_body-returns-in-Ok-maybe-clause-rests t c = something_rests body_in _ _ c.in-Ok-maybe.ensures.rests
 
 pub some_bodies-bodies-init : goal.some_bodies-bodies-init
 some_bodies-bodies-init t c =

@@ -22,8 +22,8 @@ extension_list-returns-clause-steps t c =
 pub bracketed_extensions-returns-clause-rests : goal.bracketed_extensions-returns-clause-rests
 bracketed_extensions-returns-clause-rests t c = list_rests _ _ (rests_more _ (omega (arith, c.in_ok-p-3.ensures.inside, c.in_ok-p-4.ensures.inside)) c.in_ok-p-2.ensures.rests)
 
-pub next_extension-returns-in-Ok-clause-rests : goal.next_extension-returns-in-Ok-clause-rests
-next_extension-returns-in-Ok-clause-rests t c = something_rests extension_in _ _ c.in-Ok.ensures.rests
+pub next_extension-returns-in-Ok-maybe-clause-rests : goal.next_extension-returns-in-Ok-maybe-clause-rests
+next_extension-returns-in-Ok-maybe-clause-rests t c = something_rests extension_in _ _ c.in-Ok-maybe.ensures.rests
 
 pub some_extensions-extensions-init : goal.some_extensions-extensions-init
 some_extensions-extensions-init t c =
