@@ -39,6 +39,7 @@ pub fn literal(i: &[u8]) -> IResult<&[u8], &[u8]>
 
 /// A string: quoted, or a literal (RFC 3501, section 9: string).
 #[tactic(auto, using(imap_grammar::proofs::Agreement::exact_answered), unfolding(crate::specs::Strings::string))]
+#[inline(always)]
 pub fn string(i: &[u8]) -> IResult<&[u8], &[u8]>
     ensures steps { Exactly (λ x. x.now) result (step strings.string i.now) }
     ensures answer { Answers strings.string (λ x. x.now) i.now result }

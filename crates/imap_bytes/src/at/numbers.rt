@@ -31,7 +31,7 @@ fn digits_in_front(i: &[u8]) -> Option<(usize, Option<u32>)>
         if !is_digit(*d) {
             return Some((count, u32::try_from(number).ok()));
         }
-        if number > u64::from(u32::MAX) {
+        if number > u64::from(u32::MAX / 10) {
             return Some((digits_end(i)?, None));
         }
         number = number * 10 + u64::from(d.saturating_sub(b'0'));

@@ -25,6 +25,7 @@ fn plain_end(i: &[u8]) -> Option<usize>
     i.iter().position(|c| !is_quoted_char(*c))
 }
 
+#[inline(always)]
 fn plain(m: &[u8], p: usize) -> Result<(usize, Span), Err>
     requires { p ≤ length m.now }
     ensures steps { ExactlyAt (λ x. named_in m.now x) m.now result (step (run1 classes.is_quoted_char) (drop p m.now)) }
@@ -35,6 +36,7 @@ fn plain(m: &[u8], p: usize) -> Result<(usize, Span), Err>
 }
 
 #[tactic(auto, unfolding(crate::specs::Strings::quoted_part))]
+#[inline(always)]
 fn quoted_part(m: &[u8], p: usize) -> Result<(usize, Span), Err>
     requires { p ≤ length m.now }
     ensures steps { ExactlyAt (λ x. named_in m.now x) m.now result (step strings.quoted_part (drop p m.now)) }
@@ -45,6 +47,7 @@ fn quoted_part(m: &[u8], p: usize) -> Result<(usize, Span), Err>
     tag(b"\\\"", m, p)
 }
 
+#[inline(always)]
 fn next_part(m: &[u8], p: usize) -> Result<(usize, Option<Span>), Err>
     requires { p ≤ length m.now }
     ensures steps { ExactlyAt (λ x. maybe_in m.now x) m.now result (step (opt strings.quoted_part) (drop p m.now)) }
@@ -57,6 +60,7 @@ fn next_part(m: &[u8], p: usize) -> Result<(usize, Option<Span>), Err>
 }
 
 #[tactic(auto, unfolding(crate::specs::Strings::quoted_content))]
+#[inline(always)]
 fn quoted_content(m: &[u8], p: usize) -> Result<(usize, Span), Err>
     requires { p ≤ length m.now }
     ensures steps { ExactlyAt (λ x. named_in m.now x) m.now result (step strings.quoted_content (drop p m.now)) }
@@ -75,6 +79,7 @@ fn quoted_content(m: &[u8], p: usize) -> Result<(usize, Span), Err>
 
 /// A quoted string: its raw content, backslashes and all (RFC 3501, section 9: quoted).
 #[tactic(auto, using(imap_grammar::proofs::Agreement::exact_answered_at), unfolding(crate::specs::Strings::quoted))]
+#[inline(always)]
 pub fn quoted(m: &[u8], p: usize) -> Result<(usize, Span), Err>
     requires { p ≤ length m.now }
     ensures steps { ExactlyAt (λ x. named_in m.now x) m.now result (step strings.quoted (drop p m.now)) }
@@ -134,6 +139,7 @@ pub fn literal(m: &[u8], p: usize) -> Result<(usize, Span), Err>
 }
 
 // Whether the next byte opens a quoted string.
+#[inline(always)]
 fn opens_quoted(m: &[u8], p: usize) -> bool
     requires { p ≤ length m.now }
     ensures { result ≡ begins (λ b. b == quote) (drop p m.now) }
@@ -147,6 +153,7 @@ fn opens_quoted(m: &[u8], p: usize) -> bool
 
 /// A string: quoted, or a literal (RFC 3501, section 9: string).
 #[tactic(auto, using(imap_grammar::proofs::Agreement::exact_answered_at), unfolding(crate::specs::Strings::string))]
+#[inline(always)]
 pub fn string(m: &[u8], p: usize) -> Result<(usize, Span), Err>
     requires { p ≤ length m.now }
     ensures steps { ExactlyAt (λ x. named_in m.now x) m.now result (step strings.string (drop p m.now)) }

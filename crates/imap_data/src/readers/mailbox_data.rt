@@ -17,6 +17,7 @@ use imap_items::readers::mailboxes::mailbox;
 use std::alloc::Global;
 
 #[tactic(auto, unfolding(crate::specs::MailboxData::flags))]
+#[inline(always)]
 fn flags(alloc: Global, i: &[u8]) -> IResult<&[u8], MailboxDatum<'_>>
     ensures { Gives (λ x. mailbox_value x) result (step rules.flags i.now) }
 {
@@ -24,6 +25,7 @@ fn flags(alloc: Global, i: &[u8]) -> IResult<&[u8], MailboxDatum<'_>>
 }
 
 #[tactic(auto, unfolding(crate::specs::MailboxData::list))]
+#[inline(always)]
 fn list(alloc: Global, i: &[u8]) -> IResult<&[u8], MailboxDatum<'_>>
     ensures { Gives (λ x. mailbox_value x) result (step rules.list i.now) }
 {
@@ -31,6 +33,7 @@ fn list(alloc: Global, i: &[u8]) -> IResult<&[u8], MailboxDatum<'_>>
 }
 
 #[tactic(auto, unfolding(crate::specs::MailboxData::lsub))]
+#[inline(always)]
 fn lsub(alloc: Global, i: &[u8]) -> IResult<&[u8], MailboxDatum<'_>>
     ensures { Gives (λ x. mailbox_value x) result (step rules.lsub i.now) }
 {
@@ -38,6 +41,7 @@ fn lsub(alloc: Global, i: &[u8]) -> IResult<&[u8], MailboxDatum<'_>>
 }
 
 #[tactic(auto, unfolding(crate::specs::MailboxData::status))]
+#[inline(always)]
 fn status(alloc: Global, i: &[u8]) -> IResult<&[u8], MailboxDatum<'_>>
     ensures { Gives (λ x. mailbox_value x) result (step rules.status i.now) }
 {
@@ -49,6 +53,7 @@ fn status(alloc: Global, i: &[u8]) -> IResult<&[u8], MailboxDatum<'_>>
 }
 
 #[tactic(auto, unfolding(crate::specs::MailboxData::search))]
+#[inline(always)]
 fn search(alloc: Global, i: &[u8]) -> IResult<&[u8], MailboxDatum<'_>>
     ensures { Gives (λ x. mailbox_value x) result (step rules.search i.now) }
 {
@@ -56,6 +61,7 @@ fn search(alloc: Global, i: &[u8]) -> IResult<&[u8], MailboxDatum<'_>>
 }
 
 #[tactic(auto, unfolding(crate::specs::MailboxData::labels))]
+#[inline(always)]
 fn labels(alloc: Global, i: &[u8]) -> IResult<&[u8], MailboxDatum<'_>>
     ensures steps { Gives (λ x. mailbox_value x) result (step rules.labels i.now) }
     ensures memory { FailsOnlyIf (BeginsWord "X-GM-LABELS " i.now) result }
@@ -65,6 +71,7 @@ fn labels(alloc: Global, i: &[u8]) -> IResult<&[u8], MailboxDatum<'_>>
 }
 
 #[tactic(auto, unfolding(crate::specs::MailboxData::msgid))]
+#[inline(always)]
 fn msgid(i: &[u8]) -> IResult<&[u8], MailboxDatum<'_>>
     ensures { Exactly (λ x. mailbox_value x) result (step rules.msgid i.now) }
 {
@@ -73,6 +80,7 @@ fn msgid(i: &[u8]) -> IResult<&[u8], MailboxDatum<'_>>
 }
 
 #[tactic(auto, unfolding(crate::specs::MailboxData::thrid))]
+#[inline(always)]
 fn thrid(i: &[u8]) -> IResult<&[u8], MailboxDatum<'_>>
     ensures { Exactly (λ x. mailbox_value x) result (step rules.thrid i.now) }
 {
@@ -81,6 +89,7 @@ fn thrid(i: &[u8]) -> IResult<&[u8], MailboxDatum<'_>>
 }
 
 #[tactic(auto, unfolding(crate::specs::MailboxData::sort))]
+#[inline(always)]
 fn sort(alloc: Global, i: &[u8]) -> IResult<&[u8], MailboxDatum<'_>>
     ensures { Gives (λ x. mailbox_value x) result (step rules.sort i.now) }
 {
@@ -89,6 +98,7 @@ fn sort(alloc: Global, i: &[u8]) -> IResult<&[u8], MailboxDatum<'_>>
 
 // The number is read once, whichever word stands behind it.
 #[tactic(auto, unfolding(crate::specs::MailboxData::datum_of_number, crate::specs::MailboxData::exists, crate::specs::MailboxData::recent))]
+#[inline(always)]
 fn datum_of_number(i: &[u8]) -> IResult<&[u8], MailboxDatum<'_>>
     ensures { Exactly (λ x. mailbox_value x) result (step rules.datum_of_number i.now) }
 {
@@ -99,6 +109,7 @@ fn datum_of_number(i: &[u8]) -> IResult<&[u8], MailboxDatum<'_>>
 }
 
 #[tactic(auto, unfolding(crate::specs::MailboxData::datum_of_l))]
+#[inline(always)]
 fn datum_of_l(alloc: Global, i: &[u8]) -> IResult<&[u8], MailboxDatum<'_>>
     ensures { Gives (λ x. mailbox_value x) result (step rules.datum_of_l i.now) }
 {
@@ -107,6 +118,7 @@ fn datum_of_l(alloc: Global, i: &[u8]) -> IResult<&[u8], MailboxDatum<'_>>
 }
 
 #[tactic(auto, unfolding(crate::specs::MailboxData::datum_of_s))]
+#[inline(always)]
 fn datum_of_s(alloc: Global, i: &[u8]) -> IResult<&[u8], MailboxDatum<'_>>
     ensures { Gives (λ x. mailbox_value x) result (step rules.datum_of_s i.now) }
 {
@@ -116,6 +128,7 @@ fn datum_of_s(alloc: Global, i: &[u8]) -> IResult<&[u8], MailboxDatum<'_>>
 }
 
 #[tactic(auto, using(imap_grammar::proofs::Memory::never_memory), unfolding(crate::specs::MailboxData::datum_of_x))]
+#[inline(always)]
 fn datum_of_x(alloc: Global, i: &[u8]) -> IResult<&[u8], MailboxDatum<'_>>
     ensures steps { Gives (λ x. mailbox_value x) result (step rules.datum_of_x i.now) }
     ensures memory { FailsOnlyIf (BeginsWord "X-GM-LABELS " i.now) result }
@@ -127,6 +140,7 @@ fn datum_of_x(alloc: Global, i: &[u8]) -> IResult<&[u8], MailboxDatum<'_>>
 
 // Of the data those are tried, in order, that may start with the first byte.
 #[tactic(auto, using(crate::proofs::FirstBytes::datum_none, crate::proofs::FirstBytes::datum_is_flags, crate::proofs::FirstBytes::datum_is_of_l, crate::proofs::FirstBytes::datum_is_of_s, crate::proofs::FirstBytes::datum_is_of_x, crate::proofs::FirstBytes::datum_is_of_number, crate::proofs::FirstBytes::datum_other))]
+#[inline(always)]
 fn datum(alloc: Global, i: &[u8]) -> IResult<&[u8], MailboxDatum<'_>>
     ensures steps { Gives (λ x. mailbox_value x) result (step rules.mailbox_datum i.now) }
     ensures memory { SucceedsFor IsNumber rules.mailbox_datum i.now result }
@@ -147,6 +161,7 @@ fn datum(alloc: Global, i: &[u8]) -> IResult<&[u8], MailboxDatum<'_>>
 ///
 /// Its lists take memory, and texts only for bytes that are no UTF-8. A datum that is one number takes none.
 #[tactic(auto, using(imap_grammar::proofs::Agreement::answered))]
+#[inline(always)]
 pub fn mailbox_datum(alloc: Global, i: &[u8]) -> IResult<&[u8], MailboxDatum<'_>>
     ensures steps { Gives (λ x. mailbox_value x) result (step rules.mailbox_datum i.now) }
     ensures answer { Answers rules.mailbox_datum (λ x. mailbox_value x) i.now result }

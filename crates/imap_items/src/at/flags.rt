@@ -17,6 +17,7 @@ use imap_bytes::{Err, first};
 use std::alloc::Global;
 
 #[tactic(auto, unfolding(crate::specs::Flags::backslashed))]
+#[inline(always)]
 fn backslashed(m: &[u8], p: usize) -> Result<(usize, Span), Err>
     requires { p ≤ length m.now }
     ensures steps { ExactlyAt (λ x. named_in m.now x) m.now result (step flags.backslashed (drop p m.now)) }
@@ -29,6 +30,7 @@ fn backslashed(m: &[u8], p: usize) -> Result<(usize, Span), Err>
 }
 
 #[tactic(auto, unfolding(crate::specs::Flags::backslashed_text))]
+#[inline(always)]
 pub(crate) fn backslashed_text(m: &[u8], p: usize) -> Result<(usize, &str), Err>
     requires { p ≤ length m.now }
     ensures steps { ExactlyAt (λ x. x.now) m.now result (step flags.backslashed_text (drop p m.now)) }
@@ -43,6 +45,7 @@ pub(crate) fn backslashed_text(m: &[u8], p: usize) -> Result<(usize, &str), Err>
 }
 
 #[tactic(auto, unfolding(crate::specs::Flags::keyword))]
+#[inline(always)]
 fn keyword(m: &[u8], p: usize) -> Result<(usize, &str), Err>
     requires { p ≤ length m.now }
     ensures steps { ExactlyAt (λ x. x.now) m.now result (step flags.keyword (drop p m.now)) }
@@ -57,6 +60,7 @@ fn keyword(m: &[u8], p: usize) -> Result<(usize, &str), Err>
 }
 
 #[tactic(auto, unfolding(crate::specs::Flags::flag))]
+#[inline(always)]
 pub(crate) fn flag(m: &[u8], p: usize) -> Result<(usize, &str), Err>
     requires { p ≤ length m.now }
     ensures steps { ExactlyAt (λ x. x.now) m.now result (step flags.flag (drop p m.now)) }
@@ -67,6 +71,7 @@ pub(crate) fn flag(m: &[u8], p: usize) -> Result<(usize, &str), Err>
     keyword(m, p)
 }
 
+#[inline(always)]
 fn star(m: &[u8], p: usize) -> Result<(usize, &str), Err>
     requires { p ≤ length m.now }
     ensures steps { ExactlyAt (λ x. x.now) m.now result (step (exactly_names "\\*" (codes "\\*")) (drop p m.now)) }
@@ -78,6 +83,7 @@ fn star(m: &[u8], p: usize) -> Result<(usize, &str), Err>
 }
 
 #[tactic(auto, unfolding(crate::specs::Flags::flag_perm))]
+#[inline(always)]
 pub(crate) fn flag_perm(m: &[u8], p: usize) -> Result<(usize, &str), Err>
     requires { p ≤ length m.now }
     ensures steps { ExactlyAt (λ x. x.now) m.now result (step flags.flag_perm (drop p m.now)) }

@@ -41,6 +41,7 @@ pub fn flag(i: &[u8]) -> IResult<&[u8], &str>
 
 /// `\*`, or a flag (RFC 3501, section 9: flag-perm). No memory.
 #[tactic(auto, using(imap_grammar::proofs::Agreement::exact_answered))]
+#[inline(always)]
 pub fn flag_perm(i: &[u8]) -> IResult<&[u8], &str>
     ensures steps { Exactly (λ x. x.now) result (step flags.flag_perm i.now) }
     ensures answer { Answers flags.flag_perm (λ x. x.now) i.now result }
@@ -52,6 +53,7 @@ pub fn flag_perm(i: &[u8]) -> IResult<&[u8], &str>
 
 /// A flag of a list, as text that lies in the input. No memory.
 #[tactic(auto, using(imap_grammar::proofs::Agreement::exact_answered), unfolding(crate::specs::Flags::flag_text))]
+#[inline(always)]
 pub fn flag_text(i: &[u8]) -> IResult<&[u8], CowStr<'_>>
     ensures steps { Exactly (λ x. text_of x) result (step flags.flag_text i.now) }
     ensures answer { Answers flags.flag_text (λ x. text_of x) i.now result }

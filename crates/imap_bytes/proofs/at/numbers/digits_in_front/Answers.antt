@@ -11,8 +11,9 @@ returns-in_err-digits_end-clause-at c =
 
 pub returns-then-number-from-clause-at : goal.returns-then-number-from-clause-at
 returns-then-number-from-clause-at c =
-    let large : 2 ^ 32 ≤ digits_value 10 (take c.loop-d.count c.args.i.now) = omega (arith, c.if-number-from.true, c.from.ensures, c.loop-d.invariant.so_far) in
-    too_large (2 ^ 32) c.args.i.now c.loop-d.count _ c.loop-d.invariant.within c.loop-d.invariant.all large c.in_ok-digits_end.ensures.at
+    let more = one_more c.args.i.now c.loop-d.count c.in-Some.d.now c.in-Some.ensures.lookup.3 (sym c.is_digit.ensures ∙ c.if-not-is_digit.false) c.loop-d.invariant.all in
+    let large : 2 ^ 32 ≤ digits_value 10 (take (c.loop-d.count + 1) c.args.i.now) = omega (arith, c.if-number-from.true, c.from.ensures, more.2, c.loop-d.invariant.so_far) in
+    too_large (2 ^ 32) c.args.i.now (c.loop-d.count + 1) _ more.0 more.1 large c.in_ok-digits_end.ensures.at
 
 pub loop-d-preserved : goal.loop-d-preserved
 loop-d-preserved c =
