@@ -1,5 +1,9 @@
 //! The canonical text of responses is read as the lines are that they came from, whatever follows.
 
+ghost use Rattle.std.specs.Prelude.{◌≡◌, codes};
+ghost use Rattle.imap_proto.specs.LineTexts.{canonical_bytes};
+ghost use Rattle.imap_vectors.specs.CanonicalRows as value;
+
 use crate::answers::says;
 use imap_proto::Response;
 use std::alloc::{AllocError, Global};
@@ -39,6 +43,11 @@ const ROWS: &[Row] = &[
         says: r#"Quota(Quota { root_name: "", resources: [QuotaResource { name: Atom("STORAGE"), usage: 1, limit: 2 }] })"#,
     },
     Row {
+        line: b"* QUOTA \"\" (STORAGE 1 2)\r\n",
+        canonical: b"* QUOTA {0}\r\n (STORAGE 1 2)\r\n",
+        says: r#"Quota(Quota { root_name: "", resources: [QuotaResource { name: Storage, usage: 1, limit: 2 }] })"#,
+    },
+    Row {
         line: b"* 1 FETCH (X-GM-LABELS (\"\\\\\"))\r\n",
         canonical: b"* 1 FETCH (X-GM-LABELS (\"\\\\\"))\r\n",
         says: r#"Fetch(1, [GmailLabels(["\\\\"])])"#,
@@ -47,6 +56,11 @@ const ROWS: &[Row] = &[
         line: b"* ENABLED IMAP4rev1x\r\n",
         canonical: b"* ENABLED IMAP4rev1x\r\n",
         says: r#"Capabilities([Atom("IMAP4rev1x")])"#,
+    },
+    Row {
+        line: b"* 1 FETCH (BODYSTRUCTURE ({4}\r\nTEXT \"PLAIN\" NIL NIL NIL {4}\r\n7BIT 5))\r\n",
+        canonical: b"* 1 FETCH (BODYSTRUCTURE ({4}\r\nTEXT {5}\r\nPLAIN NIL NIL NIL {4}\r\n7BIT 5 NIL NIL NIL NIL))\r\n",
+        says: r#"Fetch(1, [BodyStructure(Basic { common: BodyContentCommon { ty: ContentType { ty: "TEXT", subtype: "PLAIN", params: None }, disposition: None, language: None, location: None }, other: BodyContentSinglePart { id: None, md5: None, description: None, transfer_encoding: Other("7BIT"), octets: 5 }, extension: None })])"#,
     },
     Row {
         line: b"* 12 FETCH (ENVELOPE (\"d\" \"s\" ((\"T\" NIL \"gray\" \"cac\")) NIL NIL NIL NIL NIL NIL \"<i>\"))\r\n",
@@ -69,6 +83,23 @@ const ROWS: &[Row] = &[
         says: "Fetch(1, [Unknown, Uid(4)])",
     },
 ];
+
+/// What the canonical texts of the rows' values are, by definition.
+pub fn texts_by_definition()
+    ensures no_field { canonical_bytes value.no_field ≡ codes "* ID ({0}\r\n NIL)\r\n" }
+    ensures a_field { canonical_bytes value.a_field ≡ codes "* ID ({1}\r\na {1}\r\n2)\r\n" }
+    ensures no_list { canonical_bytes value.no_list ≡ codes "* ID NIL\r\n" }
+    ensures a_name { canonical_bytes value.a_name ≡ codes "* LIST (\\HasNoChildren) \"/\" {5}\r\nINBOX\r\n" }
+    ensures a_quota_of_any_name { canonical_bytes value.a_quota_of_any_name ≡ codes "* QUOTA {0}\r\n ({7}\r\nSTORAGE 1 2)\r\n" }
+    ensures a_quota { canonical_bytes value.a_quota ≡ codes "* QUOTA {0}\r\n (STORAGE 1 2)\r\n" }
+    ensures a_label { canonical_bytes value.a_label ≡ codes "* 1 FETCH (X-GM-LABELS (\"\\\\\"))\r\n" }
+    ensures enabled { canonical_bytes value.enabled ≡ codes "* ENABLED IMAP4rev1x\r\n" }
+    ensures a_basic { canonical_bytes value.a_basic ≡ codes "* 1 FETCH (BODYSTRUCTURE ({4}\r\nTEXT {5}\r\nPLAIN NIL NIL NIL {4}\r\n7BIT 5 NIL NIL NIL NIL))\r\n" }
+    ensures an_envelope { canonical_bytes value.an_envelope ≡ codes "* 12 FETCH (ENVELOPE ({1}\r\nd {1}\r\ns (({1}\r\nT NIL {4}\r\ngray {3}\r\ncac)) NIL NIL NIL NIL NIL NIL {3}\r\n<i>))\r\n" }
+    ensures a_text { canonical_bytes value.a_text ≡ codes "* 1 FETCH (BODYSTRUCTURE (\"TEXT\" {5}\r\nplain NIL NIL NIL \"7BIT\" 5 1 NIL ({6}\r\ninline NIL) NIL NIL))\r\n" }
+    ensures gone { canonical_bytes value.gone ≡ codes "* VANISHED 4:2\r\n" }
+    ensures unknown { canonical_bytes value.unknown ≡ codes "* 1 FETCH (X NIL UID 4)\r\n" }
+{}
 
 // Information that begins with `[` would be read as a code: no canonical text is promised.
 const BRACKETED: &[u8] = b"* OK [BADCHARSET ({5}\r\nabcdex";
@@ -93,6 +124,7 @@ fn reads_back(alloc: Global, row: &Row) -> Result<bool, AllocError> {
 #[test]
 fn canonical_texts(rt: HostRuntime) {
     let alloc = rt.alloc();
+    texts_by_definition();
     for row in ROWS {
         assert!(rt; matches!(reads_back(alloc, row), Ok(true)), "{}", row.says);
     }
