@@ -163,22 +163,22 @@ fn owned_value(alloc: Global, value: Option<CowStr<'_>>) -> Result<Option<String
 pub(crate) fn annotation(alloc: Global, i: &[u8]) -> IResult<&[u8], Metadata>
     ensures { Gives (λ x. metadata_value x) result (step rules.annotation i.now) }
 {
-    let (i, entry) = entry_utf8(alloc, i)?;
-    let (i, _) = tag(b" ", i)?;
-    let (i, value) = nstring_utf8(alloc, i)?;
+    let (rest, entry) = entry_utf8(alloc, i)?;
+    let (rest, _) = tag(b" ", rest)?;
+    let (rest, value) = nstring_utf8(alloc, rest)?;
     let entry = owned_text(alloc, entry)?;
     let value = owned_value(alloc, value)?;
-    Ok((i, Metadata { entry, value }))
+    Ok((rest, Metadata { entry, value }))
 }
 
 #[tactic(auto, unfolding(crate::specs::Annotations::metadata_mailbox))]
 fn metadata_mailbox(alloc: Global, i: &[u8]) -> IResult<&[u8], CowStr<'_>>
     ensures { Gives (λ x. text_of x) result (step rules.metadata_mailbox i.now) }
 {
-    let (i, _) = word(b"METADATA ", i)?;
-    let (i, mailbox) = quoted_utf8(alloc, i)?;
-    let (i, _) = tag(b" ", i)?;
-    Ok((i, mailbox))
+    let (rest, _) = word(b"METADATA ", i)?;
+    let (rest, mailbox) = quoted_utf8(alloc, rest)?;
+    let (rest, _) = tag(b" ", rest)?;
+    Ok((rest, mailbox))
 }
 
 fn annotations(alloc: Global, i: &[u8]) -> IResult<&[u8], Vec<Metadata>>
@@ -198,9 +198,9 @@ pub fn metadata_solicited(alloc: Global, i: &[u8]) -> IResult<&[u8], MailboxDatu
     ensures steps { Gives (λ x. mailbox_value x) result (step rules.metadata_solicited i.now) }
     ensures answer { Answers rules.metadata_solicited (λ x. mailbox_value x) i.now result }
 {
-    let (i, mailbox) = metadata_mailbox(alloc, i)?;
-    let (i, values) = annotations(alloc, i)?;
-    Ok((i, MailboxDatum::MetadataSolicited { mailbox, values }))
+    let (rest, mailbox) = metadata_mailbox(alloc, i)?;
+    let (rest, values) = annotations(alloc, rest)?;
+    Ok((rest, MailboxDatum::MetadataSolicited { mailbox, values }))
 }
 
 fn entries(alloc: Global, i: &[u8]) -> IResult<&[u8], Vec<CowStr<'_>>>
@@ -220,7 +220,7 @@ pub fn metadata_unsolicited(alloc: Global, i: &[u8]) -> IResult<&[u8], MailboxDa
     ensures steps { Gives (λ x. mailbox_value x) result (step rules.metadata_unsolicited i.now) }
     ensures answer { Answers rules.metadata_unsolicited (λ x. mailbox_value x) i.now result }
 {
-    let (i, mailbox) = metadata_mailbox(alloc, i)?;
-    let (i, values) = entries(alloc, i)?;
-    Ok((i, MailboxDatum::MetadataUnsolicited { mailbox, values }))
+    let (rest, mailbox) = metadata_mailbox(alloc, i)?;
+    let (rest, values) = entries(alloc, rest)?;
+    Ok((rest, MailboxDatum::MetadataUnsolicited { mailbox, values }))
 }

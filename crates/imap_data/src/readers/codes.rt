@@ -35,8 +35,8 @@ fn charsets(alloc: Global, i: &[u8]) -> IResult<&[u8], Vec<CowStr<'_>>>
     ensures steps { Gives (λ x. map text_of x.items) result (step codes.charsets i.now) }
     ensures memory { FailsOnlyIf (BeginsWord " " i.now) result }
 {
-    let (i, _) = tag(b" ", i)?;
-    charset_list(alloc, i)
+    let (rest, _) = tag(b" ", i)?;
+    charset_list(alloc, rest)
 }
 
 #[tactic(auto, using(imap_grammar::proofs::Memory::word_never), unfolding(crate::specs::Codes::bad_charset))]
@@ -44,10 +44,10 @@ fn bad_charset(alloc: Global, i: &[u8]) -> IResult<&[u8], ResponseCode<'_>>
     ensures steps { Gives (λ x. code_value x) result (step codes.bad_charset i.now) }
     ensures memory { FailsOnlyIf (BeginsWord "BADCHARSET " i.now) result }
 {
-    let (i, _) = word(b"BADCHARSET", i)?;
-    match tried(charsets(alloc, i))? {
+    let (rest, _) = word(b"BADCHARSET", i)?;
+    match tried(charsets(alloc, rest))? {
         Some((rest, charsets)) => Ok((rest, ResponseCode::BadCharset(Some(charsets)))),
-        None => Ok((i, ResponseCode::BadCharset(None))),
+        None => Ok((rest, ResponseCode::BadCharset(None))),
     }
 }
 
@@ -64,8 +64,8 @@ fn capabilities(alloc: Global, i: &[u8]) -> IResult<&[u8], ResponseCode<'_>>
     ensures steps { Gives (λ x. code_value x) result (step codes.capabilities i.now) }
     ensures memory { FailsOnlyIf (BeginsWord "CAPABILITY" i.now) result }
 {
-    let (i, capabilities) = capability_data(alloc, i)?;
-    Ok((i, ResponseCode::Capabilities(capabilities)))
+    let (rest, capabilities) = capability_data(alloc, i)?;
+    Ok((rest, ResponseCode::Capabilities(capabilities)))
 }
 
 #[tactic(auto, unfolding(crate::specs::Codes::uid_validity))]
@@ -114,16 +114,16 @@ fn max_size(i: &[u8]) -> IResult<&[u8], ResponseCode<'_>>
 fn too_many(i: &[u8]) -> IResult<&[u8], ResponseCode<'_>>
     ensures { Exactly (λ x. code_value x) result (step codes.too_many i.now) }
 {
-    let (i, _) = word(b"METADATA TOOMANY", i)?;
-    Ok((i, ResponseCode::MetadataTooMany))
+    let (rest, _) = word(b"METADATA TOOMANY", i)?;
+    Ok((rest, ResponseCode::MetadataTooMany))
 }
 
 #[tactic(auto, unfolding(crate::specs::Codes::no_private))]
 fn no_private(i: &[u8]) -> IResult<&[u8], ResponseCode<'_>>
     ensures { Exactly (λ x. code_value x) result (step codes.no_private i.now) }
 {
-    let (i, _) = word(b"METADATA NOPRIVATE", i)?;
-    Ok((i, ResponseCode::MetadataNoPrivate))
+    let (rest, _) = word(b"METADATA NOPRIVATE", i)?;
+    Ok((rest, ResponseCode::MetadataNoPrivate))
 }
 
 #[tactic(auto, unfolding(crate::specs::Codes::append_uid))]
@@ -131,11 +131,11 @@ fn append_uid(alloc: Global, i: &[u8]) -> IResult<&[u8], ResponseCode<'_>>
     ensures steps { Gives (λ x. code_value x) result (step codes.append_uid i.now) }
     ensures memory { FailsOnlyIf (BeginsWord "APPENDUID " i.now) result }
 {
-    let (i, _) = word(b"APPENDUID ", i)?;
-    let (i, uid_validity) = number(i)?;
-    let (i, _) = tag(b" ", i)?;
-    let (i, uids) = uid_set(alloc, i)?;
-    Ok((i, ResponseCode::AppendUid(uid_validity, uids)))
+    let (rest, _) = word(b"APPENDUID ", i)?;
+    let (rest, uid_validity) = number(rest)?;
+    let (rest, _) = tag(b" ", rest)?;
+    let (rest, uids) = uid_set(alloc, rest)?;
+    Ok((rest, ResponseCode::AppendUid(uid_validity, uids)))
 }
 
 #[tactic(auto, unfolding(crate::specs::Codes::copy_uid))]
@@ -143,13 +143,13 @@ fn copy_uid(alloc: Global, i: &[u8]) -> IResult<&[u8], ResponseCode<'_>>
     ensures steps { Gives (λ x. code_value x) result (step codes.copy_uid i.now) }
     ensures memory { FailsOnlyIf (BeginsWord "COPYUID " i.now) result }
 {
-    let (i, _) = word(b"COPYUID ", i)?;
-    let (i, uid_validity) = number(i)?;
-    let (i, _) = tag(b" ", i)?;
-    let (i, sources) = uid_set(alloc, i)?;
-    let (i, _) = tag(b" ", i)?;
-    let (i, copies) = uid_set(alloc, i)?;
-    Ok((i, ResponseCode::CopyUid(uid_validity, sources, copies)))
+    let (rest, _) = word(b"COPYUID ", i)?;
+    let (rest, uid_validity) = number(rest)?;
+    let (rest, _) = tag(b" ", rest)?;
+    let (rest, sources) = uid_set(alloc, rest)?;
+    let (rest, _) = tag(b" ", rest)?;
+    let (rest, copies) = uid_set(alloc, rest)?;
+    Ok((rest, ResponseCode::CopyUid(uid_validity, sources, copies)))
 }
 
 #[tactic(auto, using(imap_grammar::proofs::Memory::word_never), unfolding(crate::specs::Codes::code_of_a))]
@@ -203,8 +203,8 @@ fn code_of_r(i: &[u8]) -> IResult<&[u8], ResponseCode<'_>>
 fn code_of_t(i: &[u8]) -> IResult<&[u8], ResponseCode<'_>>
     ensures { Exactly (λ x. code_value x) result (step codes.code_of_t i.now) }
 {
-    let (i, _) = word(b"TRYCREATE", i)?;
-    Ok((i, ResponseCode::TryCreate))
+    let (rest, _) = word(b"TRYCREATE", i)?;
+    Ok((rest, ResponseCode::TryCreate))
 }
 
 #[tactic(auto, unfolding(crate::specs::Codes::metadata_code))]
@@ -248,8 +248,8 @@ pub fn response_code(alloc: Global, i: &[u8]) -> IResult<&[u8], ResponseCode<'_>
     ensures ordered { IfOk result (λ x. HasOrderedUids x.1) }
     ensures memory { FailsOnlyIf (BeginsListCode i.now) result }
 {
-    let (i, _) = tag(b"[", i)?;
-    let (i, code) = any_code(alloc, i)?;
-    let (i, _) = tag(b"]", i)?;
-    Ok((i, code))
+    let (rest, _) = tag(b"[", i)?;
+    let (rest, code) = any_code(alloc, rest)?;
+    let (rest, _) = tag(b"]", rest)?;
+    Ok((rest, code))
 }

@@ -102,9 +102,9 @@ fn sort(alloc: Global, i: &[u8]) -> IResult<&[u8], MailboxDatum<'_>>
 fn datum_of_number(i: &[u8]) -> IResult<&[u8], MailboxDatum<'_>>
     ensures { Exactly (λ x. mailbox_value x) result (step rules.datum_of_number i.now) }
 {
-    let (i, count) = number(i)?;
-    named!(b" EXISTS", i, MailboxDatum::Exists(count));
-    named!(b" RECENT", i, MailboxDatum::Recent(count));
+    let (rest, count) = number(i)?;
+    named!(b" EXISTS", rest, MailboxDatum::Exists(count));
+    named!(b" RECENT", rest, MailboxDatum::Recent(count));
     Err(Err::Error)
 }
 
