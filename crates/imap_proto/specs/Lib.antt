@@ -1,6 +1,7 @@
 pub mod Responses
 pub mod Outcomes
 pub mod Lines
+pub mod Memory
 pub mod Kept
 pub mod Streams
 pub mod Owned

@@ -3,10 +3,12 @@
 ghost use Rattle.std.specs.Prelude.{◌≡◌, ◌<◌, length, map, position, IfSome};
 ghost use Rattle.imap_grammar.specs.Answer.{Exactly, Gives};
 ghost use Rattle.imap_grammar.specs.Meaning.{outside};
+ghost use Rattle.imap_grammar.specs.Memory.{SucceedsFor};
 ghost use Rattle.imap_grammar.specs.Rule.{◌⨾◌};
 ghost use Rattle.imap_grammar.specs.Step.{step};
 ghost use Rattle.imap_grammar.specs.Tags.{crlf};
 ghost use Rattle.imap_body.specs.AttributeValues.{attribute_value};
+ghost use Rattle.imap_proto.specs.Memory.{TakesNone};
 ghost use Rattle.imap_proto.specs.Responses.{response_value};
 ghost use Rattle.imap_proto.specs.Lines as rule;
 
@@ -68,10 +70,11 @@ macro_rules! line {
 
 #[tactic(auto, unfolding(crate::specs::Lines::status_line, crate::specs::Lines::status_data))]
 fn status_line(alloc: Global, i: &[u8]) -> IResult<&[u8], Response<'_>>
-    ensures { Gives response_value result (step rule.status_line i.now) }
+    ensures steps { Gives response_value result (step rule.status_line i.now) }
+    ensures memory { SucceedsFor TakesNone rule.status_line i.now result }
 {
-    let (i, status) = status(i)?;
-    line!(spaced_outcome(alloc, i), outcome => Response::Data { status, outcome });
+    let (rest, status) = status(i)?;
+    line!(spaced_outcome(alloc, rest), outcome => Response::Data { status, outcome });
     Err(Err::Error)
 }
 
@@ -87,19 +90,21 @@ fn fetched(alloc: Global, i: &[u8]) -> IResult<&[u8], Vec<AttributeValue<'_>>>
 // The number is read once, whichever word stands behind it.
 #[tactic(auto, unfolding(crate::specs::Lines::numbered_line, crate::specs::Lines::expunge, crate::specs::Lines::fetch, imap_data::specs::MailboxData::exists, imap_data::specs::MailboxData::recent))]
 fn numbered_line(alloc: Global, i: &[u8]) -> IResult<&[u8], Response<'_>>
-    ensures { Gives response_value result (step rule.numbered_line i.now) }
+    ensures steps { Gives response_value result (step rule.numbered_line i.now) }
+    ensures memory { SucceedsFor TakesNone rule.numbered_line i.now result }
 {
-    let (i, n) = number(i)?;
-    line!(word(b" EXISTS", i), _ => Response::MailboxData(MailboxDatum::Exists(n)));
-    line!(word(b" RECENT", i), _ => Response::MailboxData(MailboxDatum::Recent(n)));
-    line!(word(b" EXPUNGE", i), _ => Response::Expunge(n));
-    line!(fetched(alloc, i), attributes => Response::Fetch(n, attributes));
+    let (rest, n) = number(i)?;
+    line!(word(b" EXISTS", rest), _ => Response::MailboxData(MailboxDatum::Exists(n)));
+    line!(word(b" RECENT", rest), _ => Response::MailboxData(MailboxDatum::Recent(n)));
+    line!(word(b" EXPUNGE", rest), _ => Response::Expunge(n));
+    line!(fetched(alloc, rest), attributes => Response::Fetch(n, attributes));
     Err(Err::Error)
 }
 
 #[tactic(auto, unfolding(crate::specs::Lines::mailbox_line))]
 fn mailbox_line(alloc: Global, i: &[u8]) -> IResult<&[u8], Response<'_>>
-    ensures { Gives response_value result (step rule.mailbox_line i.now) }
+    ensures steps { Gives response_value result (step rule.mailbox_line i.now) }
+    ensures memory { SucceedsFor TakesNone rule.mailbox_line i.now result }
 {
     line!(mailbox_datum(alloc, i), found => Response::MailboxData(found));
     Err(Err::Error)
@@ -107,7 +112,8 @@ fn mailbox_line(alloc: Global, i: &[u8]) -> IResult<&[u8], Response<'_>>
 
 #[tactic(auto, unfolding(crate::specs::Lines::list_line))]
 fn list_line(alloc: Global, i: &[u8]) -> IResult<&[u8], Response<'_>>
-    ensures { Gives response_value result (step rule.list_line i.now) }
+    ensures steps { Gives response_value result (step rule.list_line i.now) }
+    ensures memory { SucceedsFor TakesNone rule.list_line i.now result }
 {
     line!(mailbox_datum(alloc, i), found => Response::MailboxData(found));
     line!(list_rights(alloc, i), found => Response::ListRights(found));
@@ -176,7 +182,8 @@ fn acl_line(alloc: Global, i: &[u8]) -> IResult<&[u8], Response<'_>>
 /// A datum and the end of its line: of the alternatives those are tried, in order, that may start with the first byte.
 #[tactic(auto, using(crate::proofs::FirstBytes::datum_none, crate::proofs::FirstBytes::datum_of_status, crate::proofs::FirstBytes::datum_of_number, crate::proofs::FirstBytes::datum_of_mailbox, crate::proofs::FirstBytes::datum_of_list, crate::proofs::FirstBytes::datum_of_capability, crate::proofs::FirstBytes::datum_of_enabled, crate::proofs::FirstBytes::datum_of_annotation, crate::proofs::FirstBytes::datum_of_vanished, crate::proofs::FirstBytes::datum_of_quota, crate::proofs::FirstBytes::datum_of_id, crate::proofs::FirstBytes::datum_of_acl, crate::proofs::FirstBytes::datum_other))]
 pub(crate) fn datum_line(alloc: Global, i: &[u8]) -> IResult<&[u8], Response<'_>>
-    ensures { Gives response_value result (step rule.ended_datum i.now) }
+    ensures steps { Gives response_value result (step rule.ended_datum i.now) }
+    ensures memory { SucceedsFor TakesNone rule.ended_datum i.now result }
 {
     match i.first() {
         None => Err(Err::Incomplete(Needed::Unknown)),

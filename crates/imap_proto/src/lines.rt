@@ -4,7 +4,9 @@ ghost use Rattle.std.specs.Prelude.{◌≡◌, ◌<◌, length, position, IfSome
 ghost use Rattle.imap_grammar.specs.Answer.{Exactly, Gives};
 ghost use Rattle.imap_grammar.specs.Step.{step};
 ghost use Rattle.imap_grammar.specs.Meaning.{outside};
+ghost use Rattle.imap_grammar.specs.Memory.{SucceedsFor};
 ghost use Rattle.imap_grammar.specs.Rule.{run1};
+ghost use Rattle.imap_proto.specs.Memory.{TakesNone};
 ghost use Rattle.imap_proto.specs.Responses.{response_value};
 ghost use Rattle.imap_proto.specs.Lines as rule;
 
@@ -19,27 +21,23 @@ use std::alloc::Global;
 
 #[tactic(auto, unfolding(crate::specs::Lines::continuation))]
 fn continuation(alloc: Global, i: &[u8]) -> IResult<&[u8], Response<'_>>
-    ensures { Gives response_value result (step rule.continuation i.now) }
+    ensures steps { Gives response_value result (step rule.continuation i.now) }
+    ensures memory { SucceedsFor TakesNone rule.continuation i.now result }
 {
-    let (i, _) = tag(b"+", i)?;
-    let (i, _) = maybe_space(i)?;
-    match outcome(alloc, i) {
-        Ok((i, outcome)) => match tag(b"\r\n", i) {
-            Ok((i, _)) => Ok((i, Response::Continue(outcome))),
-            Err(e) => Err(e),
-        },
-        Err(e) => Err(e),
-    }
+    let (rest, _) = tag(b"+", i)?;
+    let (rest, _) = maybe_space(rest)?;
+    let (rest, outcome) = outcome(alloc, rest)?;
+    let (rest, _) = tag(b"\r\n", rest)?;
+    Ok((rest, Response::Continue(outcome)))
 }
 
 #[tactic(auto, unfolding(crate::specs::Lines::data_line))]
 fn data_line(alloc: Global, i: &[u8]) -> IResult<&[u8], Response<'_>>
-    ensures { Gives response_value result (step rule.data_line i.now) }
+    ensures steps { Gives response_value result (step rule.data_line i.now) }
+    ensures memory { SucceedsFor TakesNone rule.data_line i.now result }
 {
-    match tag(b"* ", i) {
-        Ok((i, _)) => datum_line(alloc, i),
-        Err(e) => Err(e),
-    }
+    let (rest, _) = tag(b"* ", i)?;
+    datum_line(alloc, rest)
 }
 
 fn is_tag_char(c: u8) -> bool
@@ -76,30 +74,27 @@ fn request_tag(i: &[u8]) -> IResult<&[u8], &str>
 fn tagged(alloc: Global, i: &[u8]) -> IResult<&[u8], Response<'_>>
     ensures { Gives response_value result (step rule.tagged i.now) }
 {
-    let (i, tag_text) = request_tag(i)?;
-    let (i, _) = tag(b" ", i)?;
-    let (i, status) = status(i)?;
-    match spaced_outcome(alloc, i) {
-        Ok((i, outcome)) => {
-            let (i, _) = tag(b"\r\n", i)?;
-            let tag = RequestId(String::from_str(alloc, tag_text)?);
-            Ok((
-                i,
-                Response::Done {
-                    tag,
-                    status,
-                    outcome,
-                },
-            ))
-        }
-        Err(e) => Err(e),
-    }
+    let (rest, tag_text) = request_tag(i)?;
+    let (rest, _) = tag(b" ", rest)?;
+    let (rest, status) = status(rest)?;
+    let (rest, outcome) = spaced_outcome(alloc, rest)?;
+    let (rest, _) = tag(b"\r\n", rest)?;
+    let tag = RequestId(String::from_str(alloc, tag_text)?);
+    Ok((
+        rest,
+        Response::Done {
+            tag,
+            status,
+            outcome,
+        },
+    ))
 }
 
 /// A response: a continuation, a data line or a tagged line.
 #[tactic(auto, using(crate::proofs::FirstBytes::response_none, crate::proofs::FirstBytes::response_plus, crate::proofs::FirstBytes::response_star, crate::proofs::FirstBytes::response_other))]
 pub(crate) fn response(alloc: Global, i: &[u8]) -> IResult<&[u8], Response<'_>>
-    ensures { Gives response_value result (step rule.response i.now) }
+    ensures steps { Gives response_value result (step rule.response i.now) }
+    ensures memory { SucceedsFor TakesNone rule.response i.now result }
 {
     match i.first() {
         None | Some(b'+') => continuation(alloc, i),

@@ -2,15 +2,18 @@
 
 ghost use Rattle.std.specs.Prelude.{◌≡◌, option_map, string_bytes};
 ghost use Rattle.imap_grammar.specs.Answer.{Gives};
+ghost use Rattle.imap_grammar.specs.Memory.{SucceedsFor};
 ghost use Rattle.imap_grammar.specs.Step.{step};
 ghost use Rattle.imap_grammar.specs.Text.{text_of};
 ghost use Rattle.imap_proto.specs.Responses.{outcome_value};
+ghost use Rattle.imap_proto.specs.Memory.{OutcomeTakesNone};
 ghost use Rattle.imap_proto.specs.Outcomes as outcomes;
 ghost use Rattle.imap_proto.specs.Outcomes.{after_first};
 
 use crate::outcome::Outcome;
+use imap_bytes::lists::tried;
 use imap_bytes::tags::tag;
-use imap_bytes::{Err, IResult, first, text};
+use imap_bytes::{IResult, text};
 use imap_data::readers::response_code;
 use std::alloc::Global;
 use std::borrow::CowStr;
@@ -60,34 +63,39 @@ fn behind_code(text: CowStr<'_>) -> Option<CowStr<'_>>
     }
 }
 
+/// A code in brackets if there is one, and the text behind it.
+///
+/// It takes memory for a code that may hold a list, and for a text that is no UTF-8.
 #[tactic(auto, unfolding(crate::specs::Outcomes::outcome))]
 pub(crate) fn outcome(alloc: Global, i: &[u8]) -> IResult<&[u8], Outcome<'_>>
-    ensures { Gives outcome_value result (step outcomes.outcome i.now) }
+    ensures steps { Gives outcome_value result (step outcomes.outcome i.now) }
+    ensures memory { SucceedsFor OutcomeTakesNone outcomes.outcome i.now result }
 {
-    match response_code(alloc, i) {
-        Ok((rest, code)) => {
+    match tried(response_code(alloc, i))? {
+        Some((rest, code)) => {
             let (rest, text) = text(alloc, rest)?;
             let (code, information) = (Some(code), behind_code(text));
             Ok((rest, Outcome { code, information }))
         }
-        Err(Err::Error) => {
+        None => {
             let (rest, text) = text(alloc, i)?;
             let (code, information) = (None, plain(text));
             Ok((rest, Outcome { code, information }))
         }
-        Err(e) => Err(e),
     }
 }
 
+/// An outcome behind a space, or none. It takes memory as an outcome does.
 #[tactic(auto, unfolding(crate::specs::Outcomes::spaced_outcome))]
 pub(crate) fn spaced_outcome(alloc: Global, i: &[u8]) -> IResult<&[u8], Outcome<'_>>
-    ensures { Gives outcome_value result (step outcomes.spaced_outcome i.now) }
+    ensures steps { Gives outcome_value result (step outcomes.spaced_outcome i.now) }
+    ensures memory { SucceedsFor OutcomeTakesNone outcomes.spaced_outcome i.now result }
 {
-    match tag(b" ", i) {
-        Ok((rest, _)) => first!(outcome(alloc, rest)),
-        Err(Err::Error) => {}
-        Err(e) => return Err(e),
+    match tried(tag(b" ", i))? {
+        Some((rest, _)) => outcome(alloc, rest),
+        None => {
+            let (code, information) = (None, None);
+            Ok((i, Outcome { code, information }))
+        }
     }
-    let (code, information) = (None, None);
-    Ok((i, Outcome { code, information }))
 }

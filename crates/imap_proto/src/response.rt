@@ -2,6 +2,7 @@
 
 ghost use Rattle.std.specs.Prelude.{◌≡◌, map, option_map, string_bytes, IfOk};
 ghost use Rattle.imap_grammar.specs.Answer.{Answers, Gives};
+ghost use Rattle.imap_grammar.specs.Memory.{SucceedsFor};
 ghost use Rattle.imap_grammar.specs.Step.{step};
 ghost use Rattle.imap_extensions.specs.Ids.{id_value};
 ghost use Rattle.imap_extensions.specs.Owned.{owned_id as owned_map};
@@ -10,6 +11,7 @@ ghost use Rattle.imap_body.specs.Changed.{owned_attribute};
 ghost use Rattle.imap_proto.specs.Responses.{response_value, EndsLine};
 ghost use Rattle.imap_proto.specs.Owned.{owned_response};
 ghost use Rattle.imap_proto.specs.LineTexts.{Spelled};
+ghost use Rattle.imap_proto.specs.Memory.{TakesNone};
 ghost use Rattle.imap_proto.specs.Lines as rule;
 
 use crate::lines;
@@ -155,12 +157,18 @@ impl<'a> Response<'a> {
     /// `Error`: no bytes behind these make a response. `Incomplete`: more bytes are needed. `Failure`: memory ran out,
     /// and nothing else. Texts borrow from the message exactly where their bytes are UTF-8, but for the keys of an ID map:
     /// of two equal keys either one may be kept. The message is only read.
+    ///
+    /// It takes memory for lists, for the map of an ID, for the tag of a tagged line, and for texts that are no UTF-8.
+    /// So `Failure` is not answered where the response is one number (`EXPUNGE`, `EXISTS`, `RECENT`, Gmail's), or an untagged
+    /// status or a continuation with no list in its code and a borrowed text. One kind is excepted: a text without a code
+    /// that begins as a code with a list does, as `[CAPABILITY`, since it is tried as that code first.
     #[tactic(auto, using(imap_grammar::proofs::Agreement::answered, crate::proofs::LineTexts::line_spells, crate::proofs::Ending::line_ends))]
     pub fn parse(alloc: Global, msg: &'a [u8]) -> ParseResult<'a>
         ensures steps { Gives response_value result (step rule.response msg.now) }
         ensures answer { Answers rule.response response_value msg.now result }
         ensures spells { IfOk result (λ x. Spelled msg.now x.0.now (response_value x.1)) }
         ensures line { IfOk result (λ x. EndsLine msg.now x.0.now) }
+        ensures memory { SucceedsFor TakesNone rule.response msg.now result }
     {
         lines::response(alloc, msg)
     }

@@ -1,0 +1,304 @@
+-- Responses for which no memory is taken, from their parts.
+use Rattle.std.proofs.Common.{◌≡◌, ◌≢◌, ℕ, Bool, true, ◌&&◌, List, [], ◌∷◌, ◌++◌, length, Option, None, Some, Result, Ok, Err, refl, sym, ap, subst, ◌∙◌, inl, inr, arith}
+use Prim.Native.String.{String}
+use Rattle.std.specs.Prelude.{codes}
+use Rattle.std.specs.Borrow.{Bor}
+use Rattle.std.specs.Char.{to_ascii_lowercase, to_ascii_uppercase}
+use Rattle.std.specs.List.{list_all}
+use Rattle.std.specs.Str.{is_utf8}
+use Rattle.std.specs.Str.Lossy.{utf8_lossy}
+use Rattle.std.specs.declared.borrow.CowStr.{CowStr}
+use Rattle.std.specs.declared.alloc.Global.{Global}
+use Rattle.std.proofs.lemmas.Bool.{false≢true, and_parts, both_ways, not-true}
+use Rattle.std.proofs.lemmas.Str.{IsUtf8-nil, IsUtf8-from_is_utf8, is_utf8-from_IsUtf8}
+use Rattle.imap_grammar.specs.declared.answer.Err.{Err as Fault}
+use Rattle.imap_grammar.specs.declared.answer.Err.TheVariants.{Incomplete, Error, Failure}
+use Rattle.imap_grammar.specs.Answer.{Returned, Gives}
+use Rattle.imap_grammar.specs.Classes.{is_text_char}
+use Rattle.imap_grammar.specs.Lists.{tried_of}
+use Rattle.imap_grammar.specs.Meaning.{is_word, begins, outside}
+use Rattle.imap_grammar.specs.Memory.{BeginsWord, FailsOnlyIf, SucceedsFor}
+use Rattle.imap_grammar.specs.Rule.{Rule, meaning, gives, opt, ◌⨾◌, ◌or◌}
+use Rattle.imap_grammar.specs.Step.{step, ◌>>=◌, or_else, beside}
+use Rattle.imap_grammar.specs.Tags.{word, sp, crlf, same_letter}
+use Rattle.imap_grammar.specs.Text.{Bytes, Text, text_of, decoded}
+use Rattle.imap_grammar.proofs.Agreement.{agrees, reads, fails}
+use Rattle.imap_grammar.proofs.Memory.{none_of_kind, none_yielded, same_kind, of_part, given, before, second}
+use Rattle.imap_grammar.proofs.Joins.{tried_none}
+use Rattle.imap_grammar.proofs.ReadingWords.{letter}
+use Rattle.imap_grammar.proofs.Steps.{ok_is}
+use Rattle.imap_grammar.proofs.Yields.{Yields, given_yields, made_yields, left_yields, either_yields}
+use Rattle.imap_bytes.specs.Numbers.{number}
+use Rattle.imap_bytes.specs.Texts.{text, is_owned, FailsForOwned}
+use Rattle.imap_bytes.proofs.ReadingTexts.{decoded_utf8}
+use Rattle.imap_bytes.proofs.ReadingQuoted.{lossy_some}
+use Rattle.imap_data.specs.declared.types.codes.ResponseCode.{ResponseCode}
+use Rattle.imap_data.specs.Codes.{CodeValue, code_value, HoldsNoList, BeginsListWord, BeginsListCode, response_code}
+use Rattle.imap_data.specs.MailboxData.{exists, recent, mailbox_datum}
+use Rattle.imap_data.specs.MailboxValues.{IsNumber}
+use Rattle.imap_data.specs.declared.types.mailbox_data.MailboxDatum.{MailboxDatum}
+use Rattle.imap_data.proofs.NumberData.{solicited_other, unsolicited_other}
+use Rattle.imap_extensions.specs.Acls.{list_rights}
+use Rattle.imap_items.specs.declared.types.statuses.Status.{Status}
+use Rattle.imap_items.specs.Statuses.{status}
+use Rattle.imap_proto.specs.declared.outcome.Outcome.{Outcome}
+use Rattle.imap_data.proofs.ListCodes.{list_code_yielded}
+use Rattle.imap_proto.specs.Outcomes.{outcome_of, outcome, no_outcome, spaced_outcome}
+use Rattle.imap_proto.specs.Responses.{OutcomeValue, ResponseValue, Capabilities, MailboxData, Quota, QuotaRoot, Id, Acl, ListRights, MyRights}
+use Rattle.imap_proto.specs.Lines.{data_of, status_data, expunge, fetch, fetch_of, vanished_of, vanished_data, ended, spaces, status_line, numbered_line, mailbox_line, list_line, capability_line, enabled_line, annotation_line, vanished_line, quota_line, id_line, acl_line, done_of, tagged}
+use Rattle.imap_proto.specs.Memory.{OutcomeTakesNone, TakesNone}
+
+-- ---- a word of text-chars in front of a line stands in front of the line's text too
+
+abbrev both_cases : ℕ → Bool
+both_cases x = is_text_char (to_ascii_lowercase x) && is_text_char (to_ascii_uppercase (to_ascii_lowercase x))
+
+either_case : (x b : ℕ) → both_cases x ≡ true → same_letter x b ≡ true → is_text_char b ≡ true
+either_case x b both same =
+    let parts = and_parts _ _ both in
+    elim (letter x b same) [
+      | inl e ↦ subst (λ c. is_text_char c ≡ true) (sym e) parts.0
+      | inr e ↦ subst (λ c. is_text_char c ≡ true) (sym e) parts.1
+    ]
+
+in_run : (k : List ℕ) (front more v rest : Bytes) → front ++ more ≡ v ++ rest → is_word same_letter k front ≡ true → list_all both_cases k ≡ true → begins (outside is_text_char) rest ≡ true → (later : Bytes) × (v ≡ front ++ later)
+in_run k [] more v rest e w all out = (v, refl)
+in_run [] (b ∷ front) more v rest e w all out = absurd (false≢true w)
+in_run (x ∷ k) (b ∷ front) more [] rest e w all out =
+    let is = either_case x b (and_parts (both_cases x) (list_all both_cases k) all).0 (and_parts (same_letter x b) (is_word same_letter k front) w).0 in
+    let o = subst (λ l. begins (outside is_text_char) l ≡ true) (sym e) out in
+    absurd (both_ways (is_text_char b) (not-true _ o) is)
+in_run (x ∷ k) (b ∷ front) more (c ∷ v) rest e w all out =
+    let tail : front ++ more ≡ v ++ rest = cc in
+    let y = in_run k front more v rest tail (and_parts (same_letter x b) (is_word same_letter k front) w).1 (and_parts (both_cases x) (list_all both_cases k) all).1 out in
+    let same = y.1 in
+    (y.0, cc)
+
+word_in_text : (k : String) (v rest : Bytes) → list_all both_cases (codes k) ≡ true → begins (outside is_text_char) rest ≡ true → BeginsWord k (v ++ rest) → BeginsWord k v
+word_in_text k v rest all out b = let y = in_run (codes k) b.0 b.1 v rest (sym b.2) b.3 all out in (b.0, y.0, y.1, b.3)
+
+words_in_text : (v rest : Bytes) → begins (outside is_text_char) rest ≡ true → BeginsListWord (v ++ rest) → BeginsListWord v
+words_in_text v rest out (inl b) = inl (word_in_text "APPENDUID " v rest refl out b)
+words_in_text v rest out (inr (inl b)) = inr (inl (word_in_text "BADCHARSET " v rest refl out b))
+words_in_text v rest out (inr (inr (inl b))) = inr (inr (inl (word_in_text "CAPABILITY" v rest refl out b)))
+words_in_text v rest out (inr (inr (inr (inl b)))) = inr (inr (inr (inl (word_in_text "COPYUID " v rest refl out b))))
+words_in_text v rest out (inr (inr (inr (inr b)))) = inr (inr (inr (inr (word_in_text "PERMANENTFLAGS " v rest refl out b))))
+
+code_in_text : (v rest : Bytes) → begins (outside is_text_char) rest ≡ true → BeginsListCode (v ++ rest) → BeginsListCode v
+code_in_text [] rest out b = let o = subst (λ l. begins (outside is_text_char) l ≡ true) b.1 out in absurd (false≢true o)
+code_in_text (c ∷ v) rest out b =
+    let head : c ≡ 91 = cc in
+    let tail : v ++ rest ≡ b.0 = cc in
+    (v, ap (λ x. x ∷ v) head, words_in_text v rest out (subst BeginsListWord (sym tail) b.2))
+
+no_code_in_none : BeginsListCode [] → ⊥
+no_code_in_none b = let e = b.1 in cc
+
+-- ---- the text of an outcome
+
+-- what decodes to no text is none
+nothing_decoded : (raw : Bytes) → utf8_lossy raw ≡ [] → raw ≡ []
+nothing_decoded [] e = refl
+nothing_decoded (c ∷ raw) e =
+    let some = lossy_some (c ∷ raw) (omega arith) in
+    let none : length (utf8_lossy (c ∷ raw)) ≡ 0 = ap length e in
+    absurd (omega (arith, some, none))
+
+abbrev text_with : Bytes → Bool → Text
+text_with u b = record { bytes = u; borrowed = b }
+
+bytes_same : (raw u : Bytes) (b : Bool) → decoded raw ≡ text_with u b → utf8_lossy raw ≡ u
+bytes_same raw u b e = ap (λ (t : Text). t.bytes) e
+
+mark_same : (raw u : Bytes) (b : Bool) → decoded raw ≡ text_with u b → is_utf8 raw ≡ b
+mark_same raw u b e = ap (λ (t : Text). t.borrowed) e
+
+lent_of : (k : Option CodeValue) (raw u : Bytes) (b : Bool) → decoded raw ≡ text_with u b → OutcomeTakesNone (outcome_of (k, text_with u b)) → b ≡ true
+lent_of k raw [] b e h = sym (mark_same raw [] b e) ∙ subst (λ l. is_utf8 l ≡ true) (sym (nothing_decoded raw (bytes_same raw [] b e))) (is_utf8-from_IsUtf8 [] IsUtf8-nil)
+lent_of None raw (x ∷ u) b e h = h.0
+lent_of (Some c) raw (x ∷ u) b e h = h.1
+
+no_list : (c : CodeValue) (u : Bytes) (b : Bool) → OutcomeTakesNone (outcome_of (Some c, text_with u b)) → HoldsNoList c
+no_list c [] b h = h
+no_list c (x ∷ u) b h = h.0
+
+no_list_code : (raw u rest : Bytes) (b : Bool) → decoded raw ≡ text_with u b → begins (outside is_text_char) rest ≡ true → OutcomeTakesNone (outcome_of (None, text_with u b)) → BeginsListCode (raw ++ rest) → ⊥
+no_list_code raw [] rest b e out h c = no_code_in_none (subst BeginsListCode (nothing_decoded raw (bytes_same raw [] b e)) (code_in_text raw rest out c))
+no_list_code raw (x ∷ u) rest b e out h c =
+    let utf8 = IsUtf8-from_is_utf8 raw (mark_same raw (x ∷ u) b e ∙ h.0) in
+    let same : raw ≡ x ∷ u = ap (λ (t : Text). t.bytes) (sym (decoded_utf8 raw utf8) ∙ e) in
+    h.1 (subst BeginsListCode same (code_in_text raw rest out c))
+
+lent_yielded : (k : Option CodeValue) (m : Bytes) (t : Text) (rest : Bytes) → (meaning text).yields m t rest → OutcomeTakesNone (outcome_of (k, t)) → t.borrowed ≡ true
+unfolding meaning text
+lent_yielded k m t rest y h = lent_of k y.0 t.bytes t.borrowed y.2 h
+
+-- where the word of a code that may hold a list stands in front
+listed_parts : (m mid rest : Bytes) (k : Option CodeValue) (t : Text) → BeginsListCode m → (meaning (opt response_code)).yields m k mid → (meaning text).yields mid t rest → OutcomeTakesNone (outcome_of (k, t)) → ⊥
+unfolding meaning text
+listed_parts m mid rest k t b (inl y) z h =
+    list_code_yielded m mid y.0 b ((agrees response_code m).yields y.0 mid y.1) (no_list y.0 t.bytes t.borrowed (subst (λ o. OutcomeTakesNone (outcome_of (o, t))) (sym y.2) h))
+listed_parts m mid rest k t b (inr y) z h =
+    no_list_code z.0 t.bytes rest t.borrowed z.2 z.1.2 (subst (λ o. OutcomeTakesNone (outcome_of (o, t))) (sym y.1.0) h) (subst BeginsListCode (y.1.1 ∙ z.1.0) b)
+
+listed : (m rest : Bytes) (o : OutcomeValue) → BeginsListCode m → step outcome m ≡ Ok (rest, o) → OutcomeTakesNone o → ⊥
+unfolding meaning outcome
+listed m rest o b is h =
+    let y = reads outcome m rest o is in
+    listed_parts m y.1.0 rest y.0.0 y.0.1 b y.1.1 y.1.2 (subst OutcomeTakesNone (sym y.2) h)
+
+-- ---- outcomes
+
+-- the code's reader denied
+pub code_missing : (m : Bytes) (code : Returned ResponseCode) (o : Option (Bor Bytes × ResponseCode)) → tried_of code ≡ Ok o → o ≡ None → Gives code_value code (step response_code m) → step (opt response_code) m ≡ Ok (m, None)
+code_missing m code o was none g =
+    let denied : step response_code m ≡ Err Error = subst (λ r. Gives code_value r (step response_code m)) (tried_none code o was none) g in
+    rw denied refl
+
+-- it failed, and did not deny
+pub code_stopped : {A : Type 0} (m : Bytes) (e : Fault) (code : Returned ResponseCode) (result : Returned A) → code ≡ Err e → e ≢ Error → Gives code_value code (step response_code m) → FailsOnlyIf (BeginsListCode m) code
+    → SucceedsFor OutcomeTakesNone outcome m result
+unfolding outcome
+code_stopped m e (Ok x) result is other g f = absurd cc
+code_stopped m e (Err Error) result is other g f = absurd (other cc)
+code_stopped m e (Err (Incomplete n)) result is other g f = none_yielded OutcomeTakesNone outcome m (Incomplete n) result (rw g refl)
+code_stopped m e (Err Failure) result is other g f = λ v rest y h. absurd (listed m rest v (f refl) y h)
+
+text_taken : (k : Option CodeValue) (m : Bytes) (result : Returned (CowStr Global)) → Gives text_of result (step text m) → FailsForOwned is_owned text m result → SucceedsFor (λ t. OutcomeTakesNone (outcome_of (k, t))) text m result
+text_taken k m (Ok x) g f = λ v rest is h. refl
+text_taken k m (Err Error) g f = λ v rest is h. absurd cc
+text_taken k m (Err (Incomplete n)) g f = λ v rest is h. absurd cc
+text_taken k m (Err Failure) g f = λ v rest is h.
+    let o = f refl in
+    let same : v ≡ o.0 = ap (λ p. p.1) (ok_is _ _ (sym is ∙ o.2)) in
+    let lent = lent_yielded k m v rest (reads text m rest v is) h in
+    absurd (false≢true (sym o.3 ∙ ap (λ (t : Text). t.borrowed) (sym same) ∙ lent))
+
+-- the text's reader failed
+pub text_stopped : {A : Type 0} (m mid : Bytes) (k : Option CodeValue) (e : Fault) (part : Returned (CowStr Global)) (result : Returned A) → step (opt response_code) m ≡ Ok (mid, k) → part ≡ Err e → Gives text_of part (step text mid) → FailsForOwned is_owned text mid part
+    → SucceedsFor OutcomeTakesNone outcome m result
+unfolding outcome
+text_stopped m mid k e part result front was g f =
+    given OutcomeTakesNone outcome_of (opt response_code ⨾ text) m result
+    (second (λ v. OutcomeTakesNone (outcome_of v)) (opt response_code) text m mid k result front
+    (of_part (λ t. OutcomeTakesNone (outcome_of (k, t))) text mid e part result was (text_taken k mid part g f)))
+
+never_denied : (m : Bytes) → step outcome m ≡ Err Error → ⊥
+unfolding meaning outcome text
+never_denied m h = elim (fails outcome m Error h) [
+  | inl code ↦ elim code [
+    | inl f ↦ f.1 refl
+    | inr f ↦ f.1
+  ]
+  | inr f ↦ f.3
+]
+
+-- behind a space there is always an outcome
+pub spaced_is : (m rest x : Bytes) → step sp m ≡ Ok (rest, x) → step spaced_outcome m ≡ step outcome rest
+unfolding spaced_outcome
+spaced_is m rest x is = rw is (joined (step outcome rest) (never_denied rest))
+  where
+    joined : (s : Result (Bytes × OutcomeValue) Fault) → (s ≡ Err Error → ⊥) → or_else ((s >>= beside x) >>= λ y. Ok (y.0, y.1.1)) (Ok (m, no_outcome)) ≡ s
+    joined (Ok y) d = refl
+    joined (Err Error) d = absurd (d refl)
+    joined (Err (Incomplete n)) d = refl
+    joined (Err Failure) d = refl
+
+pub behind_space : {A : Type 0} (m rest x : Bytes) (result : Returned A) → step sp m ≡ Ok (rest, x) → SucceedsFor OutcomeTakesNone outcome rest result → SucceedsFor OutcomeTakesNone spaced_outcome m result
+behind_space m rest x result is h = λ v end y k. h v end (sym (spaced_is m rest x is) ∙ y) k
+
+-- ---- data
+
+-- a reader's answer, of which no more is said than its fault
+abbrev pub failed : Fault → Returned (Unit {0})
+failed e = Err e
+
+pub mailbox_failed : (m : Bytes) (e : Fault) (part : Returned MailboxDatum) → part ≡ Err e → SucceedsFor IsNumber mailbox_datum m part → SucceedsFor TakesNone mailbox_line m (failed e)
+unfolding mailbox_line
+mailbox_failed m e part was h =
+    before TakesNone (gives MailboxData mailbox_datum) (spaces ⨾ crlf) m (failed e)
+    (given TakesNone MailboxData mailbox_datum m (failed e) (of_part IsNumber mailbox_datum m e part (failed e) was h))
+
+-- of two alternatives the second yields none of the kind
+first_of : {A : Type 0} (a b : Rule ResponseValue) (m : Bytes) (result : Returned A) → SucceedsFor TakesNone a m result → Yields (λ v. ¬ (TakesNone v)) b → SucceedsFor TakesNone (a or b) m result
+unfolding meaning
+first_of a b m result h none = λ v rest is k. elim (reads (a or b) m rest v is) [
+  | inl y ↦ h v rest ((agrees a m).yields v rest y) k
+  | inr y ↦ absurd (none.each m v rest y.1 k)
+]
+
+pub list_failed : (m : Bytes) (e : Fault) (part : Returned MailboxDatum) → part ≡ Err e → SucceedsFor IsNumber mailbox_datum m part → SucceedsFor TakesNone list_line m (failed e)
+unfolding list_line
+list_failed m e part was h =
+    before TakesNone (gives MailboxData mailbox_datum or gives ListRights list_rights) (spaces ⨾ crlf) m (failed e)
+    (first_of (gives MailboxData mailbox_datum) (gives ListRights list_rights) m (failed e)
+    (given TakesNone MailboxData mailbox_datum m (failed e) (of_part IsNumber mailbox_datum m e part (failed e) was h))
+    (made_yields ListRights (λ v h. h)))
+
+pub status_failed : (m mid : Bytes) (s : Status) (e : Fault) (part : Returned Outcome) → step status m ≡ Ok (mid, s) → part ≡ Err e → SucceedsFor OutcomeTakesNone spaced_outcome mid part → SucceedsFor TakesNone status_line m (failed e)
+unfolding status_line status_data
+status_failed m mid s e part front was h =
+    before TakesNone (gives data_of (status ⨾ spaced_outcome)) (spaces ⨾ crlf) m (failed e)
+    (given TakesNone data_of (status ⨾ spaced_outcome) m (failed e)
+    (second (λ v. TakesNone (data_of v)) status spaced_outcome m mid s (failed e) front
+    (of_part OutcomeTakesNone spaced_outcome mid e part (failed e) was h)))
+
+-- behind a number
+
+pub exists_end_failed : (m j mid w : Bytes) (n : ℕ) (e : Fault) → step number m ≡ Ok (j, n) → step (word " EXISTS") j ≡ Ok (mid, w) → step (spaces ⨾ crlf) mid ≡ Err e → SucceedsFor TakesNone numbered_line m (failed e)
+unfolding numbered_line exists recent expunge
+exists_end_failed m j mid w n e a b f = none_yielded TakesNone numbered_line m e (failed e) (rw (a, b, f) refl)
+
+pub recent_end_failed : (m j mid w : Bytes) (n : ℕ) (e : Fault) → step number m ≡ Ok (j, n) → step (word " EXISTS") j ≡ Err Error → step (word " RECENT") j ≡ Ok (mid, w) → step (spaces ⨾ crlf) mid ≡ Err e → SucceedsFor TakesNone numbered_line m (failed e)
+unfolding numbered_line exists recent expunge
+recent_end_failed m j mid w n e a b c f = none_yielded TakesNone numbered_line m e (failed e) (rw (a, b, c, f) refl)
+
+pub expunge_end_failed : (m j mid w : Bytes) (n : ℕ) (e : Fault) → step number m ≡ Ok (j, n) → step (word " EXISTS") j ≡ Err Error → step (word " RECENT") j ≡ Err Error → step (word " EXPUNGE") j ≡ Ok (mid, w) → step (spaces ⨾ crlf) mid ≡ Err e
+    → SucceedsFor TakesNone numbered_line m (failed e)
+unfolding numbered_line exists recent expunge
+expunge_end_failed m j mid w n e a b c d f = none_yielded TakesNone numbered_line m e (failed e) (rw (a, b, c, d, f) refl)
+
+fetch_other : Yields (λ v. ¬ (TakesNone v)) (ended fetch)
+unfolding fetch
+fetch_other = left_yields (made_yields fetch_of (λ v h. h))
+
+-- where none of the three words stands, no number alone is yielded
+pub fetch_failed : (m j : Bytes) (n : ℕ) (e : Fault) → step number m ≡ Ok (j, n) → step (word " EXISTS") j ≡ Err Error → step (word " RECENT") j ≡ Err Error → step (word " EXPUNGE") j ≡ Err Error → SucceedsFor TakesNone numbered_line m (failed e)
+unfolding numbered_line exists recent expunge
+fetch_failed m j n e a b c d = same_kind TakesNone numbered_line (ended fetch) m (failed e) (rw (a, b, c, d) refl) (none_of_kind TakesNone (ended fetch) m (failed e) fetch_other)
+
+-- ---- data that hold a list
+
+pub capability_other : Yields (λ v. ¬ (TakesNone v)) capability_line
+unfolding capability_line
+capability_other = left_yields (made_yields Capabilities (λ v h. h))
+
+pub enabled_other : Yields (λ v. ¬ (TakesNone v)) enabled_line
+unfolding enabled_line
+enabled_other = left_yields (made_yields Capabilities (λ v h. h))
+
+pub annotation_other : Yields (λ v. ¬ (TakesNone v)) annotation_line
+unfolding annotation_line
+annotation_other =
+    left_yields (either_yields (either_yields (given_yields MailboxData solicited_other (λ v h. h)) (given_yields MailboxData unsolicited_other (λ v h. h))) (made_yields MyRights (λ v h. h)))
+
+pub vanished_other : Yields (λ v. ¬ (TakesNone v)) vanished_line
+unfolding vanished_line vanished_data
+vanished_other = left_yields (made_yields vanished_of (λ v h. h))
+
+pub quota_other : Yields (λ v. ¬ (TakesNone v)) quota_line
+unfolding quota_line
+quota_other = left_yields (either_yields (made_yields Quota (λ v h. h)) (made_yields QuotaRoot (λ v h. h)))
+
+pub id_other : Yields (λ v. ¬ (TakesNone v)) id_line
+unfolding id_line
+id_other = left_yields (made_yields Id (λ v h. h))
+
+pub acl_other : Yields (λ v. ¬ (TakesNone v)) acl_line
+unfolding acl_line
+acl_other = left_yields (made_yields Acl (λ v h. h))
+
+-- a tag is copied
+pub tagged_other : Yields (λ v. ¬ (TakesNone v)) tagged
+unfolding tagged
+tagged_other = made_yields done_of (λ v h. h)

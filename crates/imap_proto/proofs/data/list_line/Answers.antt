@@ -1,0 +1,8 @@
+use Rattle.std.proofs.Common.{rules}
+use Rattle.imap_proto.specs.Lines.{list_line}
+use Rattle.imap_proto.proofs.Memory.{list_failed}
+use Rattle.imap_proto.proofs.data.list_line.Goals as goal
+
+pub returns-in-Err : goal.returns-in-Err
+unfolding list_line
+returns-in-Err c = record { steps = search rules; memory = list_failed _ c.in-Err.e c.mailbox_datum.result c.in-Err.is c.mailbox_datum.ensures.memory }
