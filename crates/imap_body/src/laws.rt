@@ -2,6 +2,7 @@
 
 ghost use Rattle.imap_grammar.specs.Text.{Text, text_of, lent_text};
 ghost use Rattle.imap_grammar.specs.Equality.{Tells};
+ghost use Rattle.imap_grammar.specs.Copying.{CopiesFreely};
 ghost use Rattle.imap_shapes.specs.Spans.{bytes_of};
 ghost use Rattle.imap_shapes.specs.EnvelopeValues.{address_seen, envelope_seen};
 ghost use Rattle.imap_shapes.specs.FieldValues.{params_seen, encoding_seen};
@@ -148,3 +149,8 @@ pub fn equality()
     laws::equality::<CowStr<'static>, CowSlice<'static, u8>>();
     attributes_equality::<CowStr<'static>, CowSlice<'static, u8>, BodyStructure<'static>>();
 }
+
+/// A clone takes no memory, and is the same value.
+pub fn cloning()
+    ensures message_section { CopiesFreely ⟦<MessageSection as Clone>⟧.is_infallible ⟦<MessageSection as Clone>⟧.is_clone }
+{}

@@ -3,6 +3,7 @@
 ghost use Rattle.std.specs.Prelude.{ℕ, ◌≡◌};
 ghost use Rattle.imap_grammar.specs.Stable.{Stable};
 ghost use Rattle.imap_grammar.specs.Equality.{Tells, HashesAlike};
+ghost use Rattle.imap_grammar.specs.Copying.{CopiesFreely};
 ghost use Rattle.imap_items.specs.Statuses as statuses;
 ghost use Rattle.imap_items.specs.Flags as flags;
 ghost use Rattle.imap_items.specs.Capabilities as capabilities;
@@ -59,7 +60,7 @@ use crate::types::names::{MailboxListData, NameAttribute};
 use imap_extensions::{
     Acl, AclEntry, IdMap, ListRights, MyRights, Quota, QuotaResource, QuotaResourceName, QuotaRoot,
 };
-pub use imap_items::laws::{cloning, conversions};
+pub use imap_items::laws::conversions;
 use imap_items::{AclRight, Capability, Status, UidSetMember};
 use std::hash::Hash;
 
@@ -121,6 +122,13 @@ pub fn equality()
     ensures acl { Tells ⟦<Acl<'static> as PartialEq>⟧.eq acl_content }
     ensures list_rights { Tells ⟦<ListRights<'static> as PartialEq>⟧.eq list_rights_content }
     ensures my_rights { Tells ⟦<MyRights<'static> as PartialEq>⟧.eq my_rights_content }
+{}
+
+/// A clone takes no memory, and is the same value.
+pub fn cloning()
+    ensures status_item { CopiesFreely ⟦<StatusAttribute as Clone>⟧.is_infallible ⟦<StatusAttribute as Clone>⟧.is_clone }
+    ensures acl_right { CopiesFreely ⟦<AclRight as Clone>⟧.is_infallible ⟦<AclRight as Clone>⟧.is_clone }
+    ensures uid_set_member { CopiesFreely ⟦<UidSetMember as Clone>⟧.is_infallible ⟦<UidSetMember as Clone>⟧.is_clone }
 {}
 
 /// Values that say the same hash alike.

@@ -10,7 +10,6 @@ ghost use Rattle.imap_items.specs.Capabilities as capabilities;
 ghost use Rattle.imap_items.specs.Capabilities.{capability_content};
 ghost use Rattle.imap_items.specs.UidSets as uid_sets;
 ghost use Rattle.imap_items.specs.UidSets.{member_value};
-ghost use Rattle.imap_items.specs.declared.types.uid_sets.UidSetMember.{UidSetMember as Member};
 ghost use Rattle.imap_items.specs.Mailboxes as mailboxes;
 ghost use Rattle.imap_items.specs.Gmail as gmail;
 ghost use Rattle.imap_items.specs.declared.types.rights.AclRight.{AclRight as Right};
@@ -71,8 +70,7 @@ pub fn hashing()
 
 /// A clone of a UID set's member or of a right takes no memory, and is the same value.
 pub fn cloning()
-    ensures no_memory { (m : Member) → ⟦<UidSetMember as Clone>⟧.is_infallible m }
-    ensures same { (m copy : Member) → ⟦<UidSetMember as Clone>⟧.is_clone m copy → member_value copy ≡ member_value m }
+    ensures uid_set_member { CopiesFreely ⟦<UidSetMember as Clone>⟧.is_infallible ⟦<UidSetMember as Clone>⟧.is_clone }
     ensures acl_right { CopiesFreely ⟦<AclRight as Clone>⟧.is_infallible ⟦<AclRight as Clone>⟧.is_clone }
 {}
 

@@ -1,13 +1,21 @@
 //! Laws of the whole grammar, as contracts of functions that do nothing.
 
+ghost use Rattle.std.specs.Prelude.{◌≡◌, None, string_bytes};
 ghost use Rattle.imap_grammar.specs.Stable.{Stable};
+ghost use Rattle.imap_grammar.specs.Equality.{Tells};
+ghost use Rattle.imap_grammar.specs.Copying.{CopiesFreely};
 ghost use Rattle.imap_command.specs.Apart.{CallsToldApart};
 ghost use Rattle.imap_proto.specs.Outcomes as outcomes;
 ghost use Rattle.imap_proto.specs.Lines as rule;
 ghost use Rattle.imap_proto.specs.Streams.{SomeSplit, OneSplit, BeginningsWait, SplitsGoOn, FeedsSplit, CuttingsAlike};
 ghost use Rattle.imap_grammar.specs.ReadBack.{Spells};
 ghost use Rattle.imap_proto.specs.LineTexts.{spells_response, CanonicalReadsBack, Same};
-ghost use Rattle.imap_proto.specs.Responses.{ResponseValue, lent_response};
+ghost use Rattle.imap_proto.specs.Responses.{ResponseValue, outcome_value, response_value, lent_outcome, lent_response};
+
+use crate::outcome::Outcome;
+use crate::response::{RequestId, Response};
+use crate::stream::End;
+use imap_body::laws;
 
 /// Each rule has one answer, and appended bytes change neither a value nor a denial, and make what is lacking as much smaller.
 #[tactic(auto, using(imap_grammar::proofs::Stability::is_stable))]
@@ -52,4 +60,24 @@ pub fn read_back()
 /// so no argument can smuggle in another command.
 pub fn calls_told_apart()
     ensures { CallsToldApart }
+{}
+
+/// `==` tells whether two values say the same: texts by their bytes, whichever lie in the input.
+pub fn equality()
+    ensures request_id { Tells ⟦<RequestId as PartialEq>⟧.eq (λ tag. string_bytes tag.0) }
+    ensures outcome { Tells ⟦<Outcome<'static> as PartialEq>⟧.eq (λ o. lent_outcome (outcome_value o)) }
+    ensures response { Tells ⟦<Response<'static> as PartialEq>⟧.eq (λ r. lent_response (response_value r)) }
+    ensures end { Tells ⟦<End as PartialEq>⟧.eq (λ e. e) }
+{
+    laws::equality();
+}
+
+/// A clone takes no memory, and is the same value.
+pub fn cloning()
+    ensures end { CopiesFreely ⟦<End as Clone>⟧.is_infallible ⟦<End as Clone>⟧.is_clone }
+{}
+
+/// The default of an outcome has neither a code nor a text.
+pub fn defaults()
+    ensures outcome { (o : Outcome) → ⟦<Outcome<'static> as Default>⟧.is_default o → outcome_value o ≡ record { code = None; information = None } }
 {}

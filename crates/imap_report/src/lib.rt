@@ -6,6 +6,7 @@
 
 mod devices;
 mod ending;
+pub mod laws;
 mod outcome;
 mod readers;
 mod running;

@@ -1,0 +1,18 @@
+//! Laws of the types of this crate, as contracts of functions that do nothing.
+
+ghost use Rattle.imap_grammar.specs.Equality.{Tells};
+ghost use Rattle.imap_grammar.specs.Copying.{CopiesFreely};
+
+use crate::outcome::{Fault, Finish};
+
+/// `==` tells whether two values are the same.
+pub fn equality()
+    ensures finish { Tells ⟦<Finish as PartialEq>⟧.eq (λ x. x) }
+    ensures fault { Tells ⟦<Fault as PartialEq>⟧.eq (λ x. x) }
+{}
+
+/// A clone takes no memory, and is the same value.
+pub fn cloning()
+    ensures finish { CopiesFreely ⟦<Finish as Clone>⟧.is_infallible ⟦<Finish as Clone>⟧.is_clone }
+    ensures fault { CopiesFreely ⟦<Fault as Clone>⟧.is_infallible ⟦<Fault as Clone>⟧.is_clone }
+{}
