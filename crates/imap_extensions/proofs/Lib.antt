@@ -7,3 +7,4 @@ pub mod VanishingTexts
 pub mod AclTexts
 pub mod OptionalRights
 pub mod Takes
+pub mod IdPairs

@@ -63,11 +63,18 @@ id_content m = lent_id (id_value m)
 unfoldable pub id_pair : Rule (Text × Option Text)
 id_pair = string_utf8 ⨾ blanks1 ▹ nstring_utf8
 
+unfoldable pub next_pair : Rule (Text × Option Text)
+next_pair = blanks1 ▹ id_pair
+
 unfoldable pub id_pairs : Rule (List (Text × Option Text))
 id_pairs = list1 blanks1 id_pair
 
 unfoldable pub id_list : Rule (List (Text × Option Text))
 id_list = tag "(" ▹ id_pairs ◃ blanks0 ⨾ tag ")"
+
+-- the same, as the map of the pairs
+unfoldable pub id_map : Rule IdValue
+id_map = tag "(" ▹ gives map_of_pairs id_pairs ◃ blanks0 ⨾ tag ")"
 
 abbrev pub params_of : List (Text × Option Text) → Option IdValue
 params_of ps = Some (map_of_pairs ps)

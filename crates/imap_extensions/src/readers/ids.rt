@@ -1,15 +1,15 @@
 //! What an implementation says of itself.
 
-ghost use Rattle.std.specs.Prelude.{◌≡◌, option_map, map, IfOk};
+ghost use Rattle.std.specs.Prelude.{◌≡◌, option_map, OnOk};
 ghost use Rattle.imap_grammar.specs.Answer.{Answers, Gives};
+ghost use Rattle.imap_grammar.specs.Rule.{gives, many, opt};
 ghost use Rattle.imap_grammar.specs.Step.{step};
 ghost use Rattle.imap_extensions.specs.Ids as ids;
-ghost use Rattle.imap_extensions.specs.Ids.{id_value, pair_value, map_of_pairs};
+ghost use Rattle.imap_extensions.specs.Ids.{id_value, pair_value, put_pair as put_value, put_pairs, map_of_pairs};
 
 use crate::types::ids::{IdMap, put};
-use imap_bytes::lists::{Separator, separated};
 use imap_bytes::tags::{blanks0, blanks1, tag, word};
-use imap_bytes::{IResult, first, nil, nstring_utf8, string_utf8};
+use imap_bytes::{IResult, first, maybe, nil, nstring_utf8, string_utf8};
 use std::alloc::{AllocError, Global};
 use std::borrow::CowStr;
 use std::collections::HashMap;
@@ -27,44 +27,72 @@ fn id_pair(alloc: Global, i: &[u8]) -> IResult<&[u8], IdPair<'_>>
     Ok((rest, (key, value)))
 }
 
-fn id_pairs(alloc: Global, i: &[u8]) -> IResult<&[u8], Vec<IdPair<'_>>>
-    ensures { Gives (λ x. map pair_value x.items) result (step ids.id_pairs i.now) }
+// A pair behind blanks, if there is one.
+#[tactic(auto, unfolding(crate::specs::Ids::next_pair))]
+fn next_pair(alloc: Global, i: &[u8]) -> IResult<&[u8], IdPair<'_>>
+    ensures { Gives pair_value result (step ids.next_pair i.now) }
 {
-    let pair = |i|
-        ensures { Gives pair_value result (step ids.id_pair i.entry.now) }
-    { id_pair(alloc, i) };
-    separated(alloc, Separator::Blanks, pair, i)
+    let (rest, _) = blanks1(i)?;
+    id_pair(alloc, rest)
 }
 
-#[tactic(auto, unfolding(crate::specs::Ids::id_list))]
-fn id_list(alloc: Global, i: &[u8]) -> IResult<&[u8], Vec<IdPair<'_>>>
-    ensures { Gives (λ x. map pair_value x.items) result (step ids.id_list i.now) }
+fn maybe_next_pair(alloc: Global, i: &[u8]) -> IResult<&[u8], Option<IdPair<'_>>>
+    ensures { Gives (option_map pair_value) result (step (opt ids.next_pair) i.now) }
+{
+    maybe!(next_pair(alloc, i), i)
+}
+
+// A pair without a value is dropped.
+fn put_pair<'a>(map: &mut IdMap<'a>, pair: IdPair<'a>) -> Result<(), AllocError>
+    ensures { OnOk result (id_value map.new ≡ put_value (id_value map.old) (pair_value pair.entry)) }
+{
+    match pair {
+        (key, Some(value)) => put(map, key, value),
+        (_, None) => Ok(()),
+    }
+}
+
+// The pairs behind the first, put into the map as they are read: of equal keys the last wins.
+fn pairs_behind<'a>(alloc: Global, map: IdMap<'a>, i: &'a [u8]) -> IResult<&'a [u8], IdMap<'a>>
+    ensures { Gives id_value result (step (gives (put_pairs (id_value map.entry)) (many ids.next_pair)) i.now) }
+{
+    let mut map = map;
+    let mut rest = i;
+    'pairs: loop {
+        let (after, pair) = maybe_next_pair(alloc, rest)?;
+        match pair {
+            None => return Ok((rest, map)),
+            Some(pair) => put_pair(&mut map, pair)?,
+        }
+        rest = after;
+    }
+}
+
+fn id_pairs(alloc: Global, i: &[u8]) -> IResult<&[u8], IdMap<'_>>
+    ensures { Gives id_value result (step (gives map_of_pairs ids.id_pairs) i.now) }
+{
+    let (rest, first) = id_pair(alloc, i)?;
+    let mut map = HashMap::new(alloc);
+    put_pair(&mut map, first)?;
+    pairs_behind(alloc, map, rest)
+}
+
+#[tactic(auto, unfolding(crate::specs::Ids::id_map))]
+fn id_map(alloc: Global, i: &[u8]) -> IResult<&[u8], IdMap<'_>>
+    ensures { Gives id_value result (step ids.id_map i.now) }
 {
     let (rest, _) = tag(b"(", i)?;
-    let (rest, pairs) = id_pairs(alloc, rest)?;
+    let (rest, map) = id_pairs(alloc, rest)?;
     let (rest, _) = blanks0(rest)?;
     let (rest, _) = tag(b")", rest)?;
-    Ok((rest, pairs))
+    Ok((rest, map))
 }
 
-// The map of the pairs: those without a value are dropped, and of equal keys the last wins.
-fn map_of<'a>(alloc: Global, pairs: Vec<IdPair<'a>>) -> Result<IdMap<'a>, AllocError>
-    ensures { IfOk result (λ m. id_value m ≡ map_of_pairs (map pair_value pairs.entry.items)) }
-{
-    let mut found = HashMap::new(alloc);
-    for (key, value) in pairs {
-        if let Some(value) = value {
-            put(&mut found, key, value)?;
-        }
-    }
-    Ok(found)
-}
-
+#[tactic(auto, using(crate::proofs::IdPairs::some_params_is))]
 fn some_params(alloc: Global, i: &[u8]) -> IResult<&[u8], Option<IdMap<'_>>>
     ensures { Gives (option_map id_value) result (step ids.some_params i.now) }
 {
-    let (rest, pairs) = id_list(alloc, i)?;
-    let map = map_of(alloc, pairs)?;
+    let (rest, map) = id_map(alloc, i)?;
     Ok((rest, Some(map)))
 }
 
