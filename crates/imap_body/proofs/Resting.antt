@@ -12,13 +12,13 @@ use Rattle.imap_grammar.specs.Positions.{Rests}
 use Rattle.imap_shapes.specs.declared.shapes.envelopes.Envelope.{Envelope as Spans}
 use Rattle.imap_shapes.specs.declared.shapes.bodies.BodyStructure.{BodyStructure as Structure}
 use Rattle.imap_shapes.specs.declared.spans.SpannedText.{SpannedText}
-use Rattle.imap_structure.specs.Spanned.{body_in, envelope_in}
+use Rattle.imap_structure.specs.Spanned.{boxed_in, envelope_in}
 use Rattle.imap_body.specs.declared.types.attributes.AttributeParts.TheVariants as parts
 use Rattle.imap_body.specs.AttributeValues.{BodyStructure, Envelope, parts_in}
 use Rattle.imap_body.specs.Attributes.{id_bytes}
 
-pub structure_rests : (q : ℕ) (b : Box (Structure SpannedText Span) Global) (x : Structure SpannedText Span) → b.value ≡ x → Rests body_in q x → Rests parts_in q (parts.BodyStructure b)
-structure_rests q b x is h = record { same = λ m. rw is (ap (λ v. BodyStructure v) (h.same m)) }
+pub structure_rests : (q : ℕ) (b : Box (Structure SpannedText Span) Global) → Rests boxed_in q b → Rests parts_in q (parts.BodyStructure b)
+structure_rests q b h = record { same = λ m. ap (λ v. BodyStructure v) (h.same m) }
 
 pub envelope_rests : (q : ℕ) (b : Box (Spans Span) Global) (x : Spans Span) → b.value ≡ x → Rests envelope_in q x → Rests parts_in q (parts.Envelope b)
 envelope_rests q b x is h = record { same = λ m. rw is (ap (λ v. Envelope v) (h.same m)) }

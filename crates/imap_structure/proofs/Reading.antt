@@ -16,7 +16,7 @@ use Rattle.imap_shapes.specs.FieldValues.{fields_seen}
 use Rattle.imap_shapes.specs.ExtensionValues.{ext_1part_seen, ext_mpart_seen}
 use Rattle.imap_shapes.specs.BodyValues.{common_seen, single_seen}
 use Rattle.imap_shapes.specs.Spans.{text_in, bytes_in}
-use Rattle.imap_structure.specs.Spanned.{envelope_in, fields_in, ext_1part_in, ext_mpart_in, body_in}
+use Rattle.imap_structure.specs.Spanned.{envelope_in, fields_in, ext_1part_in, ext_mpart_in, body_in, boxed_in}
 use Rattle.imap_shapes.proofs.Trees.{text_seen, basic_seen, message_seen, multipart_seen}
 use Rattle.imap_grammar.specs.Step.{step}
 use Rattle.imap_grammar.specs.Tags.{word}
@@ -79,6 +79,13 @@ message_rests q fields envelope inner lines ext f v b e = record { same = λ m. 
 pub multipart_rests : (q : ℕ) (bodies : Vec Spanned Global) (subtype : SpannedText) (ext : BodyExtMPart SpannedText) → Rests (λ n x. map (body_in n) x.items) q bodies → Rests text_in q subtype → Rests ext_mpart_in q ext
     → Rests body_in q (body.Multipart (multipart_parts subtype ext) bodies ext.extension)
 multipart_rests q bodies subtype ext b s e = record { same = λ m. multipart_read (take q m) bodies subtype ext ∙ rw (b.same m, s.same m, e.same m) refl ∙ sym (multipart_read m bodies subtype ext) }
+
+-- a boxed body rests on what the body does
+pub boxed_rests : (q : ℕ) (b : Box Spanned Global) (x : Spanned) → b.value ≡ x → Rests body_in q x → Rests boxed_in q b
+boxed_rests q b x is h = record { same = λ m. rw is (h.same m) }
+
+pub unboxed_rests : (q : ℕ) (b : Box Spanned Global) → Rests boxed_in q b → Rests body_in q b.value
+unboxed_rests q b h = record { same = λ m. h.same m }
 
 -- ---- what is read where each part is
 

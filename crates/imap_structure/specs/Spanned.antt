@@ -3,6 +3,7 @@ use Rattle.std.specs.Prelude.{List, Option}
 use Rattle.std.specs.Option.{option_map}
 use Rattle.std.specs.declared.alloc.Global.{Global}
 use Rattle.std.specs.declared.vec.Vec.{Vec}
+use Rattle.std.specs.declared.boxed.Box.{Box}
 use Rattle.imap_grammar.specs.declared.at.span.Span.{Span}
 use Rattle.imap_grammar.specs.Text.{Bytes, Text}
 use Rattle.imap_shapes.specs.declared.spans.SpannedText.{SpannedText}
@@ -68,3 +69,6 @@ ext_mpart_in m x = ext_mpart_seen (text_in m) x
 
 abbrev pub body_in : Bytes → BodyStructure SpannedText Span → BodyValue
 body_in m x = body_seen (text_in m) (bytes_in m) x
+
+abbrev pub boxed_in : Bytes → Box (BodyStructure SpannedText Span) Global → BodyValue
+boxed_in m x = body_in m x.value

@@ -88,7 +88,7 @@ fn structure(alloc: Global, m: &[u8], p: usize) -> Result<(usize, AttributeSpans
 {
     let (p, _) = word(b"STRUCTURE ", m, p)?;
     let (p, body) = body_structure(alloc, m, p)?;
-    Ok((p, AttributeParts::BodyStructure(Box::new(alloc, body)?)))
+    Ok((p, AttributeParts::BodyStructure(body)))
 }
 
 // `BODY` is read once, whether a section or `STRUCTURE` stands behind it.

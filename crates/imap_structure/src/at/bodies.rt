@@ -8,7 +8,7 @@ ghost use Rattle.imap_grammar.specs.Rule.{opt};
 ghost use Rattle.imap_structure.specs.Envelopes as envelopes;
 ghost use Rattle.imap_structure.specs.Envelopes.{spaced};
 ghost use Rattle.imap_structure.specs.Bodies as bodies;
-ghost use Rattle.imap_structure.specs.Spanned.{envelope_in, body_in};
+ghost use Rattle.imap_structure.specs.Spanned.{envelope_in, body_in, boxed_in};
 
 use crate::at::Reached;
 use crate::at::envelopes::envelope;
@@ -26,24 +26,24 @@ use imap_shapes::shapes::envelopes::Envelope;
 use imap_shapes::spans::{Span, SpannedText};
 use std::alloc::Global;
 
-/// A structure whose texts are spans.
+/// A structure whose texts are spans. Its readers box it where it is made: it is large, and handed on through several calls.
 pub type Spanned = BodyStructure<SpannedText, Span>;
 
 /// A text (RFC 3501, section 9: body-type-text).
 #[tactic(auto, unfolding(crate::specs::Bodies::body_type_text))]
-fn body_type_text(alloc: Global, m: &[u8], p: usize) -> Reached<Spanned>
+fn body_type_text(alloc: Global, m: &[u8], p: usize) -> Reached<Box<Spanned>>
     requires { p ≤ length m.now }
-    ensures steps { GivesAt (λ x. body_in m.now x) m.now result (step bodies.body_type_text (drop p m.now)) }
+    ensures steps { GivesAt (λ x. boxed_in m.now x) m.now result (step bodies.body_type_text (drop p m.now)) }
     ensures ahead { Ahead m.now p result }
-    ensures rests { RestsOn body_in result }
+    ensures rests { RestsOn boxed_in result }
 {
     let (p, _) = word(b"\"TEXT\"", m, p)?;
     let (p, subtype) = spaced_string_text(m, p)?;
     let (p, fields) = spaced_fields(alloc, m, p)?;
     let (p, lines) = spaced_number(m, p)?;
     let (p, ext) = body_ext_1part(alloc, m, p)?;
-    Ok((
-        p,
+    let body = Box::new(
+        alloc,
         BodyStructure::Text {
             common: BodyContentCommon {
                 ty: ContentType {
@@ -65,23 +65,24 @@ fn body_type_text(alloc: Global, m: &[u8], p: usize) -> Reached<Spanned>
             lines,
             extension: ext.extension,
         },
-    ))
+    )?;
+    Ok((p, body))
 }
 
 /// A single part of any other type (RFC 3501, section 9: body-type-basic).
 #[tactic(auto, unfolding(crate::specs::Bodies::body_type_basic))]
-fn body_type_basic(alloc: Global, m: &[u8], p: usize) -> Reached<Spanned>
+fn body_type_basic(alloc: Global, m: &[u8], p: usize) -> Reached<Box<Spanned>>
     requires { p ≤ length m.now }
-    ensures steps { GivesAt (λ x. body_in m.now x) m.now result (step bodies.body_type_basic (drop p m.now)) }
+    ensures steps { GivesAt (λ x. boxed_in m.now x) m.now result (step bodies.body_type_basic (drop p m.now)) }
     ensures ahead { Ahead m.now p result }
-    ensures rests { RestsOn body_in result }
+    ensures rests { RestsOn boxed_in result }
 {
     let (p, ty) = string_text(m, p)?;
     let (p, subtype) = spaced_string_text(m, p)?;
     let (p, fields) = spaced_fields(alloc, m, p)?;
     let (p, ext) = body_ext_1part(alloc, m, p)?;
-    Ok((
-        p,
+    let body = Box::new(
+        alloc,
         BodyStructure::Basic {
             common: BodyContentCommon {
                 ty: ContentType {
@@ -102,7 +103,8 @@ fn body_type_basic(alloc: Global, m: &[u8], p: usize) -> Reached<Spanned>
             },
             extension: ext.extension,
         },
-    ))
+    )?;
+    Ok((p, body))
 }
 
 fn spaced_envelope(alloc: Global, m: &[u8], p: usize) -> Reached<Envelope<Span>>
@@ -126,11 +128,11 @@ fn message_word(m: &[u8], p: usize) -> Reached<Span>
 
 /// A body, with bodies inside up to `level` deep (RFC 3501, section 9: body). At level 0 it denies without looking.
 #[cycle(body)]
-pub fn body(alloc: Global, level: u32, m: &[u8], p: usize) -> Reached<Spanned>
+pub fn body(alloc: Global, level: u32, m: &[u8], p: usize) -> Reached<Box<Spanned>>
     requires { p ≤ length m.now }
-    ensures steps { GivesAt (λ x. body_in m.now x) m.now result (step (bodies.body level) (drop p m.now)) }
+    ensures steps { GivesAt (λ x. boxed_in m.now x) m.now result (step (bodies.body level) (drop p m.now)) }
     ensures ahead { Ahead m.now p result }
-    ensures rests { RestsOn body_in result }
+    ensures rests { RestsOn boxed_in result }
 {
     if level == 0 {
         return Err(Err::Error);
@@ -140,11 +142,11 @@ pub fn body(alloc: Global, level: u32, m: &[u8], p: usize) -> Reached<Spanned>
 
 #[cycle(body)]
 #[tactic(auto, unfolding(crate::specs::Bodies::bracketed_body))]
-fn bracketed_body(alloc: Global, level: u32, m: &[u8], p: usize) -> Reached<Spanned>
+fn bracketed_body(alloc: Global, level: u32, m: &[u8], p: usize) -> Reached<Box<Spanned>>
     requires { p ≤ length m.now }
-    ensures steps { GivesAt (λ x. body_in m.now x) m.now result (step (bodies.bracketed_body (bodies.body level)) (drop p m.now)) }
+    ensures steps { GivesAt (λ x. boxed_in m.now x) m.now result (step (bodies.bracketed_body (bodies.body level)) (drop p m.now)) }
     ensures ahead { Ahead m.now p result }
-    ensures rests { RestsOn body_in result }
+    ensures rests { RestsOn boxed_in result }
 {
     let (p, _) = tag(b"(", m, p)?;
     let (p, content) = body_type(alloc, level, m, p)?;
@@ -155,11 +157,11 @@ fn bracketed_body(alloc: Global, level: u32, m: &[u8], p: usize) -> Reached<Span
 // What stands in the parentheses of a body, where the bodies inside have this level.
 #[cycle(body)]
 #[tactic(auto, using(crate::proofs::FirstBytes::type_none, crate::proofs::FirstBytes::type_is_quoted, crate::proofs::FirstBytes::type_is_literal, crate::proofs::FirstBytes::type_is_mpart, crate::proofs::FirstBytes::type_other))]
-fn body_type(alloc: Global, level: u32, m: &[u8], p: usize) -> Reached<Spanned>
+fn body_type(alloc: Global, level: u32, m: &[u8], p: usize) -> Reached<Box<Spanned>>
     requires { p ≤ length m.now }
-    ensures steps { GivesAt (λ x. body_in m.now x) m.now result (step (bodies.body_type (bodies.body level)) (drop p m.now)) }
+    ensures steps { GivesAt (λ x. boxed_in m.now x) m.now result (step (bodies.body_type (bodies.body level)) (drop p m.now)) }
     ensures ahead { Ahead m.now p result }
-    ensures rests { RestsOn body_in result }
+    ensures rests { RestsOn boxed_in result }
 {
     let (_, i) = m.split_at(p);
     match i.first() {
@@ -173,11 +175,11 @@ fn body_type(alloc: Global, level: u32, m: &[u8], p: usize) -> Reached<Spanned>
 
 #[cycle(body)]
 #[tactic(auto, unfolding(crate::specs::Bodies::quoted_type))]
-fn quoted_type(alloc: Global, level: u32, m: &[u8], p: usize) -> Reached<Spanned>
+fn quoted_type(alloc: Global, level: u32, m: &[u8], p: usize) -> Reached<Box<Spanned>>
     requires { p ≤ length m.now }
-    ensures steps { GivesAt (λ x. body_in m.now x) m.now result (step (bodies.quoted_type (bodies.body level)) (drop p m.now)) }
+    ensures steps { GivesAt (λ x. boxed_in m.now x) m.now result (step (bodies.quoted_type (bodies.body level)) (drop p m.now)) }
     ensures ahead { Ahead m.now p result }
-    ensures rests { RestsOn body_in result }
+    ensures rests { RestsOn boxed_in result }
 {
     first!(body_type_text(alloc, m, p));
     first!(body_type_msg(alloc, level, m, p));
@@ -187,11 +189,11 @@ fn quoted_type(alloc: Global, level: u32, m: &[u8], p: usize) -> Reached<Spanned
 /// A message (RFC 3501, section 9: body-type-msg).
 #[cycle(body)]
 #[tactic(auto, unfolding(crate::specs::Bodies::body_type_msg))]
-fn body_type_msg(alloc: Global, level: u32, m: &[u8], p: usize) -> Reached<Spanned>
+fn body_type_msg(alloc: Global, level: u32, m: &[u8], p: usize) -> Reached<Box<Spanned>>
     requires { p ≤ length m.now }
-    ensures steps { GivesAt (λ x. body_in m.now x) m.now result (step (bodies.body_type_msg (bodies.body level)) (drop p m.now)) }
+    ensures steps { GivesAt (λ x. boxed_in m.now x) m.now result (step (bodies.body_type_msg (bodies.body level)) (drop p m.now)) }
     ensures ahead { Ahead m.now p result }
-    ensures rests { RestsOn body_in result }
+    ensures rests { RestsOn boxed_in result }
 {
     let (p, _) = message_word(m, p)?;
     let (p, fields) = spaced_fields(alloc, m, p)?;
@@ -199,9 +201,8 @@ fn body_type_msg(alloc: Global, level: u32, m: &[u8], p: usize) -> Reached<Spann
     let (p, inner) = spaced_body(alloc, level, m, p)?;
     let (p, lines) = spaced_number(m, p)?;
     let (p, ext) = body_ext_1part(alloc, m, p)?;
-    let body = Box::new(alloc, inner)?;
-    Ok((
-        p,
+    let body = Box::new(
+        alloc,
         BodyStructure::Message {
             common: BodyContentCommon {
                 ty: ContentType {
@@ -221,19 +222,20 @@ fn body_type_msg(alloc: Global, level: u32, m: &[u8], p: usize) -> Reached<Spann
                 octets: fields.octets,
             },
             envelope,
-            body,
+            body: inner,
             lines,
             extension: ext.extension,
         },
-    ))
+    )?;
+    Ok((p, body))
 }
 
 #[cycle(body)]
-fn spaced_body(alloc: Global, level: u32, m: &[u8], p: usize) -> Reached<Spanned>
+fn spaced_body(alloc: Global, level: u32, m: &[u8], p: usize) -> Reached<Box<Spanned>>
     requires { p ≤ length m.now }
-    ensures steps { GivesAt (λ x. body_in m.now x) m.now result (step (spaced (bodies.body level)) (drop p m.now)) }
+    ensures steps { GivesAt (λ x. boxed_in m.now x) m.now result (step (spaced (bodies.body level)) (drop p m.now)) }
     ensures ahead { Ahead m.now p result }
-    ensures rests { RestsOn body_in result }
+    ensures rests { RestsOn boxed_in result }
 {
     let (p, _) = tag(b" ", m, p)?;
     body(alloc, level, m, p)
@@ -242,17 +244,17 @@ fn spaced_body(alloc: Global, level: u32, m: &[u8], p: usize) -> Reached<Spanned
 /// Several parts (RFC 3501, section 9: body-type-mpart).
 #[cycle(body)]
 #[tactic(auto, unfolding(crate::specs::Bodies::body_type_mpart))]
-fn body_type_mpart(alloc: Global, level: u32, m: &[u8], p: usize) -> Reached<Spanned>
+fn body_type_mpart(alloc: Global, level: u32, m: &[u8], p: usize) -> Reached<Box<Spanned>>
     requires { p ≤ length m.now }
-    ensures steps { GivesAt (λ x. body_in m.now x) m.now result (step (bodies.body_type_mpart (bodies.body level)) (drop p m.now)) }
+    ensures steps { GivesAt (λ x. boxed_in m.now x) m.now result (step (bodies.body_type_mpart (bodies.body level)) (drop p m.now)) }
     ensures ahead { Ahead m.now p result }
-    ensures rests { RestsOn body_in result }
+    ensures rests { RestsOn boxed_in result }
 {
     let (p, bodies) = some_bodies(alloc, level, m, p)?;
     let (p, subtype) = spaced_string_text(m, p)?;
     let (p, ext) = body_ext_mpart(alloc, m, p)?;
-    Ok((
-        p,
+    let body = Box::new(
+        alloc,
         BodyStructure::Multipart {
             common: BodyContentCommon {
                 ty: ContentType {
@@ -267,7 +269,8 @@ fn body_type_mpart(alloc: Global, level: u32, m: &[u8], p: usize) -> Reached<Spa
             bodies,
             extension: ext.extension,
         },
-    ))
+    )?;
+    Ok((p, body))
 }
 
 #[cycle(body)]
@@ -279,13 +282,13 @@ fn some_bodies(alloc: Global, level: u32, m: &[u8], p: usize) -> Reached<Vec<Spa
     ensures rests { RestsOn (λ n x. map (body_in n) x.items) result }
 {
     let (mut q, first) = body(alloc, level, m, p)?;
-    let mut items = list_of_one(alloc, first)?;
+    let mut items = list_of_one(alloc, Box::into_inner(first))?;
     'bodies: loop {
         let (after, next) = next_body(alloc, level, m, q)?;
         match next {
             None => return Ok((q, items)),
             Some(body) => {
-                items.push(body)?;
+                items.push(Box::into_inner(body))?;
                 q = after;
             }
         }
@@ -293,22 +296,22 @@ fn some_bodies(alloc: Global, level: u32, m: &[u8], p: usize) -> Reached<Vec<Spa
 }
 
 #[cycle(body)]
-fn next_body(alloc: Global, level: u32, m: &[u8], p: usize) -> Reached<Option<Spanned>>
+fn next_body(alloc: Global, level: u32, m: &[u8], p: usize) -> Reached<Option<Box<Spanned>>>
     requires { p ≤ length m.now }
-    ensures steps { GivesAt (λ x. option_map (body_in m.now) x) m.now result (step (opt (bodies.body level)) (drop p m.now)) }
+    ensures steps { GivesAt (λ x. option_map (boxed_in m.now) x) m.now result (step (opt (bodies.body level)) (drop p m.now)) }
     ensures ahead { Ahead m.now p result }
-    ensures rests { RestsOn (λ n x. option_map (body_in n) x) result }
+    ensures rests { RestsOn (λ n x. option_map (boxed_in n) x) result }
 {
     maybe!(body(alloc, level, m, p), p)
 }
 
 /// A body, up to `MAX_BODY_DEPTH` inside one another (RFC 3501, section 9: body).
 #[tactic(auto, unfolding(crate::specs::Bodies::body_structure))]
-pub fn body_structure(alloc: Global, m: &[u8], p: usize) -> Reached<Spanned>
+pub fn body_structure(alloc: Global, m: &[u8], p: usize) -> Reached<Box<Spanned>>
     requires { p ≤ length m.now }
-    ensures steps { GivesAt (λ x. body_in m.now x) m.now result (step bodies.body_structure (drop p m.now)) }
+    ensures steps { GivesAt (λ x. boxed_in m.now x) m.now result (step bodies.body_structure (drop p m.now)) }
     ensures ahead { Ahead m.now p result }
-    ensures rests { RestsOn body_in result }
+    ensures rests { RestsOn boxed_in result }
 {
     body(alloc, MAX_BODY_DEPTH, m, p)
 }

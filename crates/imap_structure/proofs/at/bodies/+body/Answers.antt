@@ -3,9 +3,9 @@ use Rattle.std.proofs.lemmas.Result.{err_from_is_err_and}
 use Rattle.imap_grammar.specs.Positions.{GivesAt}
 use Rattle.imap_grammar.proofs.Positions.{rests_more}
 use Rattle.imap_structure.specs.Bodies.{body, some_bodies}
-use Rattle.imap_structure.specs.Spanned.{body_in}
+use Rattle.imap_structure.specs.Spanned.{body_in, boxed_in}
 use Rattle.imap_structure.proofs.Naming.{something_rests, itself_rests}
-use Rattle.imap_structure.proofs.Reading.{message_rests, multipart_rests, message_reads, multipart_reads}
+use Rattle.imap_structure.proofs.Reading.{message_rests, multipart_rests, message_reads, multipart_reads, boxed_rests, unboxed_rests}
 use Rattle.imap_structure.proofs.Levels.{body_below, body_takes}
 use Rattle.imap_structure.proofs.Gathering.{first, next, all, halted, onward, alone, together}
 use Rattle.imap_structure.proofs.at.bodies.+body.Goals as goal
@@ -16,7 +16,7 @@ body-returns-then-level-eq0-clause-steps t c = rw c.if-level-eq0.true refl
 
 pub body-returns-clause-steps : goal.body-returns-clause-steps
 body-returns-clause-steps t c =
-    subst (λ s. GivesAt (λ x. body_in c.args.m.now x) c.args.m.now c.bracketed_body.result s) (sym (body_below c.args.level (drop c.args.p c.args.m.now) c.if-level-eq0.false)) c.bracketed_body.ensures.steps
+    subst (λ s. GivesAt (λ x. boxed_in c.args.m.now x) c.args.m.now c.bracketed_body.result s) (sym (body_below c.args.level (drop c.args.p c.args.m.now) c.if-level-eq0.false)) c.bracketed_body.ensures.steps
 
 pub bracketed_body-returns-clause-rests : goal.bracketed_body-returns-clause-rests
 bracketed_body-returns-clause-rests t c = rests_more _ (omega (arith, c.in_ok-p-3.ensures.inside)) c.in_ok-p-2.ensures.rests
@@ -26,7 +26,7 @@ body_type_mpart-returns-clause-rests t c =
     let q = c.in_ok-p-3.p in
     let e2 : c.in_ok-p-2.p ≤ q = omega (arith, c.in_ok-p-3.ensures.ahead) in
     let e1 : c.in_ok-p.p ≤ q = omega (arith, e2, c.in_ok-p-2.ensures.ahead) in
-    multipart_rests q _ _ _ (rests_more q e1 c.in_ok-p.ensures.rests) (rests_more q e2 c.in_ok-p-2.ensures.rests) c.in_ok-p-3.ensures.rests
+    boxed_rests q _ _ c.in_ok-body.ensures.ok (multipart_rests q _ _ _ (rests_more q e1 c.in_ok-p.ensures.rests) (rests_more q e2 c.in_ok-p-2.ensures.rests) c.in_ok-p-3.ensures.rests)
 
 pub body_type_msg-returns-clause-rests : goal.body_type_msg-returns-clause-rests
 body_type_msg-returns-clause-rests t c =
@@ -35,23 +35,23 @@ body_type_msg-returns-clause-rests t c =
     let e4 : c.in_ok-p-4.p ≤ q = omega (arith, e5, c.in_ok-p-5.ensures.ahead) in
     let e3 : c.in_ok-p-3.p ≤ q = omega (arith, e4, c.in_ok-p-4.ensures.ahead) in
     let e2 : c.in_ok-p-2.p ≤ q = omega (arith, e3, c.in_ok-p-3.ensures.ahead) in
-    message_rests q _ _ _ _ _ (rests_more q e2 c.in_ok-p-2.ensures.rests) (rests_more q e3 c.in_ok-p-3.ensures.rests) (rw c.in_ok-body.ensures.ok (rests_more q e4 c.in_ok-p-4.ensures.rests)) c.in_ok-p-6.ensures.rests
+    boxed_rests q _ _ c.in_ok-body.ensures.ok (message_rests q _ _ _ _ _ (rests_more q e2 c.in_ok-p-2.ensures.rests) (rests_more q e3 c.in_ok-p-3.ensures.rests) (unboxed_rests q _ (rests_more q e4 c.in_ok-p-4.ensures.rests)) c.in_ok-p-6.ensures.rests)
 
 pub body_type_msg-returns-clause-steps : goal.body_type_msg-returns-clause-steps
 body_type_msg-returns-clause-steps t c =
-    message_reads c.args.level _ _ _ _ _ _ _ _ _ _ _ c.in_ok-p-4.inner _ _ _ c.in_ok-body.ensures.ok c.in_ok-p.ensures.steps c.in_ok-p-2.ensures.steps c.in_ok-p-3.ensures.steps c.in_ok-p-4.ensures.steps c.in_ok-p-5.ensures.steps c.in_ok-p-6.ensures.steps
+    rw c.in_ok-body.ensures.ok (message_reads c.args.level _ _ _ _ _ _ _ _ _ _ _ c.in_ok-p-4.inner.value c.in_ok-p-4.inner _ _ refl c.in_ok-p.ensures.steps c.in_ok-p-2.ensures.steps c.in_ok-p-3.ensures.steps c.in_ok-p-4.ensures.steps c.in_ok-p-5.ensures.steps c.in_ok-p-6.ensures.steps)
 
 pub body_type_mpart-returns-clause-steps : goal.body_type_mpart-returns-clause-steps
-body_type_mpart-returns-clause-steps t c = multipart_reads c.args.level _ _ _ _ _ _ _ _ c.in_ok-p.ensures.steps c.in_ok-p-2.ensures.steps c.in_ok-p-3.ensures.steps
+body_type_mpart-returns-clause-steps t c = rw c.in_ok-body.ensures.ok (multipart_reads c.args.level _ _ _ _ _ _ _ _ c.in_ok-p.ensures.steps c.in_ok-p-2.ensures.steps c.in_ok-p-3.ensures.steps)
 
 pub next_body-returns-in-Ok-maybe-clause-rests : goal.next_body-returns-in-Ok-maybe-clause-rests
-next_body-returns-in-Ok-maybe-clause-rests t c = something_rests body_in _ _ c.in-Ok-maybe.ensures.rests
+next_body-returns-in-Ok-maybe-clause-rests t c = something_rests boxed_in _ _ c.in-Ok-maybe.ensures.rests
 
 pub some_bodies-bodies-init : goal.some_bodies-bodies-init
 some_bodies-bodies-init t c =
     record {
-      gathered = rw c.in_ok-items.ensures (first (body c.args.level) (body c.args.level) _ _ _ c.in_ok-q.ensures.steps);
-      rests = rw c.in_ok-items.ensures (alone body_in _ _ c.in_ok-q.ensures.rests);
+      gathered = rw c.in_ok-items.ensures (rw c.into_inner.ensures (first (body c.args.level) (body c.args.level) _ _ _ c.in_ok-q.ensures.steps));
+      rests = rw c.in_ok-items.ensures (rw c.into_inner.ensures (alone body_in _ _ (unboxed_rests _ _ c.in_ok-q.ensures.rests)));
       ahead = c.in_ok-q.ensures.ahead.0;
       within = c.in_ok-q.ensures.ahead.1;
     }
@@ -64,8 +64,8 @@ some_bodies-bodies-smaller t c =
 pub some_bodies-bodies-preserved : goal.some_bodies-bodies-preserved
 some_bodies-bodies-preserved t c =
     record {
-      gathered = rw c.in_ok-push-in-Some.ensures.items (next (body_in c.args.m.now) _ (body c.args.level) _ _ _ c.in-Some.body c.bodies.invariant.gathered (rw c.in-Some.is at c.in_ok-after.ensures.steps) (body_takes c.args.level));
-      rests = rw c.in_ok-push-in-Some.ensures.items (together body_in _ _ _ _ (c.in_ok-after.ensures.ahead.0) c.bodies.invariant.rests (itself_rests body_in _ _ (rw c.in-Some.is at c.in_ok-after.ensures.rests)));
+      gathered = rw c.in_ok-push-in-Some.ensures.items (rw c.into_inner-in-Some.ensures (next (body_in c.args.m.now) _ (body c.args.level) _ _ _ c.in-Some.body.value c.bodies.invariant.gathered (rw c.in-Some.is at c.in_ok-after.ensures.steps) (body_takes c.args.level)));
+      rests = rw c.in_ok-push-in-Some.ensures.items (rw c.into_inner-in-Some.ensures (together body_in _ _ _ _ (c.in_ok-after.ensures.ahead.0) c.bodies.invariant.rests (unboxed_rests _ _ (itself_rests boxed_in _ _ (rw c.in-Some.is at c.in_ok-after.ensures.rests)))));
       ahead = omega (arith, c.bodies.invariant.ahead, c.in_ok-after.ensures.ahead);
       within = c.in_ok-after.ensures.ahead.1;
     }

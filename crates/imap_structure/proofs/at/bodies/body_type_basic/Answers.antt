@@ -1,6 +1,6 @@
 use Rattle.std.proofs.Common.{arith, ◌≤◌}
 use Rattle.imap_grammar.proofs.Positions.{rests_more}
-use Rattle.imap_structure.proofs.Reading.{basic_rests, basic_reads}
+use Rattle.imap_structure.proofs.Reading.{basic_rests, basic_reads, boxed_rests}
 use Rattle.imap_structure.proofs.at.bodies.body_type_basic.Goals as goal
 
 pub returns-clause-rests : goal.returns-clause-rests
@@ -9,7 +9,7 @@ returns-clause-rests c =
     let e3 : c.in_ok-p-3.p ≤ q = omega (arith, c.in_ok-p-4.ensures.ahead) in
     let e2 : c.in_ok-p-2.p ≤ q = omega (arith, e3, c.in_ok-p-3.ensures.ahead) in
     let e1 : c.in_ok-p.p ≤ q = omega (arith, e2, c.in_ok-p-2.ensures.ahead) in
-    basic_rests q _ _ _ _ (rests_more q e1 c.in_ok-p.ensures.rests) (rests_more q e2 c.in_ok-p-2.ensures.rests) (rests_more q e3 c.in_ok-p-3.ensures.rests) c.in_ok-p-4.ensures.rests
+    boxed_rests q _ _ c.in_ok-body.ensures.ok (basic_rests q _ _ _ _ (rests_more q e1 c.in_ok-p.ensures.rests) (rests_more q e2 c.in_ok-p-2.ensures.rests) (rests_more q e3 c.in_ok-p-3.ensures.rests) c.in_ok-p-4.ensures.rests)
 
 pub returns-clause-steps : goal.returns-clause-steps
-returns-clause-steps c = basic_reads _ _ _ _ _ _ _ _ _ _ c.in_ok-p.ensures.steps c.in_ok-p-2.ensures.steps c.in_ok-p-3.ensures.steps c.in_ok-p-4.ensures.steps
+returns-clause-steps c = rw c.in_ok-body.ensures.ok (basic_reads _ _ _ _ _ _ _ _ _ _ c.in_ok-p.ensures.steps c.in_ok-p-2.ensures.steps c.in_ok-p-3.ensures.steps c.in_ok-p-4.ensures.steps)
