@@ -2,6 +2,7 @@
 #![tactic(auto)]
 
 use imap_proto::builders::command::{Command, CommandBuilder};
+use imap_proto::stream::Feed;
 use imap_proto::{MailboxDatum, Response};
 use std::io::Read;
 
@@ -9,21 +10,22 @@ fn main(rt: HostRuntime) -> anyhow::Result<()> {
     let select = Command::from(CommandBuilder::select(rt.alloc(), "a \"b\"")?);
     println!(rt; "send: a1 {}", str::from_utf8(&select.args)?)?;
 
-    let mut input = Vec::new(rt.alloc());
-    rt.reader().read_to_end(&mut input)?;
-    let mut bytes = input.as_slice();
-    // Each response takes at least one byte.
-    for _ in 0..input.len() {
-        let (rest, response) = match Response::parse(rt.alloc(), bytes) {
-            Ok(answer) => answer,
-            Err(error) => return Ok(println!(rt; "{} bytes are left: {error:?}", bytes.len())?),
-        };
-        match response {
-            Response::MailboxData(MailboxDatum::Exists(n)) => println!(rt; "{n} messages")?,
-            Response::Done { status, .. } => println!(rt; "done: {status:?}")?,
-            other => println!(rt; "{other:?}")?,
+    let mut reader = rt.reader();
+    let mut buffer = [0; 4096];
+    let mut feed = Feed::new(rt.alloc());
+    'reads: for _ in 0..u64::MAX {
+        let n = reader.read(&mut buffer)?;
+        if n == 0 {
+            break;
         }
-        bytes = rest;
+        feed.feed(&buffer[..n])?;
+        'responses: while let Some(response) = feed.next()? {
+            match response {
+                Response::MailboxData(MailboxDatum::Exists(n)) => println!(rt; "{n} messages")?,
+                Response::Done { status, .. } => println!(rt; "done: {status:?}")?,
+                other => println!(rt; "{other:?}")?,
+            }
+        }
     }
-    Ok(())
+    Ok(println!(rt; "{} bytes wait", feed.held().len())?)
 }

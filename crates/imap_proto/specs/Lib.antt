@@ -4,6 +4,7 @@ pub mod Lines
 pub mod Memory
 pub mod Kept
 pub mod Streams
+pub mod Feeds
 pub mod Owned
 pub mod OutcomeTexts
 pub mod LineTexts

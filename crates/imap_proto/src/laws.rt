@@ -8,6 +8,7 @@ ghost use Rattle.imap_command.specs.Apart.{CallsToldApart};
 ghost use Rattle.imap_proto.specs.Outcomes as outcomes;
 ghost use Rattle.imap_proto.specs.Lines as rule;
 ghost use Rattle.imap_proto.specs.Streams.{SomeSplit, OneSplit, BeginningsWait, SplitsGoOn, FeedsSplit, CuttingsAlike};
+ghost use Rattle.imap_proto.specs.Feeds.{OneWhole};
 ghost use Rattle.imap_grammar.specs.ReadBack.{Spells};
 ghost use Rattle.imap_proto.specs.LineTexts.{spells_response, CanonicalReadsBack, Same};
 ghost use Rattle.imap_proto.specs.Responses.{ResponseValue, outcome_value, response_value, lent_outcome, lent_response};
@@ -36,7 +37,7 @@ pub fn stable()
 {}
 
 /// A stream of responses has one split, however its bytes are cut into pieces; and what a response consumed waits until its last byte is there.
-#[tactic(auto, using(crate::proofs::Streams::some_split, crate::proofs::Streams::one_split, crate::proofs::Streams::beginnings_wait, crate::proofs::Streams::splits_go_on, crate::proofs::Streams::feeds_split, crate::proofs::Streams::cuttings_alike))]
+#[tactic(auto, using(crate::proofs::Streams::some_split, crate::proofs::Streams::one_split, crate::proofs::Streams::beginnings_wait, crate::proofs::Streams::splits_go_on, crate::proofs::Streams::feeds_split, crate::proofs::Streams::cuttings_alike, crate::proofs::Wholes::one_whole))]
 pub fn streams()
     ensures some_split { SomeSplit }
     ensures one_split { OneSplit }
@@ -44,6 +45,7 @@ pub fn streams()
     ensures splits_go_on { SplitsGoOn }
     ensures feeds_split { FeedsSplit }
     ensures cuttings_alike { CuttingsAlike }
+    ensures one_whole { OneWhole }
 {}
 
 /// What the grammar takes spells the response. And a response that it yields on some bytes, it yields again on the response's canonical text, with all texts borrowed,

@@ -1,4 +1,17 @@
-//! Streams: bytes that come in pieces, and the responses in them.
+//! Streams: bytes that come in pieces, and the responses in them (RFC 3501, section 2.2.2).
+//!
+//! However the bytes are cut into pieces, the same responses come of them: `laws::streams`.
+
+ghost use Rattle.std.specs.Prelude.{◌≡◌, ◌≤◌, ◌<◌, ◌++◌, [], List, ℕ, length, map, drop, IfOk, IfErr, IfSome, OnOk, OnErr};
+ghost use Rattle.imap_proto.specs.declared.stream.FeedError.TheVariants.{OutOfMemory};
+ghost use Rattle.imap_proto.specs.Streams.{joined};
+ghost use Rattle.imap_proto.specs.Feeds.{Gave, IsOwnedFront, WaitsFor, RefusesAs, Takes, IsWhole};
+
+use crate::response::Response;
+use imap_bytes::{Err, Needed};
+use std::alloc::{AllocError, Global};
+use std::marker::Model;
+use thiserror::Error;
 
 /// Why a stream gives no more responses.
 #[derive(Clone, Copy, Debug, PartialEq, Eq)]
@@ -7,4 +20,189 @@ pub enum End {
     Waits,
     /// No response begins with what is left.
     Denied,
+}
+
+/// Why a feed gives no answer. The feed is then as it was before.
+#[derive(Clone, Copy, Debug, PartialEq, Eq, Error)]
+pub enum FeedError {
+    /// No response begins with what it holds, whatever is fed behind that.
+    #[error("denied")]
+    Denied,
+    /// Memory ran out.
+    #[error("out of memory")]
+    OutOfMemory,
+}
+
+impl From<AllocError> for FeedError {
+    ghost from_gives = { λ _ e. e ≡ OutOfMemory };
+
+    fn from(_error: AllocError) -> FeedError {
+        FeedError::OutOfMemory
+    }
+}
+
+/// Bytes of a server that come in pieces, and that give their responses one by one.
+///
+/// What is given is dropped from the front, and what is behind it is moved there only when more than half of all bytes
+/// are spent: so the responses of a piece cost time in proportion to their bytes. Where a literal lacks n bytes, nothing
+/// is read again until n bytes more were fed. Where it isn't known how many are lacking, the line is read from its
+/// start after each piece, since it may be denied by then: a line of L bytes in pieces of p costs about L * L / 2p
+/// bytes read. The feed has no limit of its own. A caller who fears such lines stops feeding where `held` grows too long.
+#[derive(Drop)]
+pub struct Feed {
+    alloc: Global,
+    bytes: Vec<u8>,
+    // What is held is what stands from here on.
+    start: usize,
+    // What is held waits, whatever comes, until so many bytes more were fed.
+    wanted: usize,
+}
+
+impl Model for Feed {
+    ghost Value = { List ℕ };
+
+    ghost view = { λ f. drop f.start f.bytes.items };
+
+    ghost invariant = { λ f. (f.start ≤ length f.bytes.items) × WaitsFor (drop f.start f.bytes.items) f.wanted };
+}
+
+// Drops the bytes in front of the start, where they are more than half of all, and tells the new start. What is moved is less than what is dropped.
+fn compacted(bytes: &mut Vec<u8>, start: usize) -> usize
+    requires { start ≤ length bytes.old.items }
+    ensures within { result ≤ length bytes.new.items }
+    ensures same { drop result bytes.new.items ≡ drop start bytes.old.items }
+{
+    let held = bytes.len() - start;
+    if start <= held {
+        return start;
+    }
+    bytes.copy_within(start.., 0);
+    bytes.truncate(held);
+    0
+}
+
+// The response at the front with all its texts owned, and how many bytes are behind it.
+fn owned_front(alloc: Global, held: &[u8]) -> Result<(usize, Response<'static>), Err>
+    ensures front { IsOwnedFront held.now result }
+    ensures within { IfOk result (λ x. x.0 ≤ length held.now) }
+{
+    match Response::parse(alloc, held) {
+        Ok((rest, response)) => Ok((rest.len(), response.into_owned(alloc)?)),
+        Err(error) => Err(error),
+    }
+}
+
+impl Feed {
+    /// A feed that holds nothing. No memory.
+    pub fn new(alloc: Global) -> Feed
+        ensures { result ≡ [] }
+    {
+        Feed {
+            alloc,
+            bytes: Vec::new(alloc),
+            start: 0,
+            wanted: 1,
+        }
+    }
+
+    /// Puts a piece behind what it holds. It takes memory; `Err` where there is none, and the feed is then as it was.
+    pub fn feed(&mut self, piece: &[u8]) -> Result<(), AllocError>
+        ensures fed { OnOk result (self.new ≡ self.old ++ piece.now) }
+        ensures kept { OnErr result (self.new ≡ self.old) }
+    {
+        self.bytes.extend_from_slice(piece)?;
+        self.wanted = self.wanted.saturating_sub(piece.len());
+        Ok(())
+    }
+
+    /// What it was fed and has not yet given. No memory.
+    pub fn held(&self) -> &[u8]
+        ensures { result.now ≡ self.now }
+    {
+        let (_, held) = self.bytes.split_at(self.start);
+        held
+    }
+
+    /// The response at the front of what it holds, with all its texts owned; its bytes are held no longer. `None` where more bytes are
+    /// needed, or nothing is held.
+    ///
+    /// `Denied`: no response begins so, and every later call says that again, whatever is fed, or `OutOfMemory`. `OutOfMemory`: it takes
+    /// memory, and there was none; the same call may be made again. Both leave what is held.
+    /// A response takes at least one byte, so a loop over `next` ends.
+    pub fn next(&mut self) -> Result<Option<Response<'static>>, FeedError>
+        ensures gives { IfOk result (λ r. Gave self.old r self.new) }
+        ensures fewer { IfOk result (λ r. IfSome r (λ _. length self.new < length self.old)) }
+        ensures denied { IfErr result (RefusesAs self.old) }
+        ensures kept { OnErr result (self.new ≡ self.old) }
+    {
+        if self.wanted > 0 {
+            return Ok(None);
+        }
+        match owned_front(self.alloc, self.held()) {
+            Ok((left, response)) => {
+                let start = self.bytes.len() - left;
+                self.start = compacted(&mut self.bytes, start);
+                Ok(Some(response))
+            }
+            Err(Err::Incomplete(Needed::Size(n))) => {
+                self.wanted = n;
+                Ok(None)
+            }
+            Err(Err::Incomplete(Needed::Unknown)) => {
+                self.wanted = 1;
+                Ok(None)
+            }
+            Err(Err::Error) => Err(FeedError::Denied),
+            Err(Err::Failure) => Err(FeedError::OutOfMemory),
+        }
+    }
+}
+
+/// What stands in the pieces of a stream.
+#[derive(Debug, Drop, PartialEq, Eq)]
+pub struct Whole {
+    /// The responses, one behind another, with all their texts owned.
+    pub responses: Vec<Response<'static>>,
+    /// The bytes behind them.
+    pub rest: Vec<u8>,
+    /// Why these give no response; `Waits` where there are none.
+    pub end: End,
+}
+
+// Takes the responses that a feed has, puts them behind the others, and tells why it gives no more.
+fn take_all(feed: &mut Feed, responses: &mut Vec<Response<'static>>) -> Result<End, AllocError>
+    ensures { IfOk result (Takes feed.old responses.old.items feed.new responses.new.items) }
+{
+    'responses: loop {
+        match feed.next() {
+            Ok(Some(response)) => responses.push(response)?,
+            Ok(None) => return Ok(End::Waits),
+            Err(FeedError::Denied) => return Ok(End::Denied),
+            Err(FeedError::OutOfMemory) => return Err(AllocError),
+        }
+    }
+}
+
+/// All responses that stand in the pieces, one behind another, and what is left behind them.
+///
+/// It takes memory; `Err` where there is none. Behind a denial no response is read.
+pub fn read_pieces(alloc: Global, pieces: &[&[u8]]) -> Result<Whole, AllocError>
+    ensures whole { IfOk result (IsWhole (joined (map (λ p. p.now) pieces.now))) }
+{
+    let mut feed = Feed::new(alloc);
+    let mut responses = Vec::new(alloc);
+    let mut end = End::Waits;
+    for piece in pieces {
+        feed.feed(piece)?;
+        match end {
+            End::Waits => end = take_all(&mut feed, &mut responses)?,
+            End::Denied => {}
+        }
+    }
+    let rest = Vec::from_slice(alloc, feed.held())?;
+    Ok(Whole {
+        responses,
+        rest,
+        end,
+    })
 }

@@ -1,0 +1,6 @@
+use Rattle.std.proofs.Common.{length}
+use Rattle.imap_example.proofs.main.Given as goal
+
+-- a response takes at least a byte of what is held
+abbrev pub decreases-responses : goal.decreases-responses
+decreases-responses l = length l.feed

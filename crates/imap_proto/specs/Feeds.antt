@@ -1,0 +1,51 @@
+-- Feeds: what a call gives of the bytes that are held, and what stands in all the pieces of a stream.
+use Rattle.std.specs.Prelude.{◌≡◌, ℕ, ◌<◌, List, ◌++◌, length, map, Option, None, Some, Result, Ok, Err}
+use Rattle.imap_grammar.specs.declared.answer.Err.{Err as Fault}
+use Rattle.imap_grammar.specs.Answer.{Stops}
+use Rattle.imap_grammar.specs.Meaning.{Denies}
+use Rattle.imap_grammar.specs.Rule.{meaning}
+use Rattle.imap_grammar.specs.Step.{step}
+use Rattle.imap_grammar.specs.Text.{Bytes}
+use Rattle.imap_proto.specs.declared.response.Response.{Response}
+use Rattle.imap_proto.specs.declared.stream.End.{End}
+use Rattle.imap_proto.specs.declared.stream.FeedError.{FeedError}
+use Rattle.imap_proto.specs.declared.stream.FeedError.TheVariants.{Denied, OutOfMemory}
+use Rattle.imap_proto.specs.declared.stream.Whole.{Whole}
+use Rattle.imap_proto.specs.Responses.{ResponseValue, response_value}
+use Rattle.imap_proto.specs.Owned.{owned_response}
+use Rattle.imap_proto.specs.Lines.{response}
+use Rattle.imap_proto.specs.Streams.{Waiting, Splits}
+
+-- what is held waits until so many bytes were put behind it
+abbrev pub WaitsFor : Bytes → ℕ → Type 0
+WaitsFor held n = (more : Bytes) → length more < n → Waiting (held ++ more)
+
+-- what stands at the front of m, as the grammar answers: a response, with all its texts owned, and how many bytes are behind it; or why there is none
+abbrev pub IsOwnedFront : Bytes → Result (ℕ × Response) Fault → Type 0
+IsOwnedFront m (Ok x) = (v : ResponseValue) × (rest : Bytes) × (step response m ≡ Ok (rest, v)) × (x.0 ≡ length rest) × (response_value x.1 ≡ owned_response v)
+IsOwnedFront m (Err e) = Stops e (step response m)
+
+-- What a feed gave of what it held, and what it holds then: the response at the front, with all its texts owned, and what is behind it;
+-- or none, where what it holds waits.
+abbrev pub Gave : Bytes → Option Response → Bytes → Type 0
+Gave held (Some r) left = (v : ResponseValue) × (meaning response).yields held v left × (response_value r ≡ owned_response v)
+Gave held None left = Waiting held × (left ≡ held)
+
+-- it is denied only where no response begins with what is held, whatever is put behind it
+abbrev pub RefusesAs : Bytes → FeedError → Type 0
+RefusesAs held Denied = Denies (meaning response) held
+RefusesAs held OutOfMemory = Unit {0}
+
+-- all responses of the split of what was held were put behind the others, with their texts owned
+abbrev pub Takes : Bytes → List Response → Bytes → List Response → End → Type 0
+Takes held before left after end = (vs : List ResponseValue) × (map response_value after ≡ map response_value before ++ map owned_response vs) × Splits held vs left end
+
+-- the split of m, the texts of its responses owned
+abbrev pub IsWhole : Bytes → Whole → Type 0
+IsWhole m w = (vs : List ResponseValue) × (map response_value w.responses.items ≡ map owned_response vs) × Splits m vs w.rest.items w.end
+
+-- ---- law
+
+-- the bytes alone tell the whole, and not where they were cut
+abbrev pub OneWhole : Type 0
+OneWhole = (m : Bytes) (w x : Whole) → IsWhole m w → IsWhole m x → (map response_value w.responses.items ≡ map response_value x.responses.items) × (w.rest.items ≡ x.rest.items) × (w.end ≡ x.end)
