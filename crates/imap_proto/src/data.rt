@@ -1,4 +1,6 @@
 //! What a data line says. Each reader of a datum ends its line, so that a response is made in one place.
+//!
+//! These readers are calls of their own: inlined into one another, each would clear the slots of all the others' values at each response.
 
 ghost use Rattle.std.specs.Prelude.{◌≡◌, ◌<◌, length, map, position, IfSome};
 ghost use Rattle.imap_grammar.specs.Answer.{Exactly, Gives};
@@ -69,6 +71,7 @@ macro_rules! line {
 }
 
 #[tactic(auto, unfolding(crate::specs::Lines::status_line, crate::specs::Lines::status_data))]
+#[inline(never)]
 fn status_line(alloc: Global, i: &[u8]) -> IResult<&[u8], Response<'_>>
     ensures steps { Gives response_value result (step rule.status_line i.now) }
     ensures memory { SucceedsFor TakesNone rule.status_line i.now result }
@@ -89,6 +92,7 @@ fn fetched(alloc: Global, i: &[u8]) -> IResult<&[u8], Vec<AttributeValue<'_>>>
 
 // The number is read once, whichever word stands behind it.
 #[tactic(auto, unfolding(crate::specs::Lines::numbered_line, crate::specs::Lines::expunge, crate::specs::Lines::fetch, imap_data::specs::MailboxData::exists, imap_data::specs::MailboxData::recent))]
+#[inline(never)]
 fn numbered_line(alloc: Global, i: &[u8]) -> IResult<&[u8], Response<'_>>
     ensures steps { Gives response_value result (step rule.numbered_line i.now) }
     ensures memory { SucceedsFor TakesNone rule.numbered_line i.now result }
@@ -102,6 +106,7 @@ fn numbered_line(alloc: Global, i: &[u8]) -> IResult<&[u8], Response<'_>>
 }
 
 #[tactic(auto, unfolding(crate::specs::Lines::mailbox_line))]
+#[inline(never)]
 fn mailbox_line(alloc: Global, i: &[u8]) -> IResult<&[u8], Response<'_>>
     ensures steps { Gives response_value result (step rule.mailbox_line i.now) }
     ensures memory { SucceedsFor TakesNone rule.mailbox_line i.now result }
@@ -111,6 +116,7 @@ fn mailbox_line(alloc: Global, i: &[u8]) -> IResult<&[u8], Response<'_>>
 }
 
 #[tactic(auto, unfolding(crate::specs::Lines::list_line))]
+#[inline(never)]
 fn list_line(alloc: Global, i: &[u8]) -> IResult<&[u8], Response<'_>>
     ensures steps { Gives response_value result (step rule.list_line i.now) }
     ensures memory { SucceedsFor TakesNone rule.list_line i.now result }
@@ -121,6 +127,7 @@ fn list_line(alloc: Global, i: &[u8]) -> IResult<&[u8], Response<'_>>
 }
 
 #[tactic(auto, unfolding(crate::specs::Lines::capability_line))]
+#[inline(never)]
 fn capability_line(alloc: Global, i: &[u8]) -> IResult<&[u8], Response<'_>>
     ensures { Gives response_value result (step rule.capability_line i.now) }
 {
@@ -129,6 +136,7 @@ fn capability_line(alloc: Global, i: &[u8]) -> IResult<&[u8], Response<'_>>
 }
 
 #[tactic(auto, unfolding(crate::specs::Lines::enabled_line))]
+#[inline(never)]
 fn enabled_line(alloc: Global, i: &[u8]) -> IResult<&[u8], Response<'_>>
     ensures { Gives response_value result (step rule.enabled_line i.now) }
 {
@@ -137,6 +145,7 @@ fn enabled_line(alloc: Global, i: &[u8]) -> IResult<&[u8], Response<'_>>
 }
 
 #[tactic(auto, unfolding(crate::specs::Lines::annotation_line))]
+#[inline(never)]
 fn annotation_line(alloc: Global, i: &[u8]) -> IResult<&[u8], Response<'_>>
     ensures { Gives response_value result (step rule.annotation_line i.now) }
 {
@@ -147,6 +156,7 @@ fn annotation_line(alloc: Global, i: &[u8]) -> IResult<&[u8], Response<'_>>
 }
 
 #[tactic(auto, unfolding(crate::specs::Lines::vanished_line, crate::specs::Lines::vanished_data))]
+#[inline(never)]
 fn vanished_line(alloc: Global, i: &[u8]) -> IResult<&[u8], Response<'_>>
     ensures { Gives response_value result (step rule.vanished_line i.now) }
 {
@@ -155,6 +165,7 @@ fn vanished_line(alloc: Global, i: &[u8]) -> IResult<&[u8], Response<'_>>
 }
 
 #[tactic(auto, unfolding(crate::specs::Lines::quota_line))]
+#[inline(never)]
 fn quota_line(alloc: Global, i: &[u8]) -> IResult<&[u8], Response<'_>>
     ensures { Gives response_value result (step rule.quota_line i.now) }
 {
@@ -164,6 +175,7 @@ fn quota_line(alloc: Global, i: &[u8]) -> IResult<&[u8], Response<'_>>
 }
 
 #[tactic(auto, unfolding(crate::specs::Lines::id_line))]
+#[inline(never)]
 fn id_line(alloc: Global, i: &[u8]) -> IResult<&[u8], Response<'_>>
     ensures { Gives response_value result (step rule.id_line i.now) }
 {
@@ -172,6 +184,7 @@ fn id_line(alloc: Global, i: &[u8]) -> IResult<&[u8], Response<'_>>
 }
 
 #[tactic(auto, unfolding(crate::specs::Lines::acl_line))]
+#[inline(never)]
 fn acl_line(alloc: Global, i: &[u8]) -> IResult<&[u8], Response<'_>>
     ensures { Gives response_value result (step rule.acl_line i.now) }
 {
@@ -181,6 +194,7 @@ fn acl_line(alloc: Global, i: &[u8]) -> IResult<&[u8], Response<'_>>
 
 /// A datum and the end of its line: of the alternatives those are tried, in order, that may start with the first byte.
 #[tactic(auto, using(crate::proofs::FirstBytes::datum_none, crate::proofs::FirstBytes::datum_of_status, crate::proofs::FirstBytes::datum_of_number, crate::proofs::FirstBytes::datum_of_mailbox, crate::proofs::FirstBytes::datum_of_list, crate::proofs::FirstBytes::datum_of_capability, crate::proofs::FirstBytes::datum_of_enabled, crate::proofs::FirstBytes::datum_of_annotation, crate::proofs::FirstBytes::datum_of_vanished, crate::proofs::FirstBytes::datum_of_quota, crate::proofs::FirstBytes::datum_of_id, crate::proofs::FirstBytes::datum_of_acl, crate::proofs::FirstBytes::datum_other))]
+#[inline(always)]
 pub(crate) fn datum_line(alloc: Global, i: &[u8]) -> IResult<&[u8], Response<'_>>
     ensures steps { Gives response_value result (step rule.ended_datum i.now) }
     ensures memory { SucceedsFor TakesNone rule.ended_datum i.now result }

@@ -20,6 +20,7 @@ use imap_data::readers::status;
 use std::alloc::Global;
 
 #[tactic(auto, unfolding(crate::specs::Lines::continuation))]
+#[inline(never)]
 fn continuation(alloc: Global, i: &[u8]) -> IResult<&[u8], Response<'_>>
     ensures steps { Gives response_value result (step rule.continuation i.now) }
     ensures memory { SucceedsFor TakesNone rule.continuation i.now result }
@@ -32,6 +33,7 @@ fn continuation(alloc: Global, i: &[u8]) -> IResult<&[u8], Response<'_>>
 }
 
 #[tactic(auto, unfolding(crate::specs::Lines::data_line))]
+#[inline(never)]
 fn data_line(alloc: Global, i: &[u8]) -> IResult<&[u8], Response<'_>>
     ensures steps { Gives response_value result (step rule.data_line i.now) }
     ensures memory { SucceedsFor TakesNone rule.data_line i.now result }
@@ -71,6 +73,7 @@ fn request_tag(i: &[u8]) -> IResult<&[u8], &str>
 }
 
 #[tactic(auto, unfolding(crate::specs::Lines::tagged))]
+#[inline(never)]
 fn tagged(alloc: Global, i: &[u8]) -> IResult<&[u8], Response<'_>>
     ensures { Gives response_value result (step rule.tagged i.now) }
 {
@@ -92,6 +95,7 @@ fn tagged(alloc: Global, i: &[u8]) -> IResult<&[u8], Response<'_>>
 
 /// A response: a continuation, a data line or a tagged line.
 #[tactic(auto, using(crate::proofs::FirstBytes::response_none, crate::proofs::FirstBytes::response_plus, crate::proofs::FirstBytes::response_star, crate::proofs::FirstBytes::response_other))]
+#[inline(never)]
 pub(crate) fn response(alloc: Global, i: &[u8]) -> IResult<&[u8], Response<'_>>
     ensures steps { Gives response_value result (step rule.response i.now) }
     ensures memory { SucceedsFor TakesNone rule.response i.now result }
