@@ -55,20 +55,27 @@ pub enum Response<'a> {
     Continue(Outcome<'a>),
     /// A tagged line: a command is done (RFC 3501, section 7.1).
     Done {
+        /// The command's tag.
         tag: RequestId,
+        /// How it went.
         status: Status,
+        /// The code and the text.
         outcome: Outcome<'a>,
     },
     /// An untagged status line (RFC 3501, section 7.1).
     Data {
+        /// How it went.
         status: Status,
+        /// The code and the text.
         outcome: Outcome<'a>,
     },
     /// `EXPUNGE` (RFC 3501, section 7.4.1).
     Expunge(u32),
     /// `VANISHED` (RFC 7162, section 3.2.10).
     Vanished {
+        /// Whether `(EARLIER)` stands there: the messages were gone before.
         earlier: bool,
+        /// The unique identifiers, range by range, as they stand.
         uids: Vec<RangeInclusive<u32>>,
     },
     /// `FETCH`: the number of a message and its attributes (RFC 3501, section 7.4.2).

@@ -7,27 +7,39 @@ use super::fields::{BodyParams, ContentEncoding};
 /// The type of a body's content (RFC 3501, section 9: media-basic, media-message, media-text).
 #[derive(Debug, Drop, PartialEq, Eq)]
 pub struct ContentType<S> {
+    /// The media type, as `TEXT`, in the server's case.
     pub ty: S,
+    /// The subtype, as `PLAIN`.
     pub subtype: S,
+    /// The parameters, as `CHARSET`; `None` is `NIL`.
     pub params: BodyParams<S>,
 }
 
 /// What every body says of its content.
 #[derive(Debug, Drop, PartialEq, Eq)]
 pub struct BodyContentCommon<S> {
+    /// The type of the content.
     pub ty: ContentType<S>,
+    /// How it is to be shown, if the server says so.
     pub disposition: Option<ContentDisposition<S>>,
+    /// The languages; `None` where they are `NIL` or not told.
     pub language: Option<Vec<S>>,
+    /// Where the content is, if the server says so.
     pub location: Option<S>,
 }
 
 /// What a single part says beyond that.
 #[derive(Debug, Drop, PartialEq, Eq)]
 pub struct BodyContentSinglePart<S> {
+    /// The content's id; `None` is `NIL`.
     pub id: Option<S>,
+    /// The content's MD5 in base64, if the server says so.
     pub md5: Option<S>,
+    /// The description, encoded words and all; `None` is `NIL`.
     pub description: Option<S>,
+    /// How the content is encoded.
     pub transfer_encoding: ContentEncoding<S>,
+    /// How many bytes the content has, as it is encoded.
     pub octets: u32,
 }
 
@@ -36,30 +48,46 @@ pub struct BodyContentSinglePart<S> {
 pub enum BodyStructure<S, B> {
     /// A single part of any other type (RFC 3501, section 9: body-type-basic).
     Basic {
+        /// What every body says.
         common: BodyContentCommon<S>,
+        /// What a single part says.
         other: BodyContentSinglePart<S>,
+        /// Extension data that later versions may define, if there is any.
         extension: Option<BodyExtension<S>>,
     },
     /// A text (RFC 3501, section 9: body-type-text).
     Text {
+        /// What every body says.
         common: BodyContentCommon<S>,
+        /// What a single part says.
         other: BodyContentSinglePart<S>,
+        /// How many lines the content has.
         lines: u32,
+        /// Extension data that later versions may define, if there is any.
         extension: Option<BodyExtension<S>>,
     },
     /// A message (RFC 3501, section 9: body-type-msg).
     Message {
+        /// What every body says.
         common: BodyContentCommon<S>,
+        /// What a single part says.
         other: BodyContentSinglePart<S>,
+        /// The envelope of the message.
         envelope: Envelope<B>,
+        /// The body of the message.
         body: Box<BodyStructure<S, B>>,
+        /// How many lines the content has.
         lines: u32,
+        /// Extension data that later versions may define, if there is any.
         extension: Option<BodyExtension<S>>,
     },
     /// Several parts (RFC 3501, section 9: body-type-mpart).
     Multipart {
+        /// What every body says.
         common: BodyContentCommon<S>,
+        /// The parts, in order; there is at least one.
         bodies: Vec<BodyStructure<S, B>>,
+        /// Extension data that later versions may define, if there is any.
         extension: Option<BodyExtension<S>>,
     },
 }

@@ -23,9 +23,14 @@ pub enum ContentEncoding<S> {
 /// The fields of a single part (RFC 3501, section 9: body-fields).
 #[derive(Drop)]
 pub struct BodyFields<S> {
+    /// The parameters of the type; `None` is `NIL`.
     pub param: BodyParams<S>,
+    /// The content's id; `None` is `NIL`.
     pub id: Option<S>,
+    /// The description; `None` is `NIL`.
     pub description: Option<S>,
+    /// How the content is encoded.
     pub transfer_encoding: ContentEncoding<S>,
+    /// How many bytes the content has, as it is encoded.
     pub octets: u32,
 }
