@@ -1,13 +1,17 @@
-//! Parts of body structures made by hand, with all texts owned.
+//! Whole lines, and parts of body structures made by hand, with all texts owned.
 
-use crate::answers::says;
+use crate::answers::{Rows, says};
+use crate::{codes, extensions, fetches, mailboxes, statuses};
 use imap_body::{
     BodyContentCommon, BodyContentSinglePart, BodyExt1Part, BodyExtMPart, ContentDisposition,
     ContentEncoding, ContentType,
 };
+use imap_proto::Response;
+use imap_proto::imap_core::IResult;
 use std::alloc::{AllocError, Global};
 use std::borrow::CowStr;
 use std::fmt::Debug;
+use std::process::Abort;
 use std::test::*;
 
 const NOTHING: &[u8] = b"";
@@ -129,4 +133,78 @@ fn extension_data(rt: HostRuntime) -> Result<(), Fail> {
         r#"(Some([("a", "b")]), Some(ContentDisposition { ty: "d", params: None }), None, Some("l"), None)"#;
     assert!(rt; shows_multipart(alloc, multipart.into_owned(alloc), want));
     Ok(())
+}
+
+// Whether an answer is told so when its response is made owned.
+fn says_owned(alloc: Global, answer: IResult<&[u8], Response<'_>>, want: &str) -> bool {
+    match answer {
+        Ok((rest, response)) => match response.into_owned(alloc) {
+            Ok(owned) => says(alloc, Ok((rest, owned)), want),
+            Err(_) => false,
+        },
+        Err(error) => says(alloc, Err::<(&[u8], Response<'static>), _>(error), want),
+    }
+}
+
+// Asserts that each line of the tables is told as its row says when its response is made owned.
+fn assert_owned(rt: &impl Abort, alloc: Global, tables: &[Rows]) {
+    for rows in tables {
+        for (line, want) in *rows {
+            assert!(rt;
+                says_owned(alloc, Response::parse(alloc, line), want),
+                "{want}"
+            );
+        }
+    }
+}
+
+// The tables of whole lines have each variant of each enum.
+#[test]
+fn whole_lines(rt: HostRuntime) {
+    assert_owned(&rt, rt.alloc(), statuses::LINES);
+    assert_owned(&rt, rt.alloc(), codes::LINES);
+    assert_owned(&rt, rt.alloc(), mailboxes::LINES);
+    assert_owned(&rt, rt.alloc(), extensions::LINES);
+    assert_owned(&rt, rt.alloc(), fetches::LINES);
+}
+
+// The response at the front of a copy of these bytes, made owned: the copy is gone when it is answered.
+fn response_alone(alloc: Global, line: &[u8]) -> Option<Response<'static>> {
+    let copy = Vec::from_slice(alloc, line).ok()?;
+    match Response::parse(alloc, copy.as_slice()) {
+        Ok((_, response)) => response.into_owned(alloc).ok(),
+        Err(_) => None,
+    }
+}
+
+// Whether a response that outlives its bytes is told so.
+fn says_alone(alloc: Global, line: &[u8], want: &str) -> bool {
+    match response_alone(alloc, line) {
+        Some(response) => says(alloc, Ok((NOTHING, response)), want),
+        None => false,
+    }
+}
+
+const READ: Rows = &[
+    (
+        b"* CAPABILITY IMAP4rev1 AUTH=PLAIN IDLE\r\n",
+        r#"Capabilities([Imap4rev1, Auth("PLAIN"), Atom("IDLE")])"#,
+    ),
+    (
+        b"a1 OK [PERMANENTFLAGS (\\Seen \\*)] done \xff\r\n",
+        "Done { tag: RequestId(\"a1\"), status: Ok, outcome: Outcome { code: Some(PermanentFlags([\"\\\\Seen\", \"\\\\*\"])), information: Some(\"done \u{fffd}\") } }",
+    ),
+    (b"* 2 FETCH (UID 7)\r\n", "Fetch(2, [Uid(7)])"),
+    (b"* ID (\"a\" \"1\")\r\n", r#"Id(Some({"a": "1"}))"#),
+    (
+        b"* QUOTAROOT b a c\r\n",
+        r#"QuotaRoot(QuotaRoot { mailbox_name: "b", quota_root_names: ["a", "c"] })"#,
+    ),
+];
+
+#[test]
+fn bytes_that_are_gone(rt: HostRuntime) {
+    for (line, want) in READ {
+        assert!(rt; says_alone(rt.alloc(), line, want), "{want}");
+    }
 }
