@@ -1,5 +1,6 @@
 //! What an answer says, as text.
 
+use crate::streams::may_be_cut;
 use imap_bytes::Err;
 use imap_bytes::texts::decode;
 use imap_proto::Response;
@@ -64,11 +65,12 @@ pub fn says_bytes(alloc: Global, answer: IResult<&[u8], &[u8]>, want: &str) -> b
     }
 }
 
-/// Asserts that `Response::parse` answers each line of the tables as its row says.
+/// Asserts that `Response::parse` answers each line of the tables as its row says, and that the line may be cut anywhere.
 pub fn assert_lines(rt: &impl Abort, alloc: Global, tables: &[Rows]) {
     for rows in tables {
         for (line, want) in *rows {
             assert!(rt; says(alloc, Response::parse(alloc, line), want), "{want}");
+            assert!(rt; may_be_cut(alloc, line), "{want}");
         }
     }
 }

@@ -44,4 +44,6 @@ mod sizes;
 #[cfg(test)]
 mod statuses;
 #[cfg(test)]
+mod streams;
+#[cfg(test)]
 mod texts;

@@ -1,0 +1,160 @@
+//! Streams: responses in bytes that come in pieces, whether a line may be cut, and hostile lines.
+
+ghost use Rattle.std.specs.Prelude.{◌<◌};
+
+use crate::answers::{Rows, assert_lines, says};
+use imap_proto::Response;
+use imap_proto::imap_core::Err;
+use imap_proto::stream::{Feed, read_pieces};
+use std::alloc::{AllocError, Global};
+use std::test::*;
+
+// What is announced as a literal: as long as a number of 32 bits tells, or longer, which is no literal; and a line that is whole only with what
+// is behind it, where the literal that it announces doesn't come.
+const LITERALS: Rows = &[
+    (
+        b"* 1 FETCH (RFC822 {4294967295}\r\n",
+        "Incomplete(Size(4294967295))",
+    ),
+    (b"* 1 FETCH (RFC822 {4294967296}\r\n", "Incomplete(Unknown)"),
+    (
+        b"* 1 FETCH (RFC822 {4294967296}\r\n)\r\n",
+        "Fetch(1, [Unknown])",
+    ),
+    (b"* 1 FETCH (ENVELOPE ({5}\r\n))\r\n", "Incomplete(Size(1))"),
+    (
+        b"* 1 FETCH (ENVELOPE ({5}\r\n))\r\nxy",
+        r#"Fetch(1, [Unknown]) then "xy""#,
+    ),
+];
+
+// NIL where an attribute has it, and where it doesn't.
+const NULLS: Rows = &[
+    (
+        b"* 1 FETCH (UID NIL FLAGS NIL ENVELOPE NIL EMAILID NIL MODSEQ NIL)\r\n",
+        "Fetch(1, [Unknown, Unknown, Unknown, Unknown, Unknown])",
+    ),
+    (
+        b"* 1 FETCH (RFC822 NIL RFC822.HEADER NIL RFC822.TEXT NIL BODY[] NIL THREADID NIL)\r\n",
+        "Fetch(1, [Rfc822(None), Rfc822Header(None), Rfc822Text(None), BodySection { section: None, index: None, contents: None }, ThreadId(None)])",
+    ),
+];
+
+#[test]
+fn hostile_lines(rt: HostRuntime) {
+    assert_lines(&rt, rt.alloc(), &[LITERALS, NULLS]);
+}
+
+#[test]
+fn open_brackets(rt: HostRuntime) -> Result<(), Fail> {
+    let alloc = rt.alloc();
+    let mut line = Vec::from_slice(alloc, b"* 1 FETCH (BODYSTRUCTURE ")?;
+    for _ in 0..10_000 {
+        line.push(b'(')?;
+    }
+    assert!(rt; says(alloc, Response::parse(alloc, &line), "Incomplete(Unknown)"));
+    line.extend_from_slice(b"))\r\n")?;
+    assert!(rt; says(alloc, Response::parse(alloc, &line), "Fetch(1, [Unknown])"));
+    Ok(())
+}
+
+const STREAM: &[u8] = b"a1 OK\r\n* OK [BADCHARSET ({5}\r\n* 18 EXISTS\r\nxy";
+
+// What stands in the stream, with what is behind the last response.
+const IN_STREAM: &str =
+    r#"Whole { responses: [Done { tag: RequestId("a1"), status: Ok, outcome: Outcome { code: None, information: None } }, Data { status: Ok, outcome: Outcome { code: None, information: Some("[BADCHARSET ({5}") } }, MailboxData(Exists(18))], rest: [120, 121], end: Waits }"#;
+
+// What stands in the pieces, as text.
+fn told_of(alloc: Global, pieces: &[&[u8]]) -> Result<String, AllocError> {
+    format!(in alloc; "{:?}", read_pieces(alloc, pieces)?)
+}
+
+// Whether the pieces are told so.
+fn are_told(alloc: Global, pieces: &[&[u8]], want: &str) -> Result<bool, AllocError> {
+    let text = told_of(alloc, pieces)?;
+    Ok(text.as_str() == want)
+}
+
+// The bytes in pieces of this size, the last one maybe shorter.
+fn cut(alloc: Global, bytes: &[u8], size: usize) -> Result<Vec<&[u8]>, AllocError>
+    requires { 0 < size }
+{
+    let mut pieces = Vec::new(alloc);
+    for piece in bytes.chunks(size) {
+        pieces.push(piece)?;
+    }
+    Ok(pieces)
+}
+
+#[test]
+fn stream_in_pieces(rt: HostRuntime) -> Result<(), Fail> {
+    let alloc = rt.alloc();
+    for size in [1, 2, 3, 5, 7, 20, 100] {
+        let pieces = cut(alloc, STREAM, size)?;
+        assert!(rt; are_told(alloc, &pieces, IN_STREAM)?, "{size}");
+    }
+    assert!(rt; are_told(alloc, &[], "Whole { responses: [], rest: [], end: Waits }")?);
+    assert!(rt;
+        are_told(
+            alloc,
+            &[b"* X\r\n", b"a1 OK\r\n"],
+            "Whole { responses: [], rest: [42, 32, 88, 13, 10, 97, 49, 32, 79, 75, 13, 10], end: Denied }"
+        )?
+    );
+    Ok(())
+}
+
+// Whether one byte at a time gives what the whole line gives.
+fn is_same_in_bytes(alloc: Global, line: &[u8]) -> Result<bool, AllocError> {
+    let bytes = cut(alloc, line, 1)?;
+    let whole = told_of(alloc, &[line])?;
+    are_told(alloc, &bytes, whole.as_str())
+}
+
+// Whether each proper beginning of what a response consumed waits; where there is no response, whatever is there.
+fn do_beginnings_wait(alloc: Global, line: &[u8]) -> bool {
+    let Ok((rest, _)) = Response::parse(alloc, line) else {
+        return true;
+    };
+    let consumed = line.len() - rest.len();
+    (0..consumed).all(|n| { matches!(Response::parse(alloc, &line[..n]), Err(Err::Incomplete(_))) })
+}
+
+/// Whether it is the same how a line is cut: one byte at a time gives what it gives, and what stands before its end waits.
+pub fn may_be_cut(alloc: Global, line: &[u8]) -> bool {
+    match is_same_in_bytes(alloc, line) {
+        Ok(is_same) => is_same && do_beginnings_wait(alloc, line),
+        Err(_) => false,
+    }
+}
+
+// What the next call gives is told so.
+fn gives(alloc: Global, feed: &mut Feed, want: &str) -> Result<bool, AllocError> {
+    let text = format!(in alloc; "{:?}", feed.next())?;
+    Ok(text.as_str() == want)
+}
+
+#[test]
+fn feeding(rt: HostRuntime) -> Result<(), Fail> {
+    let alloc = rt.alloc();
+    let mut feed = Feed::new(alloc);
+    assert!(rt; feed.held().is_empty());
+    assert!(rt; gives(alloc, &mut feed, "Ok(None)")?);
+    feed.feed(b"a1 O")?;
+    assert!(rt; gives(alloc, &mut feed, "Ok(None)")?);
+    assert!(rt; feed.held() == b"a1 O".as_slice());
+    feed.feed(b"K\r\n* X\r\n")?;
+    assert!(rt;
+        gives(
+            alloc,
+            &mut feed,
+            r#"Ok(Some(Done { tag: RequestId("a1"), status: Ok, outcome: Outcome { code: None, information: None } }))"#
+        )?
+    );
+    assert!(rt; gives(alloc, &mut feed, "Err(Denied)")?);
+    assert!(rt; feed.held() == b"* X\r\n".as_slice());
+    feed.feed(b"a2 OK\r\n")?;
+    assert!(rt; gives(alloc, &mut feed, "Err(Denied)")?);
+    assert!(rt; feed.held().len() == 12);
+    Ok(())
+}
