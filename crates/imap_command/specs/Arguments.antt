@@ -2,15 +2,16 @@
 use Rattle.std.specs.Prelude.{◌≡◌, ◌==◌, ◌||◌, ℕ, List, [], ◌∷◌, ◌++◌, if◌then◌else◌, codes, Option, None, Some, Result, Ok, Err}
 use Rattle.std.specs.List.{flat_map}
 use Rattle.std.specs.Option.{option_or}
+use Rattle.imap_command.specs.Ascii.{nul, line_feed, carriage_return, quote, backslash}
 use Rattle.imap_command.specs.declared.errors.BuildError.{BuildError}
 use Rattle.imap_command.specs.declared.errors.BuildError.TheVariants.{CarriageReturn, LineFeed, Nul, OutOfMemory}
 
 -- why a byte can't stand in a quoted string, if it can't
 abbrev pub refused_byte : ℕ → Option BuildError
 refused_byte byte =
-    if byte == 13 then Some CarriageReturn
-    else if byte == 10 then Some LineFeed
-    else if byte == 0 then Some Nul
+    if byte == carriage_return then Some CarriageReturn
+    else if byte == line_feed then Some LineFeed
+    else if byte == nul then Some Nul
     else None
 
 -- an argument's refusal: that of its first byte that has one
@@ -20,7 +21,7 @@ refusal (byte ∷ rest) = option_or (refused_byte byte) (refusal rest)
 
 -- quoted: a `\` stands before each `"` and `\`, and all other bytes stay
 abbrev pub escaped_byte : ℕ → List ℕ
-escaped_byte byte = if byte == 34 || byte == 92 then 92 ∷ byte ∷ [] else byte ∷ []
+escaped_byte byte = if byte == quote || byte == backslash then backslash ∷ byte ∷ [] else byte ∷ []
 
 abbrev pub quoted : List ℕ → List ℕ
 quoted argument = codes "\"" ++ (flat_map escaped_byte argument ++ codes "\"")

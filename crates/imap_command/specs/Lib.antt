@@ -1,3 +1,4 @@
+pub mod Ascii
 pub mod Words
 pub mod Arguments
 pub mod Calls

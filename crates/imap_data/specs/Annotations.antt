@@ -1,6 +1,7 @@
 -- Annotations of mailboxes (RFC 5464, section 5: entry, entry-value, metadata-resp).
 use Rattle.std.specs.Prelude.{ℕ, Bool, true, false, List, [], ◌∷◌, Option, None, Some, option_map, ◌==◌, ◌&&◌, ◌||◌, nat_lt, not, if◌then◌else◌, codes}
 use Rattle.std.specs.List.{list_all, take_while}
+use Rattle.imap_grammar.specs.Ascii.{carriage_return, space, percent, asterisk, slash}
 use Rattle.imap_grammar.specs.Text.{Bytes, Text}
 use Rattle.imap_grammar.specs.Rule.{Rule, gives, test, list0, ◌⨾◌, ◌▹◌, ◌◃◌}
 use Rattle.imap_grammar.specs.Tags.{word, sp}
@@ -14,24 +15,24 @@ use Rattle.imap_data.specs.MailboxValues.{MailboxValue, MetadataValue, MetadataS
 
 -- a byte of a component: from 26 to 127, but none of `*`, `%`, `/`
 abbrev pub is_component_byte : ℕ → Bool
-is_component_byte b = nat_lt 25 b && nat_lt b 128 && not ((b == 42) || (b == 37) || (b == 47))
+is_component_byte b = nat_lt 25 b && nat_lt b 128 && not ((b == asterisk) || (b == percent) || (b == slash))
 
 -- `/`, or a byte of a component
 abbrev pub is_path_byte : ℕ → Bool
-is_path_byte b = (b == 47) || is_component_byte b
+is_path_byte b = (b == slash) || is_component_byte b
 
 -- up to the first CR
 abbrev pub first_line : Bytes → Bytes
-first_line m = take_while (λ b. not (b == 13)) m
+first_line m = take_while (λ b. not (b == carriage_return)) m
 
 -- nothing, or a SP or CR and anything, or `/` and path bytes up to the first CR
 abbrev pub is_path : Bytes → Bool
 is_path [] = true
-is_path (b ∷ m) = (b == 32) || (b == 13) || ((b == 47) && list_all is_path_byte (first_line m))
+is_path (b ∷ m) = (b == space) || (b == carriage_return) || ((b == slash) && list_all is_path_byte (first_line m))
 
 -- `/` and a byte of a component
 abbrev pub has_component : Bytes → Bool
-has_component (slash ∷ b ∷ m) = (slash == 47) && is_component_byte b
+has_component (first ∷ b ∷ m) = (first == slash) && is_component_byte b
 has_component _ = false
 
 -- what stands behind the word, where the bytes begin with it

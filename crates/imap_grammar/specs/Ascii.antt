@@ -31,6 +31,15 @@ close_parenthesis = 41
 abbrev pub asterisk : ℕ
 asterisk = 42
 
+abbrev pub plus : ℕ
+plus = 43
+
+abbrev pub slash : ℕ
+slash = 47
+
+abbrev pub open_bracket : ℕ
+open_bracket = 91
+
 abbrev pub backslash : ℕ
 backslash = 92
 
@@ -39,3 +48,6 @@ close_bracket = 93
 
 abbrev pub open_brace : ℕ
 open_brace = 123
+
+abbrev pub close_brace : ℕ
+close_brace = 125

@@ -1,5 +1,6 @@
 -- Canonical text: one text for each value. It is a list of pieces, which are bytes as they are, and literals (RFC 3501, section 9: literal).
 use Rattle.std.specs.Prelude.{ℕ, ◌<◌, ◌^◌, List, [], ◌∷◌, ◌++◌, length, Option, None, Some, decimal, codes}
+use Rattle.imap_grammar.specs.Ascii.{line_feed, carriage_return, quote, open_brace, close_brace}
 use Prim.Native.String.{String}
 use Rattle.imap_grammar.specs.Text.{Bytes, Text}
 use Rattle.imap_grammar.specs.Ranges.{Range}
@@ -12,7 +13,7 @@ Pieces = List Piece
 
 -- `{`, the length, `}`, CRLF, the bytes
 abbrev pub literal_of : Bytes → Bytes
-literal_of b = 123 ∷ (decimal (length b) ++ (125 ∷ 13 ∷ 10 ∷ b))
+literal_of b = open_brace ∷ (decimal (length b) ++ (close_brace ∷ carriage_return ∷ line_feed ∷ b))
 
 -- the bytes of all pieces
 abbrev pub written : Pieces → Bytes
@@ -73,7 +74,7 @@ abbrev pub plain : Text → Pieces
 plain t = raw t.bytes
 
 abbrev pub in_quotes : Bytes → Pieces
-in_quotes b = raw (34 ∷ (b ++ 34 ∷ []))
+in_quotes b = raw (quote ∷ (b ++ quote ∷ []))
 
 abbrev pub quoted_text : Text → Pieces
 quoted_text t = in_quotes t.bytes

@@ -1,5 +1,6 @@
 -- The two laws of a rule and the texts of its values: what it takes spells the value, and the canonical text gives the value again.
 use Rattle.std.specs.Prelude.{ℕ, Bool, ◌≡◌, ◌==◌, ◌||◌, ◌++◌, IsTrue, Ok}
+use Rattle.imap_grammar.specs.Ascii.{carriage_return, space, close_parenthesis}
 use Rattle.imap_grammar.specs.Text.{Bytes}
 use Rattle.imap_grammar.specs.Meaning.{Denies, begins}
 use Rattle.imap_grammar.specs.Rule.{Rule, meaning}
@@ -40,10 +41,10 @@ Starts p t = IsTrue (begins p t)
 
 -- `)` or CR; also SP
 abbrev pub closes : ℕ → Bool
-closes b = (b == 41) || (b == 13)
+closes b = (b == close_parenthesis) || (b == carriage_return)
 
 abbrev pub ends_item : ℕ → Bool
-ends_item b = (b == 41) || (b == 13) || (b == 32)
+ends_item b = (b == close_parenthesis) || (b == carriage_return) || (b == space)
 
 abbrev pub Closes : Texts
 Closes = Starts closes

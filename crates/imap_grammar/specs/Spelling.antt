@@ -4,6 +4,7 @@ use Prim.Native.String.{String}
 use Rattle.std.specs.List.{list_all}
 use Rattle.std.specs.Str.Parse.{digits_value}
 use Rattle.std.specs.Str.Lossy.{utf8_lossy}
+use Rattle.imap_grammar.specs.Ascii.{line_feed, carriage_return}
 use Rattle.imap_grammar.specs.Classes.{is_digit, is_blank, is_quoted_char, is_astring_char, is_text_char}
 use Rattle.imap_grammar.specs.Meaning.{is_word}
 use Rattle.imap_grammar.specs.Tags.{same_letter}
@@ -78,7 +79,7 @@ abbrev pub spells_number : ℕ → Texts
 spells_number n c = IsTrue (list_all is_digit c) × (0 < length c) × (digits_value 10 c ≡ n)
 
 abbrev pub spells_literal : Bytes → Texts
-spells_literal b = exactly "{" and spells_number (length b) and exactly "}" and this (13 ∷ 10 ∷ []) and this b
+spells_literal b = exactly "{" and spells_number (length b) and exactly "}" and this (carriage_return ∷ line_feed ∷ []) and this b
 
 -- quoted content: quoted-chars, and quoted-specials behind a backslash each
 abbrev pub is_content_part : Texts

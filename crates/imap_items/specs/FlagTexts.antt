@@ -2,6 +2,7 @@
 use Rattle.std.specs.Prelude.{Bool, false, List, [], ◌∷◌, ◌==◌, ◌&&◌, ◌||◌}
 use Rattle.std.specs.List.{list_all}
 use Rattle.std.specs.Str.{is_utf8}
+use Rattle.imap_grammar.specs.Ascii.{backslash}
 use Rattle.imap_grammar.specs.Classes.{is_atom_char, is_astring_char}
 use Rattle.imap_grammar.specs.Text.{Bytes, Text}
 use Rattle.imap_grammar.specs.Pieces.{Pieces, raw, plain, list_text}
@@ -23,7 +24,7 @@ spells_flag_list = spells_list (λ t. spells_flag t.bytes)
 -- `\` and atom-chars, maybe none; or at least one astring-char
 abbrev pub is_flag_word : Bytes → Bool
 is_flag_word [] = false
-is_flag_word (b ∷ w) = ((92 == b) && list_all is_atom_char w) || list_all is_astring_char (b ∷ w)
+is_flag_word (b ∷ w) = ((backslash == b) && list_all is_atom_char w) || list_all is_astring_char (b ∷ w)
 
 -- the whole text is a flag
 abbrev pub is_flag : Bytes → Bool

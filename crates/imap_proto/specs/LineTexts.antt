@@ -1,6 +1,7 @@
 -- The text of a response: one line.
 use Rattle.std.specs.Prelude.{◌≡◌, ◌^◌, ◌⊎◌, Bool, false, not, nat_lt, [], ◌∷◌, ◌++◌, length}
 use Rattle.std.specs.List.{list_any}
+use Rattle.imap_grammar.specs.Ascii.{line_feed, carriage_return}
 use Rattle.imap_grammar.specs.Text.{Bytes}
 use Rattle.imap_grammar.specs.Rule.{meaning}
 use Rattle.imap_grammar.specs.Pieces.{Piece, Raw, Lit, Pieces, ◌then◌, words, raw, space, number_text, written}
@@ -22,7 +23,7 @@ use Rattle.imap_proto.specs.Lines.{is_space, response}
 
 -- CRLF
 abbrev pub line_end : Pieces
-line_end = raw (13 ∷ 10 ∷ [])
+line_end = raw (carriage_return ∷ line_feed ∷ [])
 
 -- what stands between `* ` and the end of the line, which a continuation and a tagged line have not
 abbrev pub canonical_data : ResponseValue → Pieces
@@ -68,7 +69,7 @@ spells_data (Continue o) = λ c. ⊥
 spells_data (Done tag status o) = λ c. ⊥
 
 abbrev pub ends_line : Texts
-ends_line = this (13 ∷ 10 ∷ [])
+ends_line = this (carriage_return ∷ line_feed ∷ [])
 
 -- spaces may stand before the end of a data line
 abbrev pub spells_response : ResponseValue → Texts

@@ -1,5 +1,6 @@
 -- Lines of a server (RFC 3501, section 9: response, continue-req, response-data, response-tagged).
 use Rattle.std.specs.Prelude.{ℕ, Bool, List, ◌==◌, ◌&&◌, not}
+use Rattle.imap_grammar.specs.Ascii.{space, plus}
 use Rattle.imap_grammar.specs.Classes.{is_astring_char}
 use Rattle.imap_grammar.specs.Text.{Bytes}
 use Rattle.imap_grammar.specs.Rule.{Rule, run0, run1, gives, ◌⨾◌, ◌▹◌, ◌◃◌, ◌or◌}
@@ -79,7 +80,7 @@ unfoldable pub datum : Rule ResponseValue
 datum = state_datum or extension_datum
 
 abbrev pub is_space : ℕ → Bool
-is_space b = b == 32
+is_space b = b == space
 
 unfoldable pub spaces : Rule Bytes
 spaces = run0 is_space
@@ -139,7 +140,7 @@ fetch_line = tag "* " ▹ ended fetch
 
 -- tag-char: an astring-char but `+`
 abbrev pub is_tag_char : ℕ → Bool
-is_tag_char b = is_astring_char b && not (b == 43)
+is_tag_char b = is_astring_char b && not (b == plus)
 
 unfoldable pub request_tag : Rule Bytes
 request_tag = in_utf8 (run1 is_tag_char)

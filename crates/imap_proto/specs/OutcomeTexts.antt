@@ -2,6 +2,7 @@
 use Rattle.std.specs.Prelude.{◌≡◌, ℕ, Bool, false, ◌==◌, [], ◌∷◌, ◌++◌, Option, None, Some, encode_utf8, IsTrue}
 use lib.Utf8.{scalar}
 use Rattle.std.specs.Str.Lossy.{utf8_lossy}
+use Rattle.imap_grammar.specs.Ascii.{carriage_return, open_bracket}
 use Rattle.imap_grammar.specs.Classes.{is_text_char}
 use Rattle.imap_grammar.specs.Text.{Bytes, Text}
 use Rattle.imap_grammar.specs.Pieces.{Pieces, ◌then◌, space, plain}
@@ -35,7 +36,7 @@ canonical_spaced o = canonical_spaced_parts o.code o.information
 
 abbrev pub opens_bracket : Bytes → Bool
 opens_bracket [] = false
-opens_bracket (b ∷ bytes) = 91 == b
+opens_bracket (b ∷ bytes) = open_bracket == b
 
 abbrev pub like_code : Option CodeValue → Option Text → Bool
 like_code None None = false
@@ -51,7 +52,7 @@ IsPlain o = bracketed o ≡ false
 
 -- the end of a line follows
 abbrev pub Ends : Texts
-Ends t = (u : Bytes) × (t ≡ 13 ∷ u)
+Ends t = (u : Bytes) × (t ≡ carriage_return ∷ u)
 
 -- ---- spelling
 

@@ -3,6 +3,7 @@ use Rattle.std.specs.Prelude.{◌≡◌, ℕ, Bool, List, ◌∷◌, ◌++◌, O
 use Rattle.std.specs.String.{string_bytes}
 use Rattle.std.specs.declared.alloc.Global.{Global}
 use Rattle.std.specs.declared.vec.Vec.{Vec}
+use Rattle.imap_grammar.specs.Ascii.{line_feed, carriage_return}
 use Rattle.imap_grammar.specs.Text.{Bytes, Text, text_of, lent_text}
 use Rattle.imap_grammar.specs.Ranges.{Range, range_of}
 use Rattle.imap_items.specs.declared.types.statuses.Status.{Status}
@@ -82,7 +83,7 @@ fetch_in m x = Fetch x.0 (map (attribute_in m) x.1.items)
 
 -- what stands before the rest ends in CRLF
 abbrev pub EndsLine : Bytes → Bytes → Type 0
-EndsLine m rest = (front : Bytes) × (m ≡ front ++ (13 ∷ 10 ∷ rest))
+EndsLine m rest = (front : Bytes) × (m ≡ front ++ (carriage_return ∷ line_feed ∷ rest))
 
 -- ---- with all texts borrowed: two values are the same where these are one
 

@@ -8,6 +8,7 @@ use Rattle.imap_grammar.specs.Meaning.{Denies}
 use Rattle.imap_proto.specs.Responses.{ResponseValue, Capabilities, Continue, Done, Data, Expunge, Vanished, Fetch, MailboxData, Quota, QuotaRoot, Id, Acl, ListRights, MyRights}
 use Rattle.imap_proto.specs.Lines.{response}
 use Rattle.std.specs.String.{string_bytes}
+use Rattle.imap_grammar.specs.Ascii.{line_feed, space}
 use Rattle.imap_report.specs.declared.telling.Turn.{Turn}
 use Rattle.imap_report.specs.declared.telling.Turn.TheVariants.{Next, Last}
 use Rattle.imap_report.specs.declared.outcome.Finish.{Finish}
@@ -30,9 +31,9 @@ name_of (Acl acl) = codes "acl"
 name_of (ListRights rights) = codes "listrights"
 name_of (MyRights rights) = codes "myrights"
 
--- a name, SP, a number and byte 10
+-- a name, SP, a number and LF
 abbrev pub line : List ℕ → ℕ → List ℕ
-line name n = name ++ (32 ∷ decimal n) ++ (10 ∷ [])
+line name n = name ++ (space ∷ decimal n) ++ (line_feed ∷ [])
 
 abbrev pub Waits : List ℕ → Type 0
 Waits m = ((v : ResponseValue) (rest : List ℕ) → ¬ ((meaning response).yields m v rest)) × (¬ (Denies (meaning response) m))
