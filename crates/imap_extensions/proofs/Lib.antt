@@ -8,3 +8,4 @@ pub mod AclTexts
 pub mod OptionalRights
 pub mod Takes
 pub mod IdPairs
+pub mod NoParams

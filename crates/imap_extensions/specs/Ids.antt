@@ -32,6 +32,11 @@ put_pairs m (p ∷ ps) = put_pairs (put_pair m p) ps
 abbrev pub map_of_pairs : List (Text × Option Text) → IdValue
 map_of_pairs ps = put_pairs empty ps
 
+-- `NIL` in place of the list
+abbrev pub IsNil : Option IdValue → Type 0
+IsNil None = Unit {0}
+IsNil (Some map) = ⊥
+
 -- ---- of the code's values
 
 abbrev pub IdTable : Type 0

@@ -1,6 +1,6 @@
 -- The same values with all texts owned.
-use Rattle.std.specs.Prelude.{map, List, [], ◌∷◌}
-use Rattle.std.specs.FinMap.{insert, entries, from_entries}
+use Rattle.std.specs.Prelude.{map}
+use Rattle.std.specs.FinMap.{entries, from_entries}
 use Rattle.imap_grammar.specs.Text.{Bytes, Text}
 use Rattle.imap_items.specs.Owned.{owned_text}
 use Rattle.imap_extensions.specs.Quotas.{QuotaResourceNameValue, Atom, QuotaResourceValue, QuotaValue, QuotaRootValue}

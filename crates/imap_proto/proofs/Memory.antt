@@ -39,6 +39,7 @@ use Rattle.imap_data.specs.MailboxValues.{IsNumber}
 use Rattle.imap_data.specs.declared.types.mailbox_data.MailboxDatum.{MailboxDatum}
 use Rattle.imap_data.proofs.NumberData.{solicited_other, unsolicited_other}
 use Rattle.imap_extensions.specs.Acls.{list_rights}
+use Rattle.imap_extensions.specs.Ids.{IdTable, IsNil, id}
 use Rattle.imap_items.specs.declared.types.statuses.Status.{Status}
 use Rattle.imap_items.specs.Statuses.{status}
 use Rattle.imap_proto.specs.declared.outcome.Outcome.{Outcome}
@@ -235,6 +236,12 @@ list_failed m e part was h =
     (given TakesNone MailboxData mailbox_datum m (failed e) (of_part IsNumber mailbox_datum m e part (failed e) was h))
     (made_yields ListRights (λ v h. h)))
 
+pub id_failed : (m : Bytes) (e : Fault) (part : Returned (Option IdTable)) → part ≡ Err e → SucceedsFor IsNil id m part → SucceedsFor TakesNone id_line m (failed e)
+unfolding id_line
+id_failed m e part was h =
+    before TakesNone (gives Id id) (spaces ⨾ crlf) m (failed e)
+    (given TakesNone Id id m (failed e) (of_part IsNil id m e part (failed e) was h))
+
 pub status_failed : (m mid : Bytes) (s : Status) (e : Fault) (part : Returned Outcome) → step status m ≡ Ok (mid, s) → part ≡ Err e → SucceedsFor OutcomeTakesNone spaced_outcome mid part → SucceedsFor TakesNone status_line m (failed e)
 unfolding status_line status_data
 status_failed m mid s e part front was h =
@@ -289,10 +296,6 @@ vanished_other = left_yields (made_yields vanished_of (λ v h. h))
 pub quota_other : Yields (λ v. ¬ (TakesNone v)) quota_line
 unfolding quota_line
 quota_other = left_yields (either_yields (made_yields Quota (λ v h. h)) (made_yields QuotaRoot (λ v h. h)))
-
-pub id_other : Yields (λ v. ¬ (TakesNone v)) id_line
-unfolding id_line
-id_other = left_yields (made_yields Id (λ v h. h))
 
 pub acl_other : Yields (λ v. ¬ (TakesNone v)) acl_line
 unfolding acl_line

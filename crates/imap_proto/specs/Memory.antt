@@ -2,9 +2,10 @@
 use Rattle.std.specs.Prelude.{Option, None, Some}
 use Rattle.imap_grammar.specs.Text.{Text}
 use Rattle.imap_items.specs.Copies.{IsLent}
+use Rattle.imap_extensions.specs.Ids.{IsNil}
 use Rattle.imap_data.specs.Codes.{CodeValue, HoldsNoList, BeginsListCode}
 use Rattle.imap_data.specs.MailboxValues.{IsNumber}
-use Rattle.imap_proto.specs.Responses.{OutcomeValue, ResponseValue, Continue, Data, Expunge, MailboxData}
+use Rattle.imap_proto.specs.Responses.{OutcomeValue, ResponseValue, Continue, Data, Expunge, MailboxData, Id}
 
 -- A code without a list, and a borrowed text behind it. A text by itself also doesn't begin as a code that may hold a list: what stands so is tried as a code before, and its list may want memory.
 abbrev pub ReadsWithoutMemory : Option CodeValue → Option Text → Type 0
@@ -16,10 +17,11 @@ ReadsWithoutMemory (Some c) (Some t) = HoldsNoList c × IsLent t
 abbrev pub OutcomeTakesNone : OutcomeValue → Type 0
 OutcomeTakesNone o = ReadsWithoutMemory o.code o.information
 
--- One number, or an untagged status or a continuation with such an outcome: no list, no map, no copied tag and no owned text.
+-- One number, an ID without fields, or an untagged status or a continuation with such an outcome: no list, no map, no copied tag and no owned text.
 abbrev pub TakesNone : ResponseValue → Type 0
 TakesNone (Continue o) = OutcomeTakesNone o
 TakesNone (Data status o) = OutcomeTakesNone o
 TakesNone (Expunge n) = Unit {0}
 TakesNone (MailboxData datum) = IsNumber datum
+TakesNone (Id fields) = IsNil fields
 TakesNone other = ⊥

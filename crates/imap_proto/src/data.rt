@@ -177,7 +177,8 @@ fn quota_line(alloc: Global, i: &[u8]) -> IResult<&[u8], Response<'_>>
 #[tactic(auto, unfolding(crate::specs::Lines::id_line))]
 #[inline(never)]
 fn id_line(alloc: Global, i: &[u8]) -> IResult<&[u8], Response<'_>>
-    ensures { Gives response_value result (step rule.id_line i.now) }
+    ensures steps { Gives response_value result (step rule.id_line i.now) }
+    ensures memory { SucceedsFor TakesNone rule.id_line i.now result }
 {
     line!(id(alloc, i), found => Response::Id(found));
     Err(Err::Error)

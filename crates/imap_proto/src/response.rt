@@ -166,8 +166,8 @@ impl<'a> Response<'a> {
     /// of two equal keys either one may be kept. The message is only read.
     ///
     /// It takes memory for lists, for the map of an ID, for the tag of a tagged line, and for texts that are no UTF-8.
-    /// So `Failure` is not answered where the response is one number (`EXPUNGE`, `EXISTS`, `RECENT`, Gmail's), or an untagged
-    /// status or a continuation with no list in its code and a borrowed text. One kind is excepted: a text without a code
+    /// So `Failure` is not answered where the response is one number (`EXPUNGE`, `EXISTS`, `RECENT`, Gmail's), `ID NIL`, or an
+    /// untagged status or a continuation with no list in its code and a borrowed text. One kind is excepted: a text without a code
     /// that begins as a code with a list does, as `[CAPABILITY`, since it is tried as that code first.
     #[tactic(auto, using(imap_grammar::proofs::Agreement::answered, crate::proofs::LineTexts::line_spells, crate::proofs::Ending::line_ends))]
     #[inline(always)]

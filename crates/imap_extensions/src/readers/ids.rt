@@ -2,14 +2,16 @@
 
 ghost use Rattle.std.specs.Prelude.{◌≡◌, option_map, OnOk};
 ghost use Rattle.imap_grammar.specs.Answer.{Answers, Gives};
+ghost use Rattle.imap_grammar.specs.Memory.{BeginsWord, FailsOnlyIf, SucceedsFor};
 ghost use Rattle.imap_grammar.specs.Rule.{gives, many, opt};
 ghost use Rattle.imap_grammar.specs.Step.{step};
 ghost use Rattle.imap_extensions.specs.Ids as ids;
 ghost use Rattle.imap_extensions.specs.Ids.{id_value, pair_value, put_pair as put_value, put_pairs, map_of_pairs};
 
 use crate::types::ids::{IdMap, put};
+use imap_bytes::lists::tried;
 use imap_bytes::tags::{blanks0, blanks1, tag, word};
-use imap_bytes::{IResult, first, maybe, nil, nstring_utf8, string_utf8};
+use imap_bytes::{IResult, maybe, nil, nstring_utf8, string_utf8};
 use std::alloc::{AllocError, Global};
 use std::borrow::CowStr;
 use std::collections::HashMap;
@@ -79,7 +81,8 @@ fn id_pairs(alloc: Global, i: &[u8]) -> IResult<&[u8], IdMap<'_>>
 
 #[tactic(auto, unfolding(crate::specs::Ids::id_map))]
 fn id_map(alloc: Global, i: &[u8]) -> IResult<&[u8], IdMap<'_>>
-    ensures { Gives id_value result (step ids.id_map i.now) }
+    ensures steps { Gives id_value result (step ids.id_map i.now) }
+    ensures memory { FailsOnlyIf (BeginsWord "(" i.now) result }
 {
     let (rest, _) = tag(b"(", i)?;
     let (rest, map) = id_pairs(alloc, rest)?;
@@ -90,7 +93,8 @@ fn id_map(alloc: Global, i: &[u8]) -> IResult<&[u8], IdMap<'_>>
 
 #[tactic(auto, using(crate::proofs::IdPairs::some_params_is))]
 fn some_params(alloc: Global, i: &[u8]) -> IResult<&[u8], Option<IdMap<'_>>>
-    ensures { Gives (option_map id_value) result (step ids.some_params i.now) }
+    ensures steps { Gives (option_map id_value) result (step ids.some_params i.now) }
+    ensures memory { FailsOnlyIf (BeginsWord "(" i.now) result }
 {
     let (rest, map) = id_map(alloc, i)?;
     Ok((rest, Some(map)))
@@ -98,21 +102,27 @@ fn some_params(alloc: Global, i: &[u8]) -> IResult<&[u8], Option<IdMap<'_>>>
 
 #[tactic(auto, unfolding(crate::specs::Ids::id_params))]
 fn id_params(alloc: Global, i: &[u8]) -> IResult<&[u8], Option<IdMap<'_>>>
-    ensures { Gives (option_map id_value) result (step ids.id_params i.now) }
+    ensures steps { Gives (option_map id_value) result (step ids.id_params i.now) }
+    ensures memory { SucceedsFor ids.IsNil ids.id_params i.now result }
 {
-    first!(some_params(alloc, i));
-    let (rest, _) = nil(i)?;
-    Ok((rest, None))
+    match tried(some_params(alloc, i))? {
+        Some(found) => Ok(found),
+        None => {
+            let (rest, _) = nil(i)?;
+            Ok((rest, None))
+        }
+    }
 }
 
 /// `ID`, and fields with their values, or `NIL` (RFC 2971, section 4: id_response).
 ///
 /// A field whose value is `NIL` is left out, and of equal fields the last counts. `NIL` in place of the list is `None`.
-/// It takes memory for the map, and for texts that are no UTF-8.
+/// It takes memory for the map, and for texts that are no UTF-8; for `NIL` none.
 #[tactic(auto, using(imap_grammar::proofs::Agreement::answered), unfolding(crate::specs::Ids::id))]
 pub fn id(alloc: Global, i: &[u8]) -> IResult<&[u8], Option<IdMap<'_>>>
     ensures steps { Gives (option_map id_value) result (step ids.id i.now) }
     ensures answer { Answers ids.id (option_map id_value) i.now result }
+    ensures memory { SucceedsFor ids.IsNil ids.id i.now result }
 {
     let (rest, _) = word(b"ID", i)?;
     let (rest, _) = blanks1(rest)?;

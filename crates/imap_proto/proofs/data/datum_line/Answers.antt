@@ -1,9 +1,9 @@
 use Rattle.std.proofs.Common.{rules}
 use Rattle.imap_grammar.proofs.Memory.{same_kind, none_of_kind}
-use Rattle.imap_proto.specs.Lines.{ended_datum, vanished_line, quota_line, annotation_line, id_line, enabled_line, capability_line, acl_line}
+use Rattle.imap_proto.specs.Lines.{ended_datum, vanished_line, quota_line, annotation_line, enabled_line, capability_line, acl_line}
 use Rattle.imap_proto.specs.Memory.{TakesNone}
-use Rattle.imap_proto.proofs.FirstBytes.{datum_of_vanished, datum_of_quota, datum_of_annotation, datum_of_id, datum_of_enabled, datum_of_capability, datum_of_acl}
-use Rattle.imap_proto.proofs.Memory.{vanished_other, quota_other, annotation_other, id_other, enabled_other, capability_other, acl_other}
+use Rattle.imap_proto.proofs.FirstBytes.{datum_of_vanished, datum_of_quota, datum_of_annotation, datum_of_enabled, datum_of_capability, datum_of_acl}
+use Rattle.imap_proto.proofs.Memory.{vanished_other, quota_other, annotation_other, enabled_other, capability_other, acl_other}
 use Rattle.imap_proto.proofs.data.datum_line.Goals as goal
 
 pub returns-in-Some-eq118-clause-memory : goal.returns-in-Some-eq118-clause-memory
@@ -14,9 +14,6 @@ returns-in-Some-eq113-clause-memory c = same_kind TakesNone ended_datum quota_li
 
 pub returns-in-Some-eq109-clause-memory : goal.returns-in-Some-eq109-clause-memory
 returns-in-Some-eq109-clause-memory c = same_kind TakesNone ended_datum annotation_line _ _ (datum_of_annotation _ (search rules)) (none_of_kind TakesNone annotation_line _ _ annotation_other)
-
-pub returns-in-Some-eq105-clause-memory : goal.returns-in-Some-eq105-clause-memory
-returns-in-Some-eq105-clause-memory c = same_kind TakesNone ended_datum id_line _ _ (datum_of_id _ (search rules)) (none_of_kind TakesNone id_line _ _ id_other)
 
 pub returns-in-Some-eq101-clause-memory : goal.returns-in-Some-eq101-clause-memory
 returns-in-Some-eq101-clause-memory c = same_kind TakesNone ended_datum enabled_line _ _ (datum_of_enabled _ (search rules)) (none_of_kind TakesNone enabled_line _ _ enabled_other)
