@@ -18,21 +18,24 @@ use crate::at::span::sliced;
 #[macro_export]
 macro_rules! named {
     ($text:expr, $i:expr, $value:expr) => {
-        match $crate::tags::word($text, $i) {
-            Ok((rest, _)) => return Ok((rest, $value)),
-            Err($crate::Err::Error) => {}
-            Err(e) => return Err(e),
-        }
+        $crate::first!($crate::tags::word($text, $i), _ => $value)
     };
 }
 
-/// Answers what the reader answers, and goes on where it denies.
+/// Answers what the reader answers, or what is made of the value that it found, and goes on where it denies.
 #[macro_export]
 macro_rules! first {
     ($answer:expr) => {
         match $answer {
             Err($crate::Err::Error) => {}
             other => return other,
+        }
+    };
+    ($answer:expr, $found:pat => $value:expr) => {
+        match $answer {
+            Ok((rest, $found)) => return Ok((rest, $value)),
+            Err($crate::Err::Error) => {}
+            Err(e) => return Err(e),
         }
     };
 }

@@ -344,11 +344,7 @@ fn msg_att_thread_id(m: &[u8], p: usize) -> Result<(usize, AttributeSpans), Err>
     ensures rests { RestsOn parts_in result }
 {
     let (p, _) = word(b"THREADID ", m, p)?;
-    match nil(m, p) {
-        Ok((q, _)) => return Ok((q, AttributeParts::ThreadId(None))),
-        Err(Err::Error) => {}
-        Err(e) => return Err(e),
-    }
+    first!(nil(m, p), _ => AttributeParts::ThreadId(None));
     let (p, id) = bracketed_id(m, p)?;
     Ok((p, AttributeParts::ThreadId(Some(id))))
 }

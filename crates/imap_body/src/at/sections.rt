@@ -255,11 +255,8 @@ pub fn section_spec(alloc: Global, m: &[u8], p: usize) -> Reached<SectionPath>
     ensures steps { GivesAt (λ x. path_value x) m.now result (step sections.section_spec (drop p m.now)) }
     ensures ahead { Ahead m.now p result }
 {
-    match section_msgtext(m, p) {
-        Ok((q, what)) => Ok((q, SectionPath::Full(what))),
-        Err(Err::Error) => part_path(alloc, m, p),
-        Err(e) => Err(e),
-    }
+    first!(section_msgtext(m, p), what => SectionPath::Full(what));
+    part_path(alloc, m, p)
 }
 
 fn maybe_spec(alloc: Global, m: &[u8], p: usize) -> Reached<Option<SectionPath>>

@@ -15,7 +15,7 @@ use crate::at::lists::list_of_one;
 use crate::at::texts::{byte_string, spaced_byte_string};
 use imap_bytes::at::strings::nil;
 use imap_bytes::at::tags::tag;
-use imap_bytes::{Err, maybe};
+use imap_bytes::{first, maybe};
 use imap_shapes::shapes::envelopes::{Address, Envelope};
 use imap_shapes::spans::Span;
 use std::alloc::Global;
@@ -55,11 +55,8 @@ fn listed_address(m: &[u8], p: usize) -> Reached<Address<Span>>
     ensures rests { RestsOn address_in result }
 {
     let (q, address) = address(m, p)?;
-    match tag(b" ", m, q) {
-        Ok((r, _)) => Ok((r, address)),
-        Err(Err::Error) => Ok((q, address)),
-        Err(e) => Err(e),
-    }
+    first!(tag(b" ", m, q), _ => address);
+    Ok((q, address))
 }
 
 fn next_address(m: &[u8], p: usize) -> Reached<Option<Address<Span>>>
@@ -100,11 +97,7 @@ fn addresses(alloc: Global, m: &[u8], p: usize) -> Reached<Option<Vec<Address<Sp
     ensures ahead { Ahead m.now p result }
     ensures rests { RestsOn addresses_in result }
 {
-    match nil(m, p) {
-        Ok((q, _)) => return Ok((q, None)),
-        Err(Err::Error) => {}
-        Err(e) => return Err(e),
-    }
+    first!(nil(m, p), _ => None);
     let (q, _) = tag(b"(", m, p)?;
     let (q, list) = some_addresses(alloc, m, q)?;
     let (q, _) = tag(b")", m, q)?;

@@ -52,11 +52,7 @@ fn body_fld_dsp(
     ensures ahead { Ahead m.now p result }
     ensures rests { RestsOn disposition_in result }
 {
-    match nil(m, p) {
-        Ok((q, _)) => return Ok((q, None)),
-        Err(Err::Error) => {}
-        Err(e) => return Err(e),
-    }
+    first!(nil(m, p), _ => None);
     let (q, _) = tag(b"(", m, p)?;
     let (q, ty) = string_text(m, q)?;
     let (q, params) = spaced_params(alloc, m, q)?;
@@ -131,11 +127,8 @@ fn body_fld_lang(alloc: Global, m: &[u8], p: usize) -> Reached<Option<Vec<Spanne
     ensures ahead { Ahead m.now p result }
     ensures rests { RestsOn languages_in result }
 {
-    match nstring_text(m, p) {
-        Ok((q, language)) => Ok((q, single(alloc, language)?)),
-        Err(Err::Error) => language_list(alloc, m, p),
-        Err(e) => Err(e),
-    }
+    first!(nstring_text(m, p), language => single(alloc, language)?);
+    language_list(alloc, m, p)
 }
 
 // ---- extensions

@@ -80,11 +80,7 @@ pub fn body_fld_param(alloc: Global, m: &[u8], p: usize) -> Reached<BodyParams<S
     ensures ahead { Ahead m.now p result }
     ensures rests { RestsOn params_in result }
 {
-    match nil(m, p) {
-        Ok((q, _)) => return Ok((q, None)),
-        Err(Err::Error) => {}
-        Err(e) => return Err(e),
-    }
+    first!(nil(m, p), _ => None);
     let (q, _) = tag(b"(", m, p)?;
     let (q, params) = some_params(alloc, m, q)?;
     let (q, _) = blanks0(m, q)?;
@@ -121,11 +117,7 @@ fn binary_or_base64(m: &[u8], p: usize) -> Reached<ContentEncoding<SpannedText>>
     ensures ahead { Ahead m.now p result }
     ensures rests { RestsOn encoding_in result }
 {
-    match word(b"BINARY", m, p) {
-        Ok((q, _)) => return Ok((q, ContentEncoding::Binary)),
-        Err(Err::Error) => {}
-        Err(e) => return Err(e),
-    }
+    first!(word(b"BINARY", m, p), _ => ContentEncoding::Binary);
     let (q, _) = word(b"BASE64", m, p)?;
     Ok((q, ContentEncoding::Base64))
 }

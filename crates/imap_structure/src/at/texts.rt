@@ -12,10 +12,10 @@ ghost use Rattle.imap_shapes.specs.Spans.{text_in};
 ghost use Rattle.imap_structure.specs.Spanned.{maybe_bytes_in, maybe_text_in};
 
 use crate::at::Reached;
-use imap_bytes::Err;
 use imap_bytes::at::numbers::number;
 use imap_bytes::at::strings::{nil, nstring, string};
 use imap_bytes::at::tags::tag;
+use imap_bytes::first;
 use imap_shapes::spans::{Span, SpannedText};
 
 /// An nstring, its bytes as they stand (RFC 3501, section 9: nstring).
@@ -77,11 +77,7 @@ pub fn nstring_text(m: &[u8], p: usize) -> Reached<Option<SpannedText>>
     ensures rests { RestsOn maybe_text_in result }
     ensures no_failure { NeverFails result }
 {
-    match nil(m, p) {
-        Ok((q, _)) => return Ok((q, None)),
-        Err(Err::Error) => {}
-        Err(e) => return Err(e),
-    }
+    first!(nil(m, p), _ => None);
     let (q, text) = string_text(m, p)?;
     Ok((q, Some(text)))
 }

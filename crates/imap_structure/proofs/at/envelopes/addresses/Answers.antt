@@ -4,8 +4,8 @@ use Rattle.imap_structure.specs.Spanned.{address_in}
 use Rattle.imap_structure.proofs.Naming.{listed_rest}
 use Rattle.imap_structure.proofs.at.envelopes.addresses.Goals as goal
 
-pub returns-in-Ok-clause-rests : goal.returns-in-Ok-clause-rests
-returns-in-Ok-clause-rests c = record { same = λ n. refl }
-
 pub returns-clause-rests : goal.returns-clause-rests
-returns-clause-rests c = listed_rest address_in _ _ (rests_more _ (omega (arith, c.in_ok-q-3.ensures.inside)) c.in_ok-q-2.ensures.rests)
+returns-clause-rests c = record { same = λ n. refl }
+
+pub returns-3-clause-rests : goal.returns-3-clause-rests
+returns-3-clause-rests c = listed_rest address_in _ _ (rests_more _ (omega (arith, c.in_ok-q-3.ensures.inside)) c.in_ok-q-2.ensures.rests)

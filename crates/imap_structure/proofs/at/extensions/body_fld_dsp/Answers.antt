@@ -2,11 +2,11 @@ use Rattle.std.proofs.Common.{refl, arith, ◌≤◌}
 use Rattle.imap_grammar.proofs.Positions.{rests_more}
 use Rattle.imap_structure.proofs.at.extensions.body_fld_dsp.Goals as goal
 
-pub returns-in-Ok-clause-rests : goal.returns-in-Ok-clause-rests
-returns-in-Ok-clause-rests c = record { same = λ n. refl }
-
 pub returns-clause-rests : goal.returns-clause-rests
-returns-clause-rests c =
+returns-clause-rests c = record { same = λ n. refl }
+
+pub returns-3-clause-rests : goal.returns-3-clause-rests
+returns-3-clause-rests c =
     let q = c.in_ok-q-4.q in
     let e3 : c.in_ok-q-3.q ≤ q = omega (arith, c.in_ok-q-4.ensures.inside) in
     let e2 : c.in_ok-q-2.q ≤ q = omega (arith, e3, c.in_ok-q-3.ensures.ahead) in

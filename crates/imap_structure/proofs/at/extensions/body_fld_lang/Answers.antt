@@ -2,9 +2,9 @@ use Rattle.std.proofs.Common.{refl, sym, ap, take, ◌∙◌}
 use Rattle.imap_structure.specs.Extensions.{single, body_fld_lang}
 use Rattle.imap_structure.proofs.at.extensions.body_fld_lang.Goals as goal
 
-pub returns-in_ok-single-in-Ok-clause-steps : goal.returns-in_ok-single-in-Ok-clause-steps
+pub returns-clause-steps : goal.returns-clause-steps
 unfolding body_fld_lang
-returns-in_ok-single-in-Ok-clause-steps c = rw (c.in_ok-single-in-Ok.ensures c.args.m.now, c.in-Ok.ensures.steps) refl
+returns-clause-steps c = rw (c.in_ok-single.ensures c.args.m.now, c.in-Ok-first.ensures.steps) refl
 
-pub returns-in_ok-single-in-Ok-clause-rests : goal.returns-in_ok-single-in-Ok-clause-rests
-returns-in_ok-single-in-Ok-clause-rests c = record { same = λ n. c.in_ok-single-in-Ok.ensures (take _ n) ∙ ap single (c.in-Ok.ensures.rests.same n) ∙ sym (c.in_ok-single-in-Ok.ensures n) }
+pub returns-clause-rests : goal.returns-clause-rests
+returns-clause-rests c = record { same = λ n. c.in_ok-single.ensures (take _ n) ∙ ap single (c.in-Ok-first.ensures.rests.same n) ∙ sym (c.in_ok-single.ensures n) }
