@@ -1,7 +1,6 @@
 pub mod Codes
 pub mod Names
 pub mod MailboxData
-pub mod Annotations
 pub mod CodeTexts
 pub mod NameTexts
 pub mod AnnotationTexts

@@ -4,20 +4,19 @@ use Rattle.std.specs.Cmp.Lexicographic.{pointwise}
 use Rattle.std.proofs.lemmas.Bool.{and_parts, and_from}
 use Rattle.imap_grammar.specs.Equality.{Tells}
 use Rattle.imap_grammar.proofs.Seen.{texts_tell, text_tells, numbers_tell, items_tell, text_lists_tell, plain_lists_tell}
+use Rattle.imap_extensions.specs.Annotations.{metadata_value}
+use Rattle.imap_extensions.proofs.Annotations.{metadata_tell}
 use Rattle.imap_data.specs.Counts.{item_content}
-use Rattle.imap_data.specs.MailboxValues.{Exists, Flags, Listed, Search, Sort, Recent, GmailLabels, GmailMsgId, GmailThrId, metadata_value, metadata_content, mailbox_content}
+use Rattle.imap_data.specs.MailboxValues.{Exists, Flags, Listed, Search, Sort, Recent, GmailLabels, GmailMsgId, GmailThrId, mailbox_content}
 use Rattle.imap_data.specs.declared.types.mailbox_data.MailboxDatum.{MailboxDatum}
 use Rattle.imap_data.specs.declared.types.mailbox_data.MailboxDatum.TheVariants as datum
 use Rattle.imap_data.specs.contracts.types.counts.StatusAttributePartialEq.TheImpl as item_eq
-use Rattle.imap_data.specs.contracts.types.annotations.MetadataPartialEq.TheImpl as metadata_eq
+use Rattle.imap_extensions.specs.contracts.types.annotations.MetadataPartialEq.TheImpl as metadata_eq
 use Rattle.imap_data.specs.contracts.types.mailbox_data.MailboxDatumPartialEq.TheImpl as datum_eq
 use Rattle.imap_data.proofs.Names.{list_tells}
 
 items_are_told : Tells (item_eq.eq-value).it item_content
 items_are_told = search rules
-
-metadata_tell : Tells (metadata_eq.eq-value).it metadata_content
-metadata_tell = search rules
 
 annotations_tell : Tells (pointwise (metadata_eq.eq-value).it) (map metadata_value)
 annotations_tell = items_tell _ metadata_value metadata_tell

@@ -1,11 +1,9 @@
 -- That a rule takes at least a byte wherever it yields: of the items of lists.
 use Rattle.std.proofs.Common.{◌≡◌, true, refl}
 use Rattle.imap_grammar.proofs.Consumption.{consumes}
-use Rattle.imap_bytes.proofs.Takes.{astring_takes}
 use Rattle.imap_items.proofs.Takes.{backslashed_text_takes}
 use Rattle.imap_data.specs.Names.{name_attribute}
 use Rattle.imap_data.specs.Counts.{highest_mod_seq, messages, recent, uid_next, uid_validity, unseen, status_item, found_number}
-use Rattle.imap_data.specs.Annotations.{entry, entry_utf8, annotation}
 
 pub name_attribute_takes : consumes name_attribute ≡ true
 unfolding name_attribute
@@ -18,11 +16,3 @@ status_item_takes = refl
 pub found_number_takes : consumes found_number ≡ true
 unfolding found_number
 found_number_takes = refl
-
-pub entry_utf8_takes : consumes entry_utf8 ≡ true
-unfolding entry_utf8 entry
-entry_utf8_takes = astring_takes
-
-pub annotation_takes : consumes annotation ≡ true
-unfolding annotation
-annotation_takes = rw entry_utf8_takes refl

@@ -7,6 +7,5 @@ pub mod MailboxData
 pub mod Annotations
 pub mod CodeTexts
 pub mod NameTexts
-pub mod AnnotationTexts
 pub mod MailboxDataTexts
 pub mod Owned

@@ -9,7 +9,7 @@ use Rattle.imap_items.specs.MailboxTexts.{canonical_mailbox, spells_mailbox}
 use Rattle.imap_data.specs.declared.types.counts.StatusAttribute.{StatusAttribute}
 use Rattle.imap_data.specs.declared.types.counts.StatusAttribute.TheVariants.{HighestModSeq, Messages, Recent as RecentItem, UidNext, UidValidity, Unseen}
 use Rattle.imap_data.specs.NameTexts.{canonical_list, spells_list_data}
-use Rattle.imap_data.specs.AnnotationTexts.{canonical_solicited, canonical_unsolicited, spells_solicited, spells_unsolicited}
+use Rattle.imap_extensions.specs.AnnotationTexts.{canonical_solicited, canonical_unsolicited, spells_solicited, spells_unsolicited}
 use Rattle.imap_data.specs.MailboxValues.{MailboxValue, Exists, Flags, Listed, Search, Sort, Status, Recent, MetadataSolicited, MetadataUnsolicited, GmailLabels, GmailMsgId, GmailThrId}
 
 abbrev pub canonical_item : StatusAttribute → Pieces

@@ -1,17 +1,11 @@
--- The values of mailbox data and annotations: texts by their bytes, and whether they lie in the input.
-use Rattle.std.specs.Prelude.{ℕ, List, Option, option_map, map}
-use Rattle.std.specs.String.{string_bytes}
-use Rattle.imap_grammar.specs.Text.{Bytes, Text, text_of, lent_text}
+-- The values of mailbox data: texts by their bytes, and whether they lie in the input.
+use Rattle.std.specs.Prelude.{ℕ, List, map}
+use Rattle.imap_grammar.specs.Text.{Text, text_of, lent_text}
+use Rattle.imap_extensions.specs.Annotations.{MetadataValue, metadata_value}
 use Rattle.imap_data.specs.Names.{ListValue, list_value, lent_list}
 use Rattle.imap_data.specs.declared.types.counts.StatusAttribute.{StatusAttribute}
-use Rattle.imap_data.specs.declared.types.annotations.Metadata.{Metadata}
 use Rattle.imap_data.specs.declared.types.mailbox_data.MailboxDatum.{MailboxDatum}
 use Rattle.imap_data.specs.declared.types.mailbox_data.MailboxDatum.TheVariants as datum
-
--- an annotation's texts are owned always
-pub record MetadataValue : Type 0 where
-  pub entry : Bytes
-  pub value : Option Bytes
 
 pub data MailboxValue : Type 0 where
   Exists : ℕ → MailboxValue
@@ -28,9 +22,6 @@ pub data MailboxValue : Type 0 where
   GmailThrId : ℕ → MailboxValue
 
 -- ---- of the code's values
-
-abbrev pub metadata_value : Metadata → MetadataValue
-metadata_value m = record { entry = string_bytes m.entry; value = option_map string_bytes m.value }
 
 abbrev pub mailbox_value : MailboxDatum → MailboxValue
 mailbox_value (datum.Exists n) = Exists n
@@ -66,9 +57,6 @@ lent_mailbox (GmailLabels labels) = GmailLabels (map lent_text labels)
 lent_mailbox other = other
 
 -- ---- what `==` tells of the code's values
-
-abbrev pub metadata_content : Metadata → MetadataValue
-metadata_content m = metadata_value m
 
 abbrev pub mailbox_content : MailboxDatum → MailboxValue
 mailbox_content d = lent_mailbox (mailbox_value d)

@@ -19,7 +19,9 @@ ghost use Rattle.imap_items.specs.Gmail as gmail;
 ghost use Rattle.imap_data.specs.MailboxData as mailbox_data;
 ghost use Rattle.imap_data.specs.Names.{attribute_content, list_content};
 ghost use Rattle.imap_data.specs.Counts.{item_content};
-ghost use Rattle.imap_data.specs.MailboxValues.{metadata_content, mailbox_content};
+ghost use Rattle.imap_data.specs.MailboxValues.{mailbox_content};
+ghost use Rattle.imap_extensions.specs.Annotations as annotations;
+ghost use Rattle.imap_extensions.specs.Annotations.{metadata_content};
 ghost use Rattle.imap_extensions.specs.Quotas as quotas;
 ghost use Rattle.imap_extensions.specs.Ids as ids;
 ghost use Rattle.imap_extensions.specs.Vanishings as vanishings;
@@ -52,13 +54,13 @@ ghost use Rattle.imap_extensions.specs.IdTexts.{canonical_id, spells_id};
 ghost use Rattle.imap_extensions.specs.VanishingTexts.{canonical_vanished, spells_vanished};
 ghost use Rattle.imap_extensions.specs.AclTexts.{canonical_acl, spells_acl, canonical_list_rights, spells_list_rights, canonical_my_rights, spells_my_rights};
 
-use crate::types::annotations::Metadata;
 use crate::types::codes::ResponseCode;
 use crate::types::counts::StatusAttribute;
 use crate::types::mailbox_data::MailboxDatum;
 use crate::types::names::{MailboxListData, NameAttribute};
 use imap_extensions::{
-    Acl, AclEntry, IdMap, ListRights, MyRights, Quota, QuotaResource, QuotaResourceName, QuotaRoot,
+    Acl, AclEntry, IdMap, ListRights, Metadata, MyRights, Quota, QuotaResource, QuotaResourceName,
+    QuotaRoot,
 };
 pub use imap_items::laws::conversions;
 use imap_items::{AclRight, Capability, Status, UidSetMember};
@@ -95,7 +97,7 @@ pub fn stable()
     ensures acl { Stable acls.acl }
     ensures list_rights { Stable acls.list_rights }
     ensures my_rights { Stable acls.my_rights }
-    ensures entry { Stable metadata.entry }
+    ensures entry { Stable annotations.entry }
     ensures metadata_solicited { Stable metadata.metadata_solicited }
     ensures metadata_unsolicited { Stable metadata.metadata_unsolicited }
 {}

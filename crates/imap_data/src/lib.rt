@@ -6,10 +6,10 @@ pub mod readers;
 mod types;
 
 pub use imap_extensions::{
-    Acl, AclEntry, IdMap, ListRights, MyRights, Quota, QuotaResource, QuotaResourceName, QuotaRoot,
+    Acl, AclEntry, IdMap, ListRights, Metadata, MyRights, Quota, QuotaResource, QuotaResourceName,
+    QuotaRoot,
 };
 pub use imap_items::{AclRight, Capability, Status, UidSetMember, at};
-pub use types::annotations::Metadata;
 pub use types::codes::ResponseCode;
 pub use types::counts::StatusAttribute;
 pub use types::mailbox_data::MailboxDatum;

@@ -1,10 +1,12 @@
 pub mod Quotas
 pub mod Ids
 pub mod Acls
+pub mod Annotations
 pub mod QuotaTexts
 pub mod IdTexts
 pub mod VanishingTexts
 pub mod AclTexts
+pub mod AnnotationTexts
 pub mod OptionalRights
 pub mod Takes
 pub mod IdPairs

@@ -1,8 +1,9 @@
 //! Laws of the rules and types of this crate, as contracts of functions that do nothing.
 
-ghost use Rattle.std.specs.Prelude.{option_map};
+ghost use Rattle.std.specs.Prelude.{map, option_map};
 ghost use Rattle.imap_grammar.specs.Stable.{Stable};
 ghost use Rattle.imap_grammar.specs.Equality.{Tells, HashesAlike};
+ghost use Rattle.imap_grammar.specs.Text.{lent_text};
 ghost use Rattle.imap_grammar.specs.ReadBack.{Keeps, Closes, as_is};
 ghost use Rattle.imap_extensions.specs.Quotas as quotas;
 ghost use Rattle.imap_extensions.specs.Quotas.{quota_content, quota_resource_content, quota_resource_name_content, quota_root_content, lent_quota, lent_quota_root};
@@ -15,8 +16,12 @@ ghost use Rattle.imap_extensions.specs.VanishingTexts.{canonical_vanished, spell
 ghost use Rattle.imap_extensions.specs.Acls as acls;
 ghost use Rattle.imap_extensions.specs.Acls.{acl_entry_content, acl_content, list_rights_content, my_rights_content, lent_acl, lent_list_rights, lent_my_rights};
 ghost use Rattle.imap_extensions.specs.AclTexts.{canonical_acl, spells_acl, canonical_list_rights, spells_list_rights, canonical_my_rights, spells_my_rights};
+ghost use Rattle.imap_extensions.specs.Annotations as annotations;
+ghost use Rattle.imap_extensions.specs.Annotations.{metadata_content};
+ghost use Rattle.imap_extensions.specs.AnnotationTexts.{canonical_metadata, canonical_annotations, canonical_entries, spells_metadata, spells_annotations, spells_entries};
 
 use crate::types::acls::{Acl, AclEntry, ListRights, MyRights};
+use crate::types::annotations::Metadata;
 use crate::types::ids::IdMap;
 use crate::types::quotas::{Quota, QuotaResource, QuotaResourceName, QuotaRoot};
 use std::hash::Hash;
@@ -34,6 +39,10 @@ pub fn stable()
     ensures acl { Stable acls.acl }
     ensures list_rights { Stable acls.list_rights }
     ensures my_rights { Stable acls.my_rights }
+    ensures entry { Stable annotations.entry }
+    ensures metadata_mailbox { Stable annotations.metadata_mailbox }
+    ensures annotations { Stable annotations.annotations }
+    ensures entries { Stable annotations.entries }
 {}
 
 /// `==` tells whether two values say the same: texts by their bytes, whichever lie in the input.
@@ -47,6 +56,7 @@ pub fn equality()
     ensures acl { Tells ⟦<Acl<'static> as PartialEq>⟧.eq acl_content }
     ensures list_rights { Tells ⟦<ListRights<'static> as PartialEq>⟧.eq list_rights_content }
     ensures my_rights { Tells ⟦<MyRights<'static> as PartialEq>⟧.eq my_rights_content }
+    ensures metadata { Tells ⟦<Metadata as PartialEq>⟧.eq metadata_content }
 {}
 
 /// Values that say the same hash alike.
@@ -59,7 +69,7 @@ pub fn hashing()
 
 /// What each rule takes spells the value that it yields. And a value that it yields on some bytes, it yields again on the value's canonical text, with all texts borrowed,
 /// and leaves exactly what follows: any bytes that begin with `)` or CR. A text too long for its length to be told as a literal is excepted.
-#[tactic(auto, using(crate::proofs::QuotaTexts::keeps_quota, crate::proofs::QuotaTexts::keeps_quota_root, crate::proofs::IdTexts::keeps_id, crate::proofs::VanishingTexts::keeps_vanished, crate::proofs::AclTexts::keeps_acl, crate::proofs::OptionalRights::keeps_list_rights, crate::proofs::AclTexts::keeps_my_rights))]
+#[tactic(auto, using(crate::proofs::QuotaTexts::keeps_quota, crate::proofs::QuotaTexts::keeps_quota_root, crate::proofs::IdTexts::keeps_id, crate::proofs::VanishingTexts::keeps_vanished, crate::proofs::AclTexts::keeps_acl, crate::proofs::OptionalRights::keeps_list_rights, crate::proofs::AclTexts::keeps_my_rights, crate::proofs::AnnotationTexts::keeps_metadata_mailbox, crate::proofs::AnnotationTexts::keeps_annotations, crate::proofs::AnnotationTexts::keeps_entries))]
 pub fn read_back()
     ensures quota { Keeps quotas.quota lent_quota canonical_quota spells_quota Closes }
     ensures quota_root { Keeps quotas.quota_root lent_quota_root canonical_quota_root spells_quota_root Closes }
@@ -68,4 +78,7 @@ pub fn read_back()
     ensures acl { Keeps acls.acl lent_acl canonical_acl spells_acl Closes }
     ensures list_rights { Keeps acls.list_rights lent_list_rights canonical_list_rights spells_list_rights Closes }
     ensures my_rights { Keeps acls.my_rights lent_my_rights canonical_my_rights spells_my_rights Closes }
+    ensures metadata_mailbox { Keeps annotations.metadata_mailbox lent_text canonical_metadata spells_metadata Closes }
+    ensures annotations { Keeps annotations.annotations as_is canonical_annotations spells_annotations Closes }
+    ensures entries { Keeps annotations.entries (map lent_text) canonical_entries spells_entries Closes }
 {}

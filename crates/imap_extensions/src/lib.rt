@@ -1,4 +1,4 @@
-//! The lines of extensions: QUOTA and QUOTAROOT, ID, ACL with LISTRIGHTS and MYRIGHTS, and VANISHED.
+//! The lines of extensions: QUOTA and QUOTAROOT, ID, ACL with LISTRIGHTS and MYRIGHTS, and VANISHED; and the parts of METADATA.
 #![tactic(auto)]
 
 pub mod laws;
@@ -6,5 +6,6 @@ pub mod readers;
 mod types;
 
 pub use types::acls::{Acl, AclEntry, ListRights, MyRights};
+pub use types::annotations::{Metadata, copied_annotations};
 pub use types::ids::{IdMap, owned_id_map};
 pub use types::quotas::{Quota, QuotaResource, QuotaResourceName, QuotaRoot};

@@ -1,6 +1,7 @@
 //! Readers of the lines of extensions, each of the rule of its name.
 
 pub mod acls;
+pub mod annotations;
 pub mod ids;
 pub mod quotas;
 pub mod vanishings;

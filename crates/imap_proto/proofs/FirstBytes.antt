@@ -11,7 +11,8 @@ use Rattle.imap_items.specs.Statuses.{status}
 use Rattle.imap_data.specs.MailboxData.{flags, exists, list, lsub, status as mailbox_status, recent, search, labels, msgid, thrid, sort, mailbox_datum}
 use Rattle.imap_items.specs.Gmail.{gmail_label_list, gmail_msgid, gmail_thrid}
 use Rattle.imap_items.specs.Capabilities.{capability_data, enabled_data}
-use Rattle.imap_data.specs.Annotations.{metadata_solicited, metadata_unsolicited, metadata_mailbox}
+use Rattle.imap_data.specs.Annotations.{metadata_solicited, metadata_unsolicited}
+use Rattle.imap_extensions.specs.Annotations.{metadata_mailbox}
 use Rattle.imap_extensions.specs.Vanishings.{vanished}
 use Rattle.imap_extensions.specs.Quotas.{quota, quota_root}
 use Rattle.imap_extensions.specs.Ids.{id}

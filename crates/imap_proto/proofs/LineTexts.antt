@@ -35,10 +35,12 @@ use Rattle.imap_items.proofs.CapabilityTexts.{offered_yields, enabled_yields, ke
 use Rattle.imap_data.specs.MailboxValues.{Exists, Flags, Listed, Search, Sort, Recent, GmailLabels, GmailMsgId, GmailThrId}
 use Rattle.imap_data.specs.MailboxData.{flags, exists, list, lsub, status_of, status as mailbox_status, recent, search as search_rule, labels, msgid, thrid, sort, mailbox_datum}
 use Rattle.imap_data.specs.MailboxDataTexts.{canonical_datum}
-use Rattle.imap_data.specs.Annotations.{metadata_mailbox, annotations, solicited_of, unsolicited_of, metadata_solicited, metadata_unsolicited}
-use Rattle.imap_data.specs.AnnotationTexts.{canonical_metadata}
+use Rattle.imap_extensions.specs.Annotations.{metadata_mailbox, annotations}
+use Rattle.imap_extensions.specs.AnnotationTexts.{canonical_metadata}
+use Rattle.imap_extensions.proofs.AnnotationTexts.{reads_metadata}
+use Rattle.imap_data.specs.Annotations.{solicited_of, unsolicited_of, metadata_solicited, metadata_unsolicited}
 use Rattle.imap_data.proofs.MailboxDataTexts.{reads_mailbox_datum, mailbox_datum_spells}
-use Rattle.imap_data.proofs.AnnotationTexts.{reads_metadata, keeps_solicited, keeps_unsolicited}
+use Rattle.imap_data.proofs.AnnotationTexts.{keeps_solicited, keeps_unsolicited}
 use Rattle.imap_extensions.specs.Vanishings.{vanished}
 use Rattle.imap_extensions.specs.Quotas.{quota, quota_root}
 use Rattle.imap_extensions.specs.Ids.{id}

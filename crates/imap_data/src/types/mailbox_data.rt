@@ -4,9 +4,9 @@ ghost use Rattle.std.specs.Prelude.{◌≡◌, IfOk, IsOk};
 ghost use Rattle.imap_data.specs.MailboxValues.{mailbox_value, IsNumber};
 ghost use Rattle.imap_data.specs.Owned.{owned_mailbox};
 
-use super::annotations::{Metadata, copied_annotations};
 use super::counts::StatusAttribute;
 use super::names::MailboxListData;
+use imap_extensions::{Metadata, copied_annotations};
 use imap_items::copies::{copied_text, copied_texts};
 use imap_items::owned::{owned_text, owned_texts};
 use std::alloc::{AllocError, Global};

@@ -3,7 +3,7 @@
 ghost use Rattle.std.specs.Prelude.{◌≡◌, IfOk, map};
 ghost use Rattle.std.specs.Option.{option_map};
 ghost use Rattle.std.specs.String.{string_bytes};
-ghost use Rattle.imap_data.specs.MailboxValues.{metadata_value};
+ghost use Rattle.imap_extensions.specs.Annotations.{metadata_value};
 
 use std::alloc::AllocError;
 
@@ -37,7 +37,8 @@ fn copied_value(value: &Option<String>) -> Result<Option<String>, AllocError>
     })
 }
 
-pub(crate) fn copied_annotations(annotations: &Vec<Metadata>) -> Result<Vec<Metadata>, AllocError>
+/// The same annotations. It takes memory for the list and for the texts; `Err` where there is none.
+pub fn copied_annotations(annotations: &Vec<Metadata>) -> Result<Vec<Metadata>, AllocError>
     ensures { IfOk result (λ v. map metadata_value v.items ≡ map metadata_value annotations.now.items) }
 {
     let mut copy = Vec::with_capacity(*annotations.allocator(), annotations.len())?;

@@ -1,11 +1,18 @@
--- What stands behind a word, by what `strip_prefix` says.
-use Rattle.std.proofs.Common.{◌≡◌, ℕ, ◌+◌, List, [], ◌∷◌, length, take, drop, Bool, true, false, ◌&&◌, eqb, Option, Some, None, refl, ap, ◌∙◌}
+-- What `==` tells of annotations; and what stands behind a word, by what `strip_prefix` says.
+use Rattle.std.proofs.Common.{rules, ◌≡◌, ℕ, ◌+◌, List, [], ◌∷◌, length, take, drop, Bool, true, false, ◌&&◌, eqb, Option, Some, None, refl, ap, ◌∙◌}
 use Rattle.std.specs.Option.{option_map, MatchOption}
 use Rattle.std.specs.Bool.{if◌then◌else◌}
 use Rattle.std.specs.Borrow.{Bor}
 use Rattle.std.specs.Cmp.Lexicographic.{pointwise}
+use Rattle.imap_grammar.specs.Equality.{Tells}
 use Rattle.imap_grammar.specs.Text.{Bytes}
-use Rattle.imap_data.specs.Annotations.{behind}
+use Rattle.imap_extensions.specs.Annotations.{metadata_content, behind}
+use Rattle.imap_extensions.specs.contracts.types.annotations.MetadataPartialEq.TheImpl as metadata_eq
+
+pub metadata_tell : Tells (metadata_eq.eq-value).it metadata_content
+metadata_tell = search rules
+
+-- ---- words in front
 
 -- whether the bytes begin with the word
 abbrev pub begins_with : List ℕ → List ℕ → Bool
