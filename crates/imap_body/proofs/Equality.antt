@@ -1,5 +1,5 @@
 -- What `==` tells of sections and of attributes.
-use Rattle.std.proofs.Common.{rules, ◌≡◌, refl, ap, Bool, true, map, nat_eq, ℕ, Option, None, Some, Vec, Global}
+use Rattle.std.proofs.Common.{rules, ◌≡◌, refl, ap, Bool, true, map, nat_eq, ℕ, List, [], ◌∷◌, get_or, Option, None, Some, Vec, Global}
 use Rattle.std.specs.Cow.{cow_slice_items}
 use Rattle.std.specs.Option.{option_map, option_eq}
 use Rattle.std.specs.Cmp.Lexicographic.{pointwise}
@@ -12,12 +12,18 @@ use mir.Syntax.{Dict}
 use Rattle.imap_grammar.specs.Text.{Text, as_text, lent_text}
 use Rattle.imap_grammar.specs.Equality.{Tells}
 use Rattle.imap_grammar.proofs.Seen.{numbers_tell, text_tells, option_tells, options_tell, retold, lists_tell}
+use Rattle.imap_grammar.specs.declared.at.span.Span.{Span}
+use Rattle.imap_grammar.specs.contracts.at.span.SpanPartialEq.TheImpl as span_eq
 use Rattle.imap_shapes.specs.Spans.{bytes_of}
+use Rattle.imap_shapes.specs.declared.spans.SpannedText.{SpannedText}
+use Rattle.imap_shapes.specs.declared.spans.SpannedText.TheVariants as spanned
+use Rattle.imap_shapes.specs.contracts.spans.SpannedTextPartialEq.TheImpl as text_eq
 use Rattle.imap_shapes.specs.BodyValues.{BodyValue}
 use Rattle.imap_shapes.specs.Lent.{lent_ntext, lent_body}
 use Rattle.imap_shapes.proofs.Equality.{field, named_tell, envelope_tells}
 use Rattle.imap_body.specs.SectionValues.{path_value}
 use Rattle.imap_body.specs.AttributeValues.{AttributeValue, BodySection, BodyStructure, Envelope, Flags, InternalDate, ModSeq, Rfc822, Rfc822Header, Rfc822Size, Rfc822Text, Uid, GmailLabels, GmailMsgId, GmailThrId, EmailId, ThreadId, attribute_seen, lent_attribute}
+use Rattle.imap_body.specs.SpannedAttributes.{place_of, place_of_text}
 use Rattle.imap_body.specs.declared.types.attributes.AttributeParts.{AttributeParts}
 use Rattle.imap_body.specs.declared.types.attributes.AttributeParts.TheVariants as parts
 use Rattle.imap_body.specs.contracts.types.sections.MessageSectionPartialEq.TheImpl as section_eq
@@ -36,6 +42,37 @@ sections_tell = search rules
 
 pub paths_tell : Tells (path_eq.eq-value).it path_value
 paths_tell = search rules
+
+-- ---- positions: a span's two numbers, and the texts that are no spans, are had again from what they are seen as
+
+pub spans_tell : Tells (span_eq.eq-value).it (λ s. s)
+spans_tell = search rules
+
+abbrev span_at : Text → Span
+span_at t = record { start = get_or t.bytes 0 0; end = get_or t.bytes 1 0 }
+
+pub places_tell : Tells (span_eq.eq-value).it (λ s. lent_text (place_of s))
+places_tell = named_tell spans_tell (λ s. lent_text (place_of s)) span_at (λ s. refl)
+
+spanned_texts_tell : Tells (text_eq.eq-value).it (λ x. x)
+spanned_texts_tell = search rules
+
+abbrev text_at : List ℕ → SpannedText
+text_at (a ∷ b ∷ []) = spanned.Part (record { start = a; end = b })
+text_at (a ∷ b ∷ c ∷ d ∷ []) = spanned.Text
+text_at (a ∷ b ∷ c ∷ d ∷ e ∷ f ∷ []) = spanned.Rfc822
+text_at (a ∷ b ∷ c ∷ d ∷ e ∷ f ∷ g ∷ []) = spanned.Message
+text_at bytes = spanned.Multipart
+
+pub text_places_tell : Tells (text_eq.eq-value).it (λ x. lent_text (place_of_text x))
+text_places_tell = named_tell spanned_texts_tell (λ x. lent_text (place_of_text x)) (λ t. text_at t.bytes) back
+  where
+    back : (x : SpannedText) → text_at (place_of_text x).bytes ≡ x
+    back (spanned.Part s) = refl
+    back spanned.Text = refl
+    back spanned.Message = refl
+    back spanned.Rfc822 = refl
+    back spanned.Multipart = refl
 
 indexes_tell : Tells (option_eq nat_eq) (λ (x : Option ℕ). x)
 indexes_tell = retold (option_map (λ n. n)) (λ x. x) same (option_tells nat_eq (λ n. n) numbers_tell)

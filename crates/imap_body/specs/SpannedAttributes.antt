@@ -1,10 +1,15 @@
 -- Attributes that are kept as positions of a message: what they name in one, and how they stand in it.
-use Rattle.std.specs.Prelude.{◌≡◌, ℕ, ◌+◌, ◌≤◌, List, [], ◌∷◌, drop}
-use Rattle.imap_grammar.specs.Text.{Bytes}
+use Rattle.std.specs.Prelude.{◌≡◌, ℕ, ◌+◌, ◌≤◌, List, [], ◌∷◌, drop, codes}
+use Rattle.imap_grammar.specs.Text.{Bytes, Text, as_text}
+use Rattle.imap_grammar.specs.declared.at.span.Span.{Span}
 use Rattle.imap_grammar.specs.Positions.{named_in}
 use Rattle.imap_grammar.specs.Rule.{meaning}
 use Rattle.imap_body.specs.declared.spanned.SpannedAttribute.{SpannedAttribute}
-use Rattle.imap_body.specs.AttributeValues.{AttributeValue, parts_in}
+use Rattle.imap_shapes.specs.BodyValues.{BodyValue, body_seen}
+use Rattle.imap_shapes.specs.declared.shapes.bodies.BodyStructure.{BodyStructure as Structure}
+use Rattle.imap_shapes.specs.declared.spans.SpannedText.{SpannedText}
+use Rattle.imap_shapes.specs.declared.spans.SpannedText.TheVariants as spanned
+use Rattle.imap_body.specs.AttributeValues.{AttributeValue, AttributeSpans, attribute_seen, parts_in, lent_attribute}
 use Rattle.imap_body.specs.Attributes.{attribute}
 
 -- What it names in m: its positions count from where its span starts, and name bytes of the span alone.
@@ -22,3 +27,26 @@ pub record StandsAt (m : Bytes) (p q : ℕ) (s : SpannedAttribute) : Type 0 wher
 abbrev pub InTurn : Bytes → ℕ → ℕ → List SpannedAttribute → Type 0
 InTurn m p q [] = Unit {0}
 InTurn m p q (s ∷ rest) = StandsAt m p q s × InTurn m (s.span.end + 1) q rest
+
+-- ---- the positions themselves, whatever message they are of: a span is seen as a text of its two numbers
+
+abbrev pub place_of : Span → Text
+place_of s = as_text (s.start ∷ s.end ∷ [])
+
+-- a text that a rule fixes is seen as itself: none has two characters
+abbrev pub place_of_text : SpannedText → Text
+place_of_text (spanned.Part s) = place_of s
+place_of_text spanned.Text = as_text (codes "TEXT")
+place_of_text spanned.Message = as_text (codes "MESSAGE")
+place_of_text spanned.Rfc822 = as_text (codes "RFC822")
+place_of_text spanned.Multipart = as_text (codes "MULTIPART")
+
+abbrev pub places_of_body : Structure SpannedText Span → BodyValue
+places_of_body = body_seen place_of_text place_of
+
+abbrev pub places_of : AttributeSpans → AttributeValue
+places_of x = attribute_seen place_of place_of (λ b. places_of_body b.value) x
+
+-- where it stands, and the places in it
+abbrev pub spanned_value : SpannedAttribute → Span × AttributeValue
+spanned_value s = (s.span, lent_attribute (places_of s.parts))

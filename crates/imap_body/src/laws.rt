@@ -22,14 +22,18 @@ ghost use Rattle.imap_grammar.specs.ReadBack.{Keeps, Closes, EndsItem, as_is};
 ghost use Rattle.imap_shapes.specs.Lent.{lent_address, lent_addresses, lent_envelope, lent_params, lent_encoding, lent_fields, lent_disposition, lent_languages, lent_extension, lent_ext_1part, lent_ext_mpart, lent_type, lent_common, lent_single, lent_body};
 ghost use Rattle.imap_body.specs.SectionTexts.{canonical_text, canonical_part, canonical_path, canonical_section, spells_message_text, spells_text, spells_part, spells_path, spells_section};
 ghost use Rattle.imap_body.specs.AttributeValues.{attribute_seen, attribute_value, lent_attribute};
+ghost use Rattle.imap_body.specs.SpannedAttributes.{places_of_body, places_of, spanned_value};
 ghost use Rattle.imap_body.specs.AttributeTexts.{canonical_attribute, canonical_attributes, spells_attribute, spells_attributes};
 ghost use Rattle.imap_structure.specs.EnvelopeTexts.{canonical_address, canonical_addresses, canonical_envelope, spells_address, spells_addresses, spells_envelope};
 ghost use Rattle.imap_structure.specs.FieldTexts.{canonical_params, canonical_encoding, canonical_fields, spells_params, spells_encoding, spells_fields};
 ghost use Rattle.imap_structure.specs.ExtensionTexts.{canonical_disposition, canonical_languages, canonical_extension, canonical_ext_1part, canonical_ext_mpart, spells_disposition, spells_languages, spells_extension, spells_ext_1part, spells_ext_mpart};
 ghost use Rattle.imap_structure.specs.BodyTexts.{canonical_body, spells_body};
 
-use crate::types::attributes::{AttributeParts, AttributeValue};
+use crate::spanned::SpannedAttribute;
+use crate::types::attributes::{AttributeParts, AttributeSpans, AttributeValue};
 use crate::types::sections::{MessageSection, SectionPath};
+use imap_shapes::shapes::bodies::BodyStructure as Structure;
+use imap_shapes::spans::{Span, SpannedText};
 use imap_shapes::{
     Address, BodyContentCommon, BodyContentSinglePart, BodyExtension, BodyParams, BodyStructure,
     ContentDisposition, ContentEncoding, ContentType, Envelope, laws,
@@ -130,7 +134,17 @@ fn attributes_equality<S: PartialEq, B: PartialEq, Y: PartialEq>()
     ensures { (f : S → Text) (g : B → Text) (h : Y → BodyValue) → Tells S.eq (λ s. lent_text (f s)) → Tells B.eq (λ b. lent_text (g b)) → Tells Y.eq (λ y. lent_body (h y)) → Tells ⟦<AttributeParts<S, B, Y> as PartialEq>⟧.eq (λ x. lent_attribute (attribute_seen f g h x)) }
 {}
 
-/// `==` tells whether two values say the same: texts by their bytes, whichever lie in the input.
+// `==` tells body structures and attributes of spans by their positions.
+fn spans_equality()
+    ensures body_structure { Tells ⟦<Structure<SpannedText, Span> as PartialEq>⟧.eq (λ x. lent_body (places_of_body x)) }
+    ensures attribute { Tells ⟦<AttributeSpans as PartialEq>⟧.eq (λ x. lent_attribute (places_of x)) }
+{
+    laws::equality::<SpannedText, Span>();
+    attributes_equality::<Span, Span, Box<Structure<SpannedText, Span>>>();
+}
+
+/// `==` tells whether two values say the same: texts by their bytes, whichever lie in the input. What is kept as positions it tells by these,
+/// field by field, whatever they name in a message.
 pub fn equality()
     ensures message_section { Tells ⟦<MessageSection as PartialEq>⟧.eq (λ x. x) }
     ensures section_path { Tells ⟦<SectionPath as PartialEq>⟧.eq path_value }
@@ -145,7 +159,10 @@ pub fn equality()
     ensures content_single_part { Tells ⟦<BodyContentSinglePart<'static> as PartialEq>⟧.eq (λ x. lent_single (single_seen text_of x)) }
     ensures body_structure { Tells ⟦<BodyStructure<'static> as PartialEq>⟧.eq (λ x. lent_body (body_seen text_of bytes_of x)) }
     ensures attribute { Tells ⟦<AttributeValue<'static> as PartialEq>⟧.eq (λ x. lent_attribute (attribute_value x)) }
+    ensures spanned_body_structure { Tells ⟦<Structure<SpannedText, Span> as PartialEq>⟧.eq (λ x. lent_body (places_of_body x)) }
+    ensures spanned_attribute { Tells ⟦<SpannedAttribute as PartialEq>⟧.eq spanned_value }
 {
+    spans_equality();
     laws::equality::<CowStr<'static>, CowSlice<'static, u8>>();
     attributes_equality::<CowStr<'static>, CowSlice<'static, u8>, BodyStructure<'static>>();
 }

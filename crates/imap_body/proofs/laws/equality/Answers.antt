@@ -2,7 +2,8 @@ use Rattle.imap_grammar.specs.Text.{text_of}
 use Rattle.imap_grammar.proofs.Seen.{texts_tell}
 use Rattle.imap_shapes.specs.Spans.{bytes_of}
 use Rattle.imap_shapes.specs.BodyValues.{body_seen}
-use Rattle.imap_body.proofs.Equality.{slices_tell, sections_tell, paths_tell}
+use Rattle.imap_shapes.proofs.Equality.{both_tell, field}
+use Rattle.imap_body.proofs.Equality.{slices_tell, sections_tell, paths_tell, spans_tell}
 use Rattle.imap_body.proofs.laws.equality.Goals as goal
 
 pub returns-clause-message_section : goal.returns-clause-message_section
@@ -44,3 +45,9 @@ returns-clause-body_structure c = c.equality.ensures.body_structure text_of byte
 pub returns-clause-attribute : goal.returns-clause-attribute
 returns-clause-attribute c =
     c.attributes_equality.ensures text_of bytes_of (body_seen text_of bytes_of) texts_tell slices_tell (c.equality.ensures.body_structure text_of bytes_of texts_tell slices_tell)
+
+pub returns-clause-spanned_body_structure : goal.returns-clause-spanned_body_structure
+returns-clause-spanned_body_structure c = c.spans_equality.ensures.body_structure
+
+pub returns-clause-spanned_attribute : goal.returns-clause-spanned_attribute
+returns-clause-spanned_attribute c = both_tell (field (λ x. x.span) spans_tell) (field (λ x. x.parts) c.spans_equality.ensures.attribute)
