@@ -1,4 +1,4 @@
--- What `==` tells of outcomes and responses.
+-- What `==` tells of outcomes and responses, and of what stands in a stream.
 use Rattle.std.proofs.Common.{rules, ◌≡◌, ℕ, refl, ap, true, map, nat_eq, Bool, ◌&&◌, Global, Vec}
 use Rattle.std.specs.Bool.{beq}
 use Rattle.std.specs.Option.{option_map, option_eq}
@@ -12,7 +12,7 @@ use Rattle.imap_grammar.specs.Ranges.{range_of}
 use Rattle.std.proofs.lemmas.Bool.{and_parts, and_from}
 use Rattle.imap_grammar.specs.Text.{text_of, lent_text}
 use Rattle.imap_grammar.specs.Equality.{Tells}
-use Rattle.imap_grammar.proofs.Seen.{numbers_tell, texts_tell, items_tell, lists_tell, options_tell}
+use Rattle.imap_grammar.proofs.Seen.{numbers_tell, text_tells, texts_tell, items_tell, lists_tell, options_tell}
 use Rattle.imap_items.specs.Capabilities.{capability_value, lent_capability}
 use Rattle.imap_items.proofs.Capabilities.{capability_tells}
 use Rattle.imap_items.specs.contracts.types.statuses.StatusPartialEq.TheImpl as status_eq
@@ -30,11 +30,14 @@ use Rattle.imap_shapes.proofs.Equality.{both_tell, named_tell, field}
 use Rattle.imap_shapes.specs.declared.shapes.bodies.BodyStructure.{BodyStructure}
 use Rattle.imap_body.specs.declared.types.attributes.AttributeParts.{AttributeParts}
 use Rattle.imap_proto.specs.Responses.{Capabilities, Continue, Done, Data, Expunge, Vanished, Fetch, MailboxData, Quota, QuotaRoot, Id, Acl, ListRights, MyRights, outcome_value, response_value, lent_outcome, lent_response}
+use Rattle.imap_proto.specs.Feeds.{lent_whole}
 use Rattle.imap_proto.specs.declared.response.Response.{Response}
 use Rattle.imap_proto.specs.declared.response.Response.TheVariants as code
 use Rattle.imap_proto.specs.contracts.outcome.OutcomePartialEq.TheImpl as outcome_eq
 use Rattle.imap_proto.specs.contracts.response.RequestIdPartialEq.TheImpl as tag_eq
 use Rattle.imap_proto.specs.contracts.response.ResponsePartialEq.TheImpl as response_eq
+use Rattle.imap_proto.specs.contracts.stream.EndPartialEq.TheImpl as end_eq
+use Rattle.imap_proto.specs.contracts.stream.WholePartialEq.TheImpl as whole_eq
 
 -- ---- outcomes
 
@@ -81,6 +84,9 @@ fetches_tell eq t = record {
   equal = λ p q h. and_from _ _ (numbers_tell.equal p.0 q.0 cc) ((lists_tell eq attribute_value lent_attribute t).equal p.1.items q.1.items cc);
 }
 
+ends_tell : Tells (end_eq.eq-value).it (λ e. e)
+ends_tell = search rules
+
 module _ (fetches : FetchesTold) where
   response_same : (x y : Response) → (response_eq.eq-value).it x y ≡ true → lent_response (response_value x) ≡ lent_response (response_value y)
   response_same (code.Capabilities x) (code.Capabilities y) h = ap Capabilities (capabilities_tell.same x.items y.items h)
@@ -122,3 +128,9 @@ module _ (fetches : FetchesTold) where
 
   pub response_tells : Tells (response_eq.eq-value).it (λ r. lent_response (response_value r))
   response_tells = record { same = response_same; equal = response_equal }
+
+  responses_tell : Tells (pointwise (response_eq.eq-value).it) (λ xs. map lent_response (map response_value xs))
+  responses_tell = lists_tell (response_eq.eq-value).it response_value lent_response response_tells
+
+  pub whole_tells : Tells (whole_eq.eq-value).it lent_whole
+  whole_tells = both_tell (field (λ w. w.responses.items) responses_tell) (both_tell (field (λ w. w.rest.items) text_tells) (field (λ w. w.end) ends_tell))

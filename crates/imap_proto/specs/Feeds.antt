@@ -11,7 +11,7 @@ use Rattle.imap_proto.specs.declared.stream.End.{End}
 use Rattle.imap_proto.specs.declared.stream.FeedError.{FeedError}
 use Rattle.imap_proto.specs.declared.stream.FeedError.TheVariants.{Denied, OutOfMemory}
 use Rattle.imap_proto.specs.declared.stream.Whole.{Whole}
-use Rattle.imap_proto.specs.Responses.{ResponseValue, response_value}
+use Rattle.imap_proto.specs.Responses.{ResponseValue, response_value, lent_response}
 use Rattle.imap_proto.specs.Owned.{owned_response}
 use Rattle.imap_proto.specs.Lines.{response}
 use Rattle.imap_proto.specs.Streams.{Waiting, Splits}
@@ -43,6 +43,10 @@ Takes held before left after end = (vs : List ResponseValue) × (map response_va
 -- the split of m, the texts of its responses owned
 abbrev pub IsWhole : Bytes → Whole → Type 0
 IsWhole m w = (vs : List ResponseValue) × (map response_value w.responses.items ≡ map owned_response vs) × Splits m vs w.rest.items w.end
+
+-- what it says, with all texts borrowed: two wholes say the same where these are one
+abbrev pub lent_whole : Whole → List ResponseValue × (Bytes × End)
+lent_whole w = (map lent_response (map response_value w.responses.items), (w.rest.items, w.end))
 
 -- ---- law
 

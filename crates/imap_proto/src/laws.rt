@@ -8,14 +8,14 @@ ghost use Rattle.imap_command.specs.Apart.{CallsToldApart};
 ghost use Rattle.imap_proto.specs.Outcomes as outcomes;
 ghost use Rattle.imap_proto.specs.Lines as rule;
 ghost use Rattle.imap_proto.specs.Streams.{SomeSplit, OneSplit, BeginningsWait, SplitsGoOn, FeedsSplit, CuttingsAlike};
-ghost use Rattle.imap_proto.specs.Feeds.{OneWhole};
+ghost use Rattle.imap_proto.specs.Feeds.{OneWhole, lent_whole};
 ghost use Rattle.imap_grammar.specs.ReadBack.{Spells};
 ghost use Rattle.imap_proto.specs.LineTexts.{spells_response, CanonicalReadsBack, Same};
 ghost use Rattle.imap_proto.specs.Responses.{ResponseValue, outcome_value, response_value, lent_outcome, lent_response};
 
 use crate::outcome::Outcome;
 use crate::response::{RequestId, Response};
-use crate::stream::End;
+use crate::stream::{End, FeedError, Whole};
 use imap_body::laws;
 
 /// Each rule has one answer, and appended bytes change neither a value nor a denial, and make what is lacking as much smaller.
@@ -70,6 +70,8 @@ pub fn equality()
     ensures outcome { Tells ⟦<Outcome<'static> as PartialEq>⟧.eq (λ o. lent_outcome (outcome_value o)) }
     ensures response { Tells ⟦<Response<'static> as PartialEq>⟧.eq (λ r. lent_response (response_value r)) }
     ensures end { Tells ⟦<End as PartialEq>⟧.eq (λ e. e) }
+    ensures feed_error { Tells ⟦<FeedError as PartialEq>⟧.eq (λ e. e) }
+    ensures whole { Tells ⟦<Whole as PartialEq>⟧.eq lent_whole }
 {
     laws::equality();
 }
@@ -77,6 +79,7 @@ pub fn equality()
 /// A clone takes no memory, and is the same value.
 pub fn cloning()
     ensures end { CopiesFreely ⟦<End as Clone>⟧.is_infallible ⟦<End as Clone>⟧.is_clone }
+    ensures feed_error { CopiesFreely ⟦<FeedError as Clone>⟧.is_infallible ⟦<FeedError as Clone>⟧.is_clone }
 {}
 
 /// The default of an outcome has neither a code nor a text.
