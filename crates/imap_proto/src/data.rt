@@ -2,7 +2,7 @@
 //!
 //! These readers are calls of their own: inlined into one another, each would clear the slots of all the others' values at each response.
 
-ghost use Rattle.std.specs.Prelude.{◌≡◌, ◌<◌, length, map, position, IfSome};
+ghost use Rattle.std.specs.Prelude.{◌≡◌, ◌<◌, length, map, position, IfSome, Err as Refused};
 ghost use Rattle.imap_grammar.specs.Answer.{Exactly, Gives};
 ghost use Rattle.imap_grammar.specs.Meaning.{outside};
 ghost use Rattle.imap_grammar.specs.Memory.{SucceedsFor};
@@ -193,26 +193,39 @@ fn acl_line(alloc: Global, i: &[u8]) -> IResult<&[u8], Response<'_>>
     Err(Err::Error)
 }
 
-/// A datum and the end of its line: of the alternatives those are tried, in order, that may start with the first byte.
-#[tactic(auto, using(crate::proofs::FirstBytes::datum_none, crate::proofs::FirstBytes::datum_of_status, crate::proofs::FirstBytes::datum_of_number, crate::proofs::FirstBytes::datum_of_mailbox, crate::proofs::FirstBytes::datum_of_list, crate::proofs::FirstBytes::datum_of_capability, crate::proofs::FirstBytes::datum_of_enabled, crate::proofs::FirstBytes::datum_of_annotation, crate::proofs::FirstBytes::datum_of_vanished, crate::proofs::FirstBytes::datum_of_quota, crate::proofs::FirstBytes::datum_of_id, crate::proofs::FirstBytes::datum_of_acl, crate::proofs::FirstBytes::datum_other))]
-#[inline(always)]
-pub(crate) fn datum_line(alloc: Global, i: &[u8]) -> IResult<&[u8], Response<'_>>
-    ensures steps { Gives response_value result (step rule.ended_datum i.now) }
-    ensures memory { SucceedsFor TakesNone rule.ended_datum i.now result }
+// An answer without a response. It is a call, so that an answer of a line is copied once.
+#[cold]
+#[inline(never)]
+fn no_response<'a>(e: Err) -> IResult<&'a [u8], Response<'a>>
+    ensures { result ≡ Refused e }
 {
-    match i.first() {
-        None => Err(Err::Incomplete(Needed::Unknown)),
-        Some(b'o' | b'O' | b'n' | b'N' | b'b' | b'B' | b'p' | b'P') => status_line(alloc, i),
-        Some(b'f' | b'F' | b's' | b'S' | b'x' | b'X') => mailbox_line(alloc, i),
-        Some(b'l' | b'L') => list_line(alloc, i),
-        Some(b'c' | b'C') => capability_line(alloc, i),
-        Some(b'e' | b'E') => enabled_line(alloc, i),
-        Some(b'm' | b'M') => annotation_line(alloc, i),
-        Some(b'v' | b'V') => vanished_line(alloc, i),
-        Some(b'q' | b'Q') => quota_line(alloc, i),
-        Some(b'i' | b'I') => id_line(alloc, i),
-        Some(b'a' | b'A') => acl_line(alloc, i),
-        Some(b) if b.is_ascii_digit() => numbered_line(alloc, i),
-        Some(_) => Err(Err::Error),
+    Err(e)
+}
+
+/// `* `, a datum and the end of its line: of the alternatives those are tried, in order, that may start with the first byte.
+#[tactic(auto, using(crate::proofs::FirstBytes::datum_none, crate::proofs::FirstBytes::datum_of_status, crate::proofs::FirstBytes::datum_of_number, crate::proofs::FirstBytes::datum_of_mailbox, crate::proofs::FirstBytes::datum_of_list, crate::proofs::FirstBytes::datum_of_capability, crate::proofs::FirstBytes::datum_of_enabled, crate::proofs::FirstBytes::datum_of_annotation, crate::proofs::FirstBytes::datum_of_vanished, crate::proofs::FirstBytes::datum_of_quota, crate::proofs::FirstBytes::datum_of_id, crate::proofs::FirstBytes::datum_of_acl, crate::proofs::FirstBytes::datum_other), unfolding(crate::specs::Lines::data_line))]
+#[inline(never)]
+pub(crate) fn data_line(alloc: Global, i: &[u8]) -> IResult<&[u8], Response<'_>>
+    ensures steps { Gives response_value result (step rule.data_line i.now) }
+    ensures memory { SucceedsFor TakesNone rule.data_line i.now result }
+{
+    let rest = match tag(b"* ", i) {
+        Ok((rest, _)) => rest,
+        Err(e) => return no_response(e),
+    };
+    match rest.first() {
+        None => no_response(Err::Incomplete(Needed::Unknown)),
+        Some(b'o' | b'O' | b'n' | b'N' | b'b' | b'B' | b'p' | b'P') => status_line(alloc, rest),
+        Some(b'f' | b'F' | b's' | b'S' | b'x' | b'X') => mailbox_line(alloc, rest),
+        Some(b'l' | b'L') => list_line(alloc, rest),
+        Some(b'c' | b'C') => capability_line(alloc, rest),
+        Some(b'e' | b'E') => enabled_line(alloc, rest),
+        Some(b'm' | b'M') => annotation_line(alloc, rest),
+        Some(b'v' | b'V') => vanished_line(alloc, rest),
+        Some(b'q' | b'Q') => quota_line(alloc, rest),
+        Some(b'i' | b'I') => id_line(alloc, rest),
+        Some(b'a' | b'A') => acl_line(alloc, rest),
+        Some(b) if b.is_ascii_digit() => numbered_line(alloc, rest),
+        Some(_) => no_response(Err::Error),
     }
 }

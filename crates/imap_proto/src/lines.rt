@@ -10,7 +10,7 @@ ghost use Rattle.imap_proto.specs.Memory.{TakesNone};
 ghost use Rattle.imap_proto.specs.Responses.{response_value};
 ghost use Rattle.imap_proto.specs.Lines as rule;
 
-use crate::data::datum_line;
+use crate::data::data_line;
 use crate::outcomes::{outcome, spaced_outcome};
 use crate::response::{RequestId, Response};
 use imap_bytes::strings::as_utf8;
@@ -30,16 +30,6 @@ fn continuation(alloc: Global, i: &[u8]) -> IResult<&[u8], Response<'_>>
     let (rest, outcome) = outcome(alloc, rest)?;
     let (rest, _) = tag(b"\r\n", rest)?;
     Ok((rest, Response::Continue(outcome)))
-}
-
-#[tactic(auto, unfolding(crate::specs::Lines::data_line))]
-#[inline(never)]
-fn data_line(alloc: Global, i: &[u8]) -> IResult<&[u8], Response<'_>>
-    ensures steps { Gives response_value result (step rule.data_line i.now) }
-    ensures memory { SucceedsFor TakesNone rule.data_line i.now result }
-{
-    let (rest, _) = tag(b"* ", i)?;
-    datum_line(alloc, rest)
 }
 
 fn is_tag_char(c: u8) -> bool
