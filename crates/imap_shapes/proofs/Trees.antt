@@ -58,16 +58,24 @@ among h (x ∷ xs) (suc k) d less = further (bodies_in (h (get_or xs k d))) (bod
     further : (a b c : ℕ) → a ≤ c → a ≤ b + c
     further a b c le = omega (arith, le)
 
--- the same of a tree, whatever its texts
+-- the same of a tree, and of a list of trees, whatever their texts
 pub bodies_of_tree : {S B : Type 0} → BodyStructure S B → ℕ
 bodies_of_tree b = bodies_in (body_seen (λ s. as_text []) (λ s. as_text []) b)
 
-pub fewer_in_multipart : {S B : Type 0} (b : BodyStructure S B) (common : BodyContentCommon S) (bodies : Vec (BodyStructure S B) Global) (last : Option (BodyExtension S)) (k : ℕ) (x : BodyStructure S B) → b ≡ body.Multipart common bodies last → k < length bodies.items → x ≡ get_or bodies.items k x → bodies_of_tree x < bodies_of_tree b
-unfolding bodies_of_tree bodies_in
-fewer_in_multipart b common bodies last k x is less at =
-    let whole : bodies_of_tree b ≡ suc (bodies_in_all (bodies_of (map (body_seen (λ s. as_text []) (λ s. as_text [])) bodies.items))) = ap bodies_of_tree is ∙ ap bodies_in (multipart_seen (λ s. as_text []) (λ s. as_text []) common bodies last) in
-    let part : bodies_of_tree x ≡ bodies_of_tree (get_or bodies.items k x) = ap bodies_of_tree at in
-    omega (arith, whole, part, among (body_seen (λ s. as_text []) (λ s. as_text [])) bodies.items k x less)
+pub bodies_of_trees : {S B : Type 0} → List (BodyStructure S B) → ℕ
+bodies_of_trees bs = bodies_in_all (bodies_of (map (body_seen (λ s. as_text []) (λ s. as_text [])) bs))
+
+pub few_in_list : {S B : Type 0} (bs : List (BodyStructure S B)) (k : ℕ) (x : BodyStructure S B) → k < length bs → x ≡ get_or bs k x → bodies_of_tree x ≤ bodies_of_trees bs
+unfolding bodies_of_tree bodies_of_trees
+few_in_list bs k x less at =
+    let part : bodies_of_tree x ≡ bodies_of_tree (get_or bs k x) = ap bodies_of_tree at in
+    omega (arith, part, among (body_seen (λ s. as_text []) (λ s. as_text [])) bs k x less)
+
+pub fewer_in_multipart : {S B : Type 0} (b : BodyStructure S B) (common : BodyContentCommon S) (bodies : Vec (BodyStructure S B) Global) (last : Option (BodyExtension S)) → b ≡ body.Multipart common bodies last → bodies_of_trees bodies.items < bodies_of_tree b
+unfolding bodies_of_tree bodies_of_trees bodies_in
+fewer_in_multipart b common bodies last is =
+    let whole : bodies_of_tree b ≡ suc (bodies_of_trees bodies.items) = ap bodies_of_tree is ∙ ap bodies_in (multipart_seen (λ s. as_text []) (λ s. as_text []) common bodies last) in
+    omega (arith, whole)
 
 pub fewer_in_message : {S B : Type 0} (b : BodyStructure S B) (common : BodyContentCommon S) (other : BodyContentSinglePart S) (envelope : Envelope B) (inner : Box (BodyStructure S B) Global) (lines : ℕ) (last : Option (BodyExtension S)) → b ≡ body.Message common other envelope inner lines last → bodies_of_tree inner.value < bodies_of_tree b
 unfolding bodies_of_tree bodies_in

@@ -62,6 +62,19 @@ mutual
     no_bodies : Bodies
     one_body : BodyValue → Bodies → Bodies
 
+-- what bodies of all kinds have
+abbrev pub common_of : BodyValue → CommonValue
+common_of (Basic common other last) = common
+common_of (TextBody common other lines last) = common
+common_of (Message common other envelope inner lines last) = common
+common_of (Multipart common inner last) = common
+
+abbrev pub extension_of : BodyValue → Option ExtensionValue
+extension_of (Basic common other last) = last
+extension_of (TextBody common other lines last) = last
+extension_of (Message common other envelope inner lines last) = last
+extension_of (Multipart common inner last) = last
+
 abbrev pub bodies_of : List BodyValue → Bodies
 bodies_of [] = no_bodies
 bodies_of (b ∷ bs) = one_body b (bodies_of bs)

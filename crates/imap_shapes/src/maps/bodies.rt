@@ -1,13 +1,17 @@
 //! Maps of body structures.
 
 ghost use Rattle.std.specs.Prelude.{◌≡◌, IfOk, map};
-ghost use Rattle.imap_shapes.specs.BodyValues.{type_seen, common_seen, single_seen, body_seen};
+ghost use Rattle.std.specs.Option.{option_map};
+ghost use Rattle.imap_grammar.specs.Text.{Text};
+ghost use Rattle.imap_shapes.specs.ExtensionValues.{extension_seen};
+ghost use Rattle.imap_shapes.specs.BodyValues.{type_seen, common_seen, single_seen, common_of, extension_of, body_seen};
 
 use super::change::Change;
 use super::extensions::{mapped_disposition, mapped_extension};
 use super::fields::mapped_params;
 use super::parts::{mapped_text, mapped_texts};
 use crate::shapes::bodies::{BodyContentCommon, BodyContentSinglePart, BodyStructure, ContentType};
+use crate::shapes::extensions::BodyExtension;
 use std::alloc::{AllocError, Global};
 
 impl<S> ContentType<S> {
@@ -66,6 +70,30 @@ impl<S> BodyContentSinglePart<S> {
 }
 
 impl<S, B> BodyStructure<S, B> {
+    // What every body says.
+    fn common(&self) -> &BodyContentCommon<S>
+        ensures { (f : S → Text) (g : B → Text) → common_of (body_seen f g self.now) ≡ common_seen f result.now }
+    {
+        match self {
+            BodyStructure::Basic { common, .. } => common,
+            BodyStructure::Text { common, .. } => common,
+            BodyStructure::Message { common, .. } => common,
+            BodyStructure::Multipart { common, .. } => common,
+        }
+    }
+
+    // Its extension data.
+    fn extension(&self) -> &Option<BodyExtension<S>>
+        ensures { (f : S → Text) (g : B → Text) → extension_of (body_seen f g self.now) ≡ option_map (extension_seen f) result.now }
+    {
+        match self {
+            BodyStructure::Basic { extension, .. } => extension,
+            BodyStructure::Text { extension, .. } => extension,
+            BodyStructure::Message { extension, .. } => extension,
+            BodyStructure::Multipart { extension, .. } => extension,
+        }
+    }
+
     /// The same structure with each text changed by c, and each byte string by d.
     pub fn try_map<C: Change<S>, D: Change<B>>(
         &self,
@@ -75,60 +103,88 @@ impl<S, B> BodyStructure<S, B> {
     ) -> Result<BodyStructure<C::To, D::To>, AllocError>
         ensures { IfOk result (λ b. body_seen C.after D.after b ≡ body_seen (C.before c.now) (D.before d.now) self.now) }
     {
-        match self {
-            BodyStructure::Basic {
-                common,
-                other,
-                extension,
-            } => Ok(BodyStructure::Basic {
-                common: common.try_map(alloc, c)?,
-                other: other.try_map(c)?,
-                extension: mapped_extension(alloc, c, extension)?,
-            }),
-            BodyStructure::Text {
-                common,
-                other,
-                lines,
-                extension,
-            } => Ok(BodyStructure::Text {
-                common: common.try_map(alloc, c)?,
-                other: other.try_map(c)?,
-                lines: *lines,
-                extension: mapped_extension(alloc, c, extension)?,
-            }),
-            BodyStructure::Message {
-                common,
-                other,
-                envelope,
-                body,
-                lines,
-                extension,
-            } => {
-                let inner = body.try_map(alloc, c, d)?;
-                Ok(BodyStructure::Message {
-                    common: common.try_map(alloc, c)?,
-                    other: other.try_map(c)?,
-                    envelope: envelope.try_map(alloc, d)?,
-                    body: Box::new(alloc, inner)?,
-                    lines: *lines,
-                    extension: mapped_extension(alloc, c, extension)?,
-                })
-            }
-            BodyStructure::Multipart {
-                common,
-                bodies,
-                extension,
-            } => {
-                let mut mapped = Vec::with_capacity(alloc, bodies.len())?;
-                for body in bodies {
-                    mapped.push(body.try_map(alloc, c, d)?)?;
-                }
-                Ok(BodyStructure::Multipart {
-                    common: common.try_map(alloc, c)?,
-                    bodies: mapped,
-                    extension: mapped_extension(alloc, c, extension)?,
-                })
-            }
+        mapped_body(alloc, c, d, self)
+    }
+}
+
+// What all kinds have is changed once, before the kinds are told apart: a slot that a kind alone needs is cleared for each of them.
+#[cycle(body)]
+fn mapped_body<S, B, C: Change<S>, D: Change<B>>(
+    alloc: Global,
+    c: &C,
+    d: &D,
+    body: &BodyStructure<S, B>,
+) -> Result<BodyStructure<C::To, D::To>, AllocError>
+    ensures { IfOk result (λ b. body_seen C.after D.after b ≡ body_seen (C.before c.now) (D.before d.now) body.now) }
+{
+    let common = body.common().try_map(alloc, c)?;
+    let extension = mapped_extension(alloc, c, body.extension())?;
+    Ok(match body {
+        BodyStructure::Basic { other, .. } => BodyStructure::Basic {
+            common,
+            other: other.try_map(c)?,
+            extension,
+        },
+        BodyStructure::Text { other, lines, .. } => BodyStructure::Text {
+            common,
+            other: other.try_map(c)?,
+            lines: *lines,
+            extension,
+        },
+        BodyStructure::Message {
+            other,
+            envelope,
+            body,
+            lines,
+            ..
+        } => BodyStructure::Message {
+            common,
+            other: other.try_map(c)?,
+            envelope: envelope.try_map(alloc, d)?,
+            body: mapped_inner(alloc, c, d, body)?,
+            lines: *lines,
+            extension,
+        },
+        BodyStructure::Multipart { bodies, .. } => BodyStructure::Multipart {
+            common,
+            bodies: mapped_bodies(alloc, c, d, bodies)?,
+            extension,
+        },
+    })
+}
+
+// The body of a message. A call of its own, as the next one: its slots are as large as a body.
+#[cycle(body)]
+#[inline(never)]
+fn mapped_inner<S, B, C: Change<S>, D: Change<B>>(
+    alloc: Global,
+    c: &C,
+    d: &D,
+    inner: &Box<BodyStructure<S, B>>,
+) -> Result<Box<BodyStructure<C::To, D::To>>, AllocError>
+    ensures { IfOk result (λ b. body_seen C.after D.after b.value ≡ body_seen (C.before c.now) (D.before d.now) inner.now.value) }
+{
+    let mapped = mapped_body(alloc, c, d, inner)?;
+    Ok(Box::new(alloc, mapped)?)
+}
+
+#[cycle(body)]
+#[inline(never)]
+fn mapped_bodies<S, B, C: Change<S>, D: Change<B>>(
+    alloc: Global,
+    c: &C,
+    d: &D,
+    bodies: &Vec<BodyStructure<S, B>>,
+) -> Result<Vec<BodyStructure<C::To, D::To>>, AllocError>
+    ensures { IfOk result (λ v. map (body_seen C.after D.after) v.items ≡ map (body_seen (C.before c.now) (D.before d.now)) bodies.now.items) }
+{
+    let mut mapped = Vec::with_capacity(alloc, bodies.len())?;
+    for body in bodies {
+        mapped.reserve(1)?;
+        match mapped_body(alloc, c, d, body) {
+            Ok(body) => mapped.push_reserved(body),
+            Err(e) => return Err(e),
         }
     }
+    Ok(mapped)
 }
