@@ -1,15 +1,15 @@
 //! One map of attributes over their parts: what spans name and owned values are instances of it.
 
-ghost use Rattle.std.specs.Prelude.{◌≡◌, IfOk};
+ghost use Rattle.std.specs.Prelude.{◌≡◌, ◌++◌, ◌∷◌, [], IfOk, OnOk, map};
 ghost use Rattle.std.specs.Option.{option_map};
-ghost use Rattle.imap_grammar.specs.Text.{text_of};
+ghost use Rattle.imap_grammar.specs.Text.{Text, text_of};
 ghost use Rattle.imap_items.specs.Spanned.{text_in};
 ghost use Rattle.imap_shapes.specs.Spans.{bytes_of, bytes_owned, text_owned};
 ghost use Rattle.imap_shapes.specs.BodyValues.{BodyValue, body_seen};
 ghost use Rattle.imap_shapes.specs.EnvelopeValues.{envelope_seen};
 ghost use Rattle.imap_structure.specs.Spanned.{body_in};
 ghost use Rattle.imap_body.specs.SectionValues.{path_value};
-ghost use Rattle.imap_body.specs.AttributeValues.{attribute_seen};
+ghost use Rattle.imap_body.specs.AttributeValues.{attribute_seen, BodyStructure};
 
 use crate::types::attributes::AttributeParts;
 use crate::types::sections::SectionPath;
@@ -116,17 +116,21 @@ fn mapped_envelope<B, D: Change<B>>(
 }
 
 impl<S, B, Y> AttributeParts<S, B, Y> {
-    /// The same attribute with each text changed by c, each byte string by d, and a body structure by e.
-    pub(crate) fn try_map<C: Change<S>, D: Change<B>, E: BodyChange<Y>>(
+    /// Puts the same attribute behind the others, with each text changed by c, each byte string by d, and a body structure by e.
+    ///
+    /// It is put where it stays, not answered: an answer has room for a body structure, and is copied whole.
+    pub(crate) fn push_mapped<C: Change<S>, D: Change<B>, E: BodyChange<Y>>(
         &self,
         alloc: Global,
         c: &C,
         d: &D,
         e: &E,
-    ) -> Result<AttributeParts<C::To, D::To, E::To>, AllocError>
-        ensures { IfOk result (λ x. attribute_seen C.after D.after E.after x ≡ attribute_seen (C.before c.now) (D.before d.now) (E.before e.now) self.now) }
+        attributes: &mut Vec<AttributeParts<C::To, D::To, E::To>>,
+    ) -> Result<(), AllocError>
+        ensures { OnOk result (map (attribute_seen C.after D.after E.after) attributes.new.items ≡ map (attribute_seen C.after D.after E.after) attributes.old.items ++ attribute_seen (C.before c.now) (D.before d.now) (E.before e.now) self.now ∷ []) }
     {
-        Ok(match self {
+        attributes.reserve(1)?;
+        let value = match self {
             AttributeParts::BodySection {
                 section,
                 index,
@@ -136,9 +140,7 @@ impl<S, B, Y> AttributeParts<S, B, Y> {
                 index: *index,
                 contents: mapped_text(d, contents)?,
             },
-            AttributeParts::BodyStructure(body) => AttributeParts::BodyStructure(e.change_body(
-                body,
-            )?),
+            AttributeParts::BodyStructure(body) => return push_body(e, body, attributes),
             AttributeParts::Envelope(envelope) => AttributeParts::Envelope(mapped_envelope(
                 alloc, d, envelope,
             )?),
@@ -160,6 +162,45 @@ impl<S, B, Y> AttributeParts<S, B, Y> {
             AttributeParts::EmailId(id) => AttributeParts::EmailId(c.change(id)?),
             AttributeParts::ThreadId(id) => AttributeParts::ThreadId(mapped_text(c, id)?),
             AttributeParts::Unknown => AttributeParts::Unknown,
-        })
+        };
+        attributes.push_reserved(value);
+        Ok(())
+    }
+
+    /// The same attribute with each text changed by c, each byte string by d, and a body structure by e.
+    pub(crate) fn try_map<C: Change<S>, D: Change<B>, E: BodyChange<Y>>(
+        &self,
+        alloc: Global,
+        c: &C,
+        d: &D,
+        e: &E,
+    ) -> Result<AttributeParts<C::To, D::To, E::To>, AllocError>
+        ensures { IfOk result (λ x. attribute_seen C.after D.after E.after x ≡ attribute_seen (C.before c.now) (D.before d.now) (E.before e.now) self.now) }
+    {
+        let mut mapped = Vec::with_capacity(alloc, 1)?;
+        self.push_mapped(alloc, c, d, e, &mut mapped)?;
+        match mapped.pop() {
+            Some(attribute) => Ok(attribute),
+            None => Err(AllocError),
+        }
+    }
+}
+
+// Puts an attribute that is a body structure, changed, behind the others. A call of its own: its slots have room for a body structure.
+#[inline(never)]
+fn push_body<S: Drop, B: Drop, Y, E: BodyChange<Y>>(
+    e: &E,
+    body: &Y,
+    attributes: &mut Vec<AttributeParts<S, B, E::To>>,
+) -> Result<(), AllocError>
+    ensures { (f : S → Text) (h : B → Text) → OnOk result (map (attribute_seen f h E.after) attributes.new.items ≡ map (attribute_seen f h E.after) attributes.old.items ++ BodyStructure (E.before e.now body.now) ∷ []) }
+{
+    attributes.reserve(1)?;
+    match e.change_body(body) {
+        Ok(body) => {
+            attributes.push_reserved(AttributeParts::BodyStructure(body));
+            Ok(())
+        }
+        Err(e) => Err(e),
     }
 }

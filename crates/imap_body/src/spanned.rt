@@ -1,6 +1,6 @@
 //! Attributes of a message as positions in it: they keep no bytes, and tell their values of any message that has bytes in these places.
 
-ghost use Rattle.std.specs.Prelude.{◌≡◌, ◌≤◌, ◌+◌, length, drop, map, IfOk};
+ghost use Rattle.std.specs.Prelude.{◌≡◌, ◌≤◌, ◌+◌, ◌++◌, ◌∷◌, [], length, drop, map, IfOk, OnOk};
 ghost use Rattle.imap_grammar.specs.Positions.{AnswersAt, GivesAt, Ahead, RestsOn};
 ghost use Rattle.imap_grammar.specs.Step.{step};
 ghost use Rattle.imap_body.specs.AttributeValues.{attribute_value, parts_in};
@@ -40,6 +40,21 @@ impl SpannedAttribute {
         ensures { IfOk result (λ v. attribute_value v ≡ attribute_in m.now self.now) }
     {
         self.parts.value(alloc, self.span.part(m))
+    }
+
+    /// Puts that attribute behind others.
+    pub(crate) fn push_value<'a>(
+        &self,
+        alloc: Global,
+        m: &'a [u8],
+        values: &mut Vec<AttributeValue<'a>>,
+    ) -> Result<(), AllocError>
+        ensures { OnOk result (map attribute_value values.new.items ≡ map attribute_value values.old.items ++ attribute_in m.now self.now ∷ []) }
+    {
+        let part = self.span.part(m);
+        let texts = Decoding { alloc, m: part };
+        self.parts
+            .push_mapped(alloc, &texts, &NamedBytes { m: part }, &texts, values)
     }
 }
 

@@ -50,7 +50,7 @@ pub fn values<'a>(
 {
     let mut values = Vec::with_capacity(alloc, attributes.len())?;
     for attribute in attributes {
-        values.push(attribute.value(alloc, m)?)?;
+        attribute.push_value(alloc, m, &mut values)?;
     }
     Ok(values)
 }
