@@ -1,4 +1,4 @@
-//! Reads standard input to its end, and writes a line for each response that it holds.
+//! Reads standard input to its end, and writes a line for each response as soon as its last byte was read.
 #![tactic(auto)]
 
 use imap_report::cat;

@@ -1,118 +1,162 @@
 -- Reports, a line at a time.
-use Rattle.std.proofs.Common.{◌≡◌, ℕ, zero, suc, ◌-◌, ◌<◌, List, [], ◌∷◌, ◌++◌, length, Option, Result, Ok, Err, refl, sym, ap, subst, ◌∙◌, append_assoc, arith}
+use Rattle.std.proofs.Common.{◌≡◌, ℕ, ◌-◌, List, [], ◌∷◌, ◌++◌, length, Option, Some, Result, Ok, Err, refl, sym, ap, subst, ◌∙◌, append_assoc, arith}
 use Rattle.std.specs.Prelude.{codes, OnErr}
-use Rattle.std.specs.Io.KnownBytes.{Appends, Consumes}
+use Rattle.std.specs.Io.KnownBytes.{Appends}
 use Rattle.std.proofs.lemmas.List.{length-append, append-nil}
-use Rattle.imap_grammar.specs.declared.answer.Err.TheVariants.{Incomplete, Error, Failure}
-use Rattle.imap_grammar.specs.declared.answer.Needed.{Needed}
+use Rattle.imap_grammar.specs.Meaning.{Denies, Cuts}
 use Rattle.imap_grammar.specs.Rule.{meaning}
-use Rattle.imap_grammar.specs.Step.{Step, step}
-use Rattle.imap_grammar.proofs.Agreement.{agrees}
-use Rattle.imap_proto.specs.Responses.{ResponseValue, EndsLine}
+use Rattle.imap_proto.specs.declared.response.Response.{Response}
+use Rattle.imap_proto.specs.declared.stream.End.{End as Stop}
+use Rattle.imap_proto.specs.declared.stream.End.TheVariants as stop
+use Rattle.imap_proto.specs.Responses.{ResponseValue, response_value, Capabilities, Continue, Done, Data, Expunge, Vanished, Fetch, MailboxData, Quota, QuotaRoot, Id, Acl, ListRights, MyRights}
+use Rattle.imap_proto.specs.Owned.{owned_response}
 use Rattle.imap_proto.specs.Lines.{response}
-use Rattle.imap_proto.proofs.Ending.{response_ends}
+use Rattle.imap_proto.specs.Streams.{EndsAs}
+use Rattle.imap_proto.specs.Feeds.{Gave}
+use Rattle.imap_proto.proofs.Streams.{stable, shorter, some_split}
 use Rattle.imap_report.specs.declared.outcome.Finish.{Finish}
 use Rattle.imap_report.specs.declared.outcome.Finish.TheVariants.{End, Waiting, Denied}
 use Rattle.imap_report.specs.Devices.{AppendsFront}
-use Rattle.imap_report.specs.Report.{name_of, line, Waits, ReadsAtLeast, ReportsSome, IsReport, next, ends, waits, denied, Writes, Begins}
-use Rattle.imap_report.proofs.Bytes.{consumes_both, appends_both, appends_nothing}
+use Rattle.imap_report.specs.Report.{name_of, line, Waits, IsReport, next, ends, waits, denied, Told, Writes, Begins}
+use Rattle.imap_report.proofs.Bytes.{appends_both, appends_nothing}
 
-pub shorter : (m rest : List ℕ) → EndsLine m rest → length rest < length m
-shorter m rest h = omega (arith, ap length h.1, length-append h.0 (13 ∷ 10 ∷ rest))
+-- ---- last lines
 
-pub denied_report : (m text : List ℕ) → step response m ≡ Err Error → text ≡ line (codes "denied") (length m) → IsReport m text Denied
-denied_report m text e t = subst (λ x. IsReport m x Denied) (sym t) (denied m ((agrees response m).failed Error e))
+pub denied_report : (m text : List ℕ) (n : ℕ) → Denies (meaning response) m → length m ≡ n → text ≡ line (codes "denied") n → IsReport m text Denied
+denied_report m text n d l t = subst (λ x. IsReport m x Denied) (sym (t ∙ ap (line (codes "denied")) (sym l))) (denied m d)
 
-pub is_waiting : (m : List ℕ) (w : Needed) → step response m ≡ Err (Incomplete w) → Waits m
-is_waiting m w e = (λ v rest y. let f = sym e ∙ (agrees response m).yields v rest y in cc, λ d. let f = sym e ∙ (agrees response m).fails Error d in cc)
-
-pub waiting_report : (m text : List ℕ) (w : Needed) → step response m ≡ Err (Incomplete w) → ¬ (length m ≡ 0) → text ≡ line (codes "waiting") (length m) → IsReport m text Waiting
-waiting_report m text w e n t = subst (λ x. IsReport m x Waiting) (sym t) (waits m (λ q. n (ap length q)) (is_waiting m w e))
+pub waiting_report : (m text : List ℕ) (n : ℕ) → Waits m → length m ≡ n → ¬ (n ≡ 0) → text ≡ line (codes "waiting") n → IsReport m text Waiting
+waiting_report m text n w l some t = subst (λ x. IsReport m x Waiting) (sym (t ∙ ap (line (codes "waiting")) (sym l))) (waits m (λ q. some (sym l ∙ ap length q)) w)
 
 pub end_report : (m text : List ℕ) → length m ≡ 0 → text ≡ codes "end\n" → IsReport m text End
 end_report [] text n t = subst (λ x. IsReport [] x End) (sym t) ends
 end_report (b ∷ m) text n t = absurd (omega arith)
 
--- there is always one
-some_report_within : (fuel : ℕ) (m : List ℕ) → length m < fuel → (text : List ℕ) × (f : Finish) × IsReport m text f
-some_report_within zero m lt = absurd (omega arith)
-some_report_within (suc fuel) m lt = go (step response m) refl (λ k h. some_report_within fuel k h)
-  where
-    go : (s : Step ResponseValue) → step response m ≡ s → ((k : List ℕ) → length k < fuel → (text : List ℕ) × (f : Finish) × IsReport k text f) → (text : List ℕ) × (f : Finish) × IsReport m text f
-    go (Ok x) e ih =
-        let y = (agrees response m).yielded x.1 x.0 e in
-        let rest = ih x.0 (omega (arith, shorter m x.0 (response_ends m x.1 x.0 y), lt)) in
-        (_, rest.1, next m x.1 x.0 rest.0 rest.1 y rest.2)
-    go (Err Error) e ih = (_, Denied, denied m ((agrees response m).failed Error e))
-    go (Err (Incomplete w)) e ih = waiting m (is_waiting m w e)
-      where
-        waiting : (k : List ℕ) → Waits k → (text : List ℕ) × (f : Finish) × IsReport k text f
-        waiting [] h = (_, End, ends)
-        waiting (b ∷ k) h = (_, Waiting, waits (b ∷ k) (λ q. cc) h)
-    go (Err Failure) e ih = absurd ((agrees response m).never e)
+-- ---- there is always a report
 
-pub some_report : (m : List ℕ) → (text : List ℕ) × (f : Finish) × IsReport m text f
-some_report m = some_report_within (suc (length m)) m (omega arith)
+abbrev Reported : List ℕ → Type 0
+Reported m = (text : List ℕ) × (f : Finish) × IsReport m text f
 
--- written so far: whatever the report of the rest is, it completes the report of all
-pub record Told (m rest : List ℕ) (old now : Option (List ℕ)) : Type 0 where
-  pub text : List ℕ
-  pub completes : (more : List ℕ) (f : Finish) → IsReport rest more f → IsReport m (text ++ more) f
-  pub written : Appends old now text
+last_report : (m : List ℕ) (end : Stop) → EndsAs m end → Reported m
+last_report m stop.Denied e = (_, Denied, denied m e)
+last_report [] stop.Waits e = (_, End, ends)
+last_report (b ∷ m) stop.Waits e = (_, Waiting, waits (b ∷ m) (λ q. cc) e)
+
+report_of_split : (vs : List ResponseValue) (m left : List ℕ) (end : Stop) → Cuts (meaning response) m vs left → EndsAs left end → Reported m
+report_of_split [] m left end c e = subst Reported (sym c) (last_report left end e)
+report_of_split (v ∷ vs) m left end c e = let rest = report_of_split vs c.0 left end c.2 e in (_, rest.1, next m v c.0 rest.0 rest.1 c.1 rest.2)
+
+pub some_report : (m : List ℕ) → Reported m
+some_report m = let s = some_split m in report_of_split s.0 m s.1 s.2 s.3.responses s.3.ends
+
+-- ---- what was told so far
 
 pub told_nothing : (m : List ℕ) (old : Option (List ℕ)) → Told m m old old
-told_nothing m old = record { text = []; completes = λ more f h. h; written = appends_nothing old }
+told_nothing m old = record { text = []; completes = λ more report f h. h; written = appends_nothing old; within = omega arith }
 
-pub told_more : (m rest after text : List ℕ) (r : ResponseValue) (old now new : Option (List ℕ)) → Told m rest old now → (meaning response).yields rest r after → text ≡ line (name_of r) (length rest - length after) → Appends now new text → Told m after old new
-told_more m rest after text r old now new so_far y t w =
+-- more bytes came
+pub told_piece : (m rest piece : List ℕ) (old now : Option (List ℕ)) → Told m rest old now → Told (m ++ piece) (rest ++ piece) old now
+told_piece m rest piece old now so_far =
     record {
-      text = so_far.text ++ text;
-      completes = λ more f h. subst (λ x. IsReport m x f) (sym (append_assoc so_far.text text more)) (so_far.completes (text ++ more) f (subst (λ x. IsReport rest (x ++ more) f) (sym t) (next rest r after more f y h)));
-      written = appends_both old now new so_far.text text so_far.written w;
+      text = so_far.text;
+      completes = λ more report f h. subst (λ x. IsReport x (so_far.text ++ report) f) (sym (append_assoc m piece more)) (so_far.completes (piece ++ more) report f (subst (λ x. IsReport x report f) (append_assoc rest piece more) h));
+      written = so_far.written;
+      within = omega (arith, so_far.within, length-append m piece, length-append rest piece);
+    }
+
+-- more lines were written
+pub told_on : (m rest after : List ℕ) (old now new : Option (List ℕ)) → Told m rest old now → Told rest after now new → Told m after old new
+told_on m rest after old now new so_far then =
+    record {
+      text = so_far.text ++ then.text;
+      completes = λ more report f h. subst (λ x. IsReport (m ++ more) x f) (sym (append_assoc so_far.text then.text report)) (so_far.completes more (then.text ++ report) f (then.completes more report f h));
+      written = appends_both old now new so_far.text then.text so_far.written then.written;
+      within = omega (arith, so_far.within, then.within);
+    }
+
+line_same : (rest after more : List ℕ) → length (rest ++ more) - length (after ++ more) ≡ length rest - length after
+line_same rest after more = omega (arith, length-append rest more, length-append after more)
+
+-- one line
+pub told_line : (m after text : List ℕ) (r : ResponseValue) (old new : Option (List ℕ)) → (meaning response).yields m r after → text ≡ line (name_of r) (length m - length after) → Appends old new text → Told m after old new
+told_line m after text r old new y t w =
+    record {
+      text = text;
+      completes = λ more report f h. subst (λ x. IsReport (m ++ more) (x ++ report) f) (ap (line (name_of r)) (line_same m after more) ∙ sym t) (next (m ++ more) r (after ++ more) report f (stable.yields_more m r after more y) h);
+      written = w;
+      within = let lt = shorter m after r y in omega arith;
     }
 
 pub told_all : (m rest text : List ℕ) (f : Finish) (old now new : Option (List ℕ)) → Told m rest old now → IsReport rest text f → Appends now new text → Writes old new m f
-told_all m rest text f old now new so_far h w = (so_far.text ++ text, so_far.completes text f h, appends_both old now new so_far.text text so_far.written w)
+told_all m rest text f old now new so_far h w = (
+  so_far.text ++ text,
+  subst (λ x. IsReport x (so_far.text ++ text) f) (append-nil m) (so_far.completes [] text f (subst (λ x. IsReport x text f) (sym (append-nil rest)) h)),
+  appends_both old now new so_far.text text so_far.written w,
+)
 
--- a beginning was written
-pub told_front : (m rest : List ℕ) (old now : Option (List ℕ)) → Told m rest old now → Begins old now m
-told_front m rest old now so_far =
-    let more = some_report rest in
-    (so_far.text ++ more.0, more.1, so_far.completes more.0 more.1 more.2, (so_far.text, more.0, refl, so_far.written))
+-- ---- what was begun
 
--- and a beginning of the next text
-pub told_part : (m rest text more : List ℕ) (f : Finish) (old now new : Option (List ℕ)) → Told m rest old now → IsReport rest (text ++ more) f → AppendsFront now new text → Begins old new m
-told_part m rest text more f old now new so_far h w = (
-  so_far.text ++ (text ++ more),
-  f,
-  so_far.completes (text ++ more) f h,
+-- a beginning of the report of the rest was written behind what was told
+pub told_begun : (m rest : List ℕ) (old now new : Option (List ℕ)) → Told m rest old now → Begins now new rest → Begins old new m
+told_begun m rest old now new so_far begun = (
+  so_far.text ++ begun.0,
+  begun.1,
+  subst (λ x. IsReport x (so_far.text ++ begun.0) begun.1) (append-nil m) (so_far.completes [] begun.0 begun.1 (subst (λ x. IsReport x begun.0 begun.1) (sym (append-nil rest)) begun.2)),
   (
-    so_far.text ++ w.0,
-    w.1 ++ more,
-    rw w.2 (simp append_assoc),
-    appends_both old now new so_far.text w.0 so_far.written w.3,
+    so_far.text ++ begun.3.0,
+    begun.3.1,
+    ap (λ (k : List ℕ). so_far.text ++ k) begun.3.2 ∙ sym (append_assoc so_far.text begun.3.0 begun.3.1),
+    appends_both old now new so_far.text begun.3.0 so_far.written begun.3.3,
   ),
 )
+
+pub nothing_begun : (m : List ℕ) (old : Option (List ℕ)) → Begins old old m
+nothing_begun m old = let all = some_report m in (all.0, all.1, all.2, ([], all.0, refl, appends_nothing old))
+
+-- of whatever ends so
+pub none_begun : (end : Stop) (n : ℕ) (old : Option (List ℕ)) (m : List ℕ) → EndsAs m end → length m ≡ n → Begins old old m
+none_begun end n old m e l = nothing_begun m old
+
+pub told_front : (m rest : List ℕ) (old now : Option (List ℕ)) → Told m rest old now → Begins old now m
+told_front m rest old now so_far = told_begun m rest old now now so_far (nothing_begun rest now)
+
+-- a beginning of a line
+pub line_begun : (m after text : List ℕ) (r : ResponseValue) (old new : Option (List ℕ)) → (meaning response).yields m r after → text ≡ line (name_of r) (length m - length after) → AppendsFront old new text → Begins old new m
+line_begun m after text r old new y t w =
+    let more = some_report after in (
+      text ++ more.0,
+      more.1,
+      subst (λ x. IsReport m (x ++ more.0) more.1) (sym t) (next m r after more.0 more.1 y more.2),
+      (w.0, w.1 ++ more.0, ap (λ (k : List ℕ). k ++ more.0) w.2 ∙ append_assoc w.0 w.1 more.0, w.3),
+    )
+
+-- of a last line
+pub last_begun : (m text : List ℕ) (f : Finish) (old new : Option (List ℕ)) → IsReport m text f → AppendsFront old new text → Begins old new m
+last_begun m text f old new h w = (text, f, h, w)
+
+-- ---- responses of a feed
+
+-- a response has the same name with its texts owned
+pub name_owned : (v : ResponseValue) → name_of (owned_response v) ≡ name_of v
+name_owned (Capabilities capabilities) = refl
+name_owned (Continue o) = refl
+name_owned (Done tag status o) = refl
+name_owned (Data status o) = refl
+name_owned (Expunge n) = refl
+name_owned (Vanished earlier uids) = refl
+name_owned (Fetch n attributes) = refl
+name_owned (MailboxData datum) = refl
+name_owned (Quota quota) = refl
+name_owned (QuotaRoot root) = refl
+name_owned (Id map) = refl
+name_owned (Acl acl) = refl
+name_owned (ListRights rights) = refl
+name_owned (MyRights rights) = refl
+
+-- the line of a response that a feed gave
+pub line_of_given : (held left text name : List ℕ) (n : ℕ) (r : Response) (g : Gave held (Some r) left) → name ≡ name_of (response_value r) → n ≡ length held - length left → text ≡ line name n → text ≡ line (name_of g.0) (length held - length left)
+line_of_given held left text name n r g is l t = t ∙ ap (λ k. line k n) (is ∙ ap name_of g.2 ∙ name_owned g.0) ∙ ap (line (name_of g.0)) l
 
 pub on_err : {T E : Type 0} {P : Type 0} (r : Result T E) → P → OnErr r P
 on_err (Ok x) p = tt
 on_err (Err e) p = p
-
--- a turn that goes on, or breaks off
-pub next_begun : (m rest after text : List ℕ) (r : ResponseValue) (old now new : Option (List ℕ)) → Told m rest old now → (meaning response).yields rest r after → text ≡ line (name_of r) (length rest - length after) → AppendsFront now new text → Begins old new m
-next_begun m rest after text r old now new so_far y t w =
-    let more = some_report after in
-    told_part m rest text more.0 more.1 old now new so_far (subst (λ x. IsReport rest (x ++ more.0) more.1) (sym t) (next rest r after more.0 more.1 y more.2)) w
-
-pub last_begun : (m rest text : List ℕ) (f : Finish) (old now new : Option (List ℕ)) → Told m rest old now → IsReport rest text f → AppendsFront now new text → Begins old new m
-last_begun m rest text f old now new so_far h w = told_part m rest text [] f old now new so_far (subst (λ x. IsReport rest x f) (sym (append-nil text)) h) w
-
--- nothing was written yet
-pub nothing_begun : (m : List ℕ) (old : Option (List ℕ)) → Begins old old m
-nothing_begun m old = let all = some_report m in (all.0, all.1, all.2, ([], all.0, refl, appends_nothing old))
-
-pub nothing_reported : (n : ℕ) (remaining left old : Option (List ℕ)) → ReadsAtLeast n remaining left → ReportsSome remaining left old old
-nothing_reported n remaining left old h = (h.0, h.1, nothing_begun h.0 old)
-
-pub read_some : (remaining mid left : Option (List ℕ)) (a b : List ℕ) → Consumes remaining mid a → Consumes mid left b → ReadsAtLeast 0 remaining left
-read_some remaining mid left a b p q = (a ++ b, consumes_both remaining mid left a b p q, omega arith)

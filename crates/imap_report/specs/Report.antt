@@ -1,5 +1,5 @@
 -- The report of some bytes: a line for each response at their front, and a last line on the rest.
-use Rattle.std.specs.Prelude.{◌≡◌, ◌≢◌, ℕ, ◌-◌, ◌<◌, ◌≤◌, List, [], ◌∷◌, ◌++◌, length, Option, codes}
+use Rattle.std.specs.Prelude.{◌≡◌, ◌≢◌, ℕ, ◌-◌, ◌≤◌, List, [], ◌∷◌, ◌++◌, length, Option, codes}
 use Rattle.std.specs.Io.KnownBytes.{Appends, Consumes, IsAtEnd}
 use Rattle.imap_report.specs.Devices.{AppendsFront}
 use Rattle.std.specs.Fmt.{decimal}
@@ -7,10 +7,12 @@ use Rattle.imap_grammar.specs.Rule.{meaning}
 use Rattle.imap_grammar.specs.Meaning.{Denies}
 use Rattle.imap_proto.specs.Responses.{ResponseValue, Capabilities, Continue, Done, Data, Expunge, Vanished, Fetch, MailboxData, Quota, QuotaRoot, Id, Acl, ListRights, MyRights}
 use Rattle.imap_proto.specs.Lines.{response}
+use Rattle.imap_proto.specs.Streams.{EndsAs}
+use Rattle.imap_proto.specs.declared.stream.End.{End as Why}
 use Rattle.std.specs.String.{string_bytes}
 use Rattle.imap_grammar.specs.Ascii.{line_feed, space}
 use Rattle.imap_report.specs.declared.telling.Turn.{Turn}
-use Rattle.imap_report.specs.declared.telling.Turn.TheVariants.{Next, Last}
+use Rattle.imap_report.specs.declared.telling.Turn.TheVariants.{Line, Stop}
 use Rattle.imap_report.specs.declared.outcome.Finish.{Finish}
 use Rattle.imap_report.specs.declared.outcome.Finish.TheVariants.{End, Waiting, Denied}
 
@@ -45,10 +47,18 @@ pub data IsReport : List ℕ → List ℕ → Finish → Type 0 where
   waits : (m : List ℕ) → m ≢ [] → Waits m → IsReport m (line (codes "waiting") (length m)) Waiting
   denied : (m : List ℕ) → Denies (meaning response) m → IsReport m (line (codes "denied") (length m)) Denied
 
--- one turn: a response's line and what is left, or the last line
-abbrev pub IsTurn : List ℕ → Turn → Type 0
-IsTurn m (Next after text) = (r : ResponseValue) × (meaning response).yields m r after.now × (string_bytes text ≡ line (name_of r) (length m - length after.now)) × (length after.now < length m)
-IsTurn m (Last finish text) = IsReport m (string_bytes text) finish
+-- The lines of responses at the front of m were appended, and the rest is behind these: whatever comes behind m, the report of the rest with that
+-- completes the report of all.
+pub record Told (m rest : List ℕ) (old new : Option (List ℕ)) : Type 0 where
+  pub text : List ℕ
+  pub completes : (more report : List ℕ) (f : Finish) → IsReport (rest ++ more) report f → IsReport (m ++ more) (text ++ report) f
+  pub written : Appends old new text
+  pub within : length rest ≤ length m
+
+-- one turn of a feed, by what it held and what it holds then: a response's line, or why there is none
+abbrev pub IsTurn : List ℕ → List ℕ → Turn → Type 0
+IsTurn held left (Line text) = (r : ResponseValue) × (meaning response).yields held r left × (string_bytes text ≡ line (name_of r) (length held - length left))
+IsTurn held left (Stop end) = EndsAs held end × (left ≡ held)
 
 -- the whole report was appended
 abbrev pub Writes : Option (List ℕ) → Option (List ℕ) → List ℕ → Finish → Type 0
@@ -69,3 +79,7 @@ ReportsSome remaining left old new = (input : List ℕ) × Consumes remaining le
 -- at least so many bytes were read
 abbrev pub ReadsAtLeast : ℕ → Option (List ℕ) → Option (List ℕ) → Type 0
 ReadsAtLeast n remaining left = (input : List ℕ) × Consumes remaining left input × (n ≤ length input)
+
+-- what a source gave was read to its end, the lines of its responses were written, and n bytes are left, which end so
+abbrev pub TellsResponses : Option (List ℕ) → Option (List ℕ) → Option (List ℕ) → Option (List ℕ) → Why → ℕ → Type 0
+TellsResponses remaining left old new end n = (input : List ℕ) × (rest : List ℕ) × Consumes remaining left input × IsAtEnd left × Told input rest old new × EndsAs rest end × (length rest ≡ n)

@@ -24,7 +24,7 @@ pub fn exit_of(outcome: Result<Finish, Fault>) -> ExitCode
     }
 }
 
-/// Reads the source to its end, writes the report of its bytes, and tells by the exit status how
+/// Reads the source to its end, writes the report of its bytes as they come, and tells by the exit status how
 /// that ended. After a fault it prints `fault` on standard error. It takes memory.
 pub fn cat<E: Eprint, R: Source, W: Sink>(
     alloc: Global,

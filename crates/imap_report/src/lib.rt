@@ -1,6 +1,6 @@
 //! The report of a stream of responses: a line for each one, and a last line on what is left.
 //!
-//! [`run`] reads a source to its end and writes the report of its bytes to a sink; [`cat`] is the
+//! [`run`] reads a source piece by piece and writes the report of its bytes to a sink as they come; [`cat`] is the
 //! whole program `imap_cat` over any two devices, and tells by its exit status how the run ended.
 #![tactic(auto)]
 

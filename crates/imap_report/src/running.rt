@@ -1,46 +1,102 @@
-//! Runs: all input is read, and its report is written.
+//! Runs: input is read piece by piece, and its report is written as its bytes come.
 
-ghost use Rattle.std.specs.Prelude.{◌≡◌, ◌-◌, ◌^◌, false, true, IfOk, OnErr, IfErr};
+ghost use Rattle.std.specs.Prelude.{◌≡◌, ℕ, ◌+◌, ◌-◌, ◌^◌, ◌++◌, List, length, false, true, IfOk, OnOk, OnErr, IfErr};
 ghost use Rattle.std.specs.Io.KnownBytes.{Consumes, IsAtEnd};
-ghost use Rattle.imap_report.specs.Report.{IsReport, ReportsAll, ReportsSome, ReadsAtLeast};
+ghost use Rattle.imap_report.specs.Report.{IsReport, ReportsAll, ReportsSome, ReadsAtLeast, TellsResponses};
 
 use crate::devices::{Sink, Source};
 use crate::outcome::{Fault, Finish};
 use crate::readers::Reading;
-use crate::telling::report;
+use crate::telling::{tell, tell_last};
 use crate::writers::Writing;
+use imap_proto::stream::{End, Feed};
 use std::alloc::Global;
 
-// All that the reader gives.
-fn read_all<R: Source>(alloc: Global, reader: &mut R) -> Result<Vec<u8>, Fault>
+// Reads a piece and feeds it, and tells how many bytes it has: none only at the end.
+fn take_piece<R: Source>(reader: &mut R, feed: &mut Feed) -> Result<usize, Fault>
     requires { R.has_failed reader.old ≡ false }
-    ensures read { IfOk result (λ input. Consumes (R.remaining reader.old) (R.remaining reader.new) input.items) }
-    ensures end { IfOk result (λ input. IsAtEnd (R.remaining reader.new)) }
+    ensures taken { IfOk result (λ n. (piece : List ℕ) × Consumes (R.remaining reader.old) (R.remaining reader.new) piece × (feed.new ≡ feed.old ++ piece) × (length piece ≡ n)) }
+    ensures end { IfOk result (λ n. n ≡ 0 → IsAtEnd (R.remaining reader.new)) }
+    ensures on { OnOk result (R.has_failed reader.new ≡ false) }
     ensures some { OnErr result (ReadsAtLeast 0 (R.remaining reader.old) (R.remaining reader.new)) }
-    ensures long { IfErr result (λ e. e ≡ Fault.TooLong → ReadsAtLeast (2 ^ 64 - 1) (R.remaining reader.old) (R.remaining reader.new)) }
+    ensures failed { IfErr result (λ e. e ≡ Fault.Read → R.has_failed reader.new ≡ true) }
+    ensures kinds { IfErr result (λ e. (¬ (e ≡ Fault.Write)) × (¬ (e ≡ Fault.TooLong))) }
+{
+    let mut buffer = [0; 4096];
+    match reader.read(&mut buffer) {
+        Err(_) => Err(Fault::Read),
+        Ok(n) => {
+            let (piece, _) = buffer.split_at(n);
+            feed.feed(piece)?;
+            Ok(n)
+        }
+    }
+}
+
+// Reads to the end, and tells how many bytes there were with those that were counted before.
+fn count_on<R: Source>(reader: &mut R, counted: usize) -> Result<usize, Fault>
+    requires { R.has_failed reader.old ≡ false }
+    ensures read { IfOk result (λ n. (bytes : List ℕ) × Consumes (R.remaining reader.old) (R.remaining reader.new) bytes × (n ≡ counted + length bytes)) }
+    ensures end { OnOk result (IsAtEnd (R.remaining reader.new)) }
+    ensures some { OnErr result (ReadsAtLeast 0 (R.remaining reader.old) (R.remaining reader.new)) }
+    ensures long { IfErr result (λ e. e ≡ Fault.TooLong → ReadsAtLeast (2 ^ 64 - 1 - counted) (R.remaining reader.old) (R.remaining reader.new)) }
     ensures failed { IfErr result (λ e. e ≡ Fault.Read → R.has_failed reader.new ≡ true) }
     ensures kinds { IfErr result (λ e. ¬ (e ≡ Fault.Write)) }
 {
-    let mut input = Vec::new(alloc);
+    let mut total = counted;
     let mut buffer = [0; 4096];
-    'reads: for _ in 0..u64::MAX {
+    'reads: loop {
         match reader.read(&mut buffer) {
             Err(_) => return Err(Fault::Read),
             Ok(n) => {
                 if n == 0 {
-                    return Ok(input);
+                    return Ok(total);
                 }
-                let (piece, _) = buffer.split_at(n);
-                input.extend_from_slice(piece)?;
+                match total.checked_add(n) {
+                    Some(more) => total = more,
+                    None => return Err(Fault::TooLong),
+                }
+            }
+        }
+    }
+}
+
+// Reads all input piece by piece, and writes a line for each response as soon as its last byte is there. It tells how many bytes
+// are left behind them, and why these give no more; and holds only what waits.
+fn tell_responses<R: Source, W: Sink>(
+    alloc: Global,
+    reader: &mut R,
+    writer: &mut W,
+) -> Result<(End, usize), Fault>
+    requires reads { R.has_failed reader.old ≡ false }
+    requires writes { W.has_failed writer.old ≡ false }
+    ensures told { IfOk result (λ x. TellsResponses (R.remaining reader.old) (R.remaining reader.new) (W.contents writer.old) (W.contents writer.new) x.0 x.1) }
+    ensures on { OnOk result (W.has_failed writer.new ≡ false) }
+    ensures begun { OnErr result (ReportsSome (R.remaining reader.old) (R.remaining reader.new) (W.contents writer.old) (W.contents writer.new)) }
+    ensures read { IfErr result (λ e. e ≡ Fault.Read → R.has_failed reader.new ≡ true) }
+    ensures write { IfErr result (λ e. e ≡ Fault.Write → W.has_failed writer.new ≡ true) }
+    ensures long { IfErr result (λ e. e ≡ Fault.TooLong → ReadsAtLeast (2 ^ 64 - 1) (R.remaining reader.old) (R.remaining reader.new)) }
+{
+    let mut feed = Feed::new(alloc);
+    'pieces: for _ in 0..u64::MAX {
+        let n = take_piece(reader, &mut feed)?;
+        if n == 0 {
+            return Ok((End::Waits, feed.held().len()));
+        }
+        match tell(alloc, &mut feed, writer)? {
+            End::Waits => {}
+            End::Denied => {
+                let n = count_on(reader, feed.held().len())?;
+                return Ok((End::Denied, n));
             }
         }
     }
     Err(Fault::TooLong)
 }
 
-/// Reads all input and writes its report: a line for each response, and a last line that tells what
-/// is left. It takes memory. After a `Fault` what was written is a beginning of the report of what was
-/// read.
+/// Reads all input piece by piece and writes its report: a line for each response as soon as its last byte is there, and a last
+/// line that tells what is left. It takes memory for a piece, for what waits, and for a response. After a `Fault` what was written
+/// is a beginning of the report of what was read.
 pub fn run<R: Source, W: Sink>(
     alloc: Global,
     reader: &mut R,
@@ -54,8 +110,8 @@ pub fn run<R: Source, W: Sink>(
     ensures write { IfErr result (λ e. e ≡ Fault.Write → W.has_failed writer.new ≡ true) }
     ensures long { IfErr result (λ e. e ≡ Fault.TooLong → ReadsAtLeast (2 ^ 64 - 1) (R.remaining reader.old) (R.remaining reader.new)) }
 {
-    let input = read_all(alloc, reader)?;
-    report(alloc, &input, writer)
+    let (end, n) = tell_responses(alloc, reader, writer)?;
+    tell_last(alloc, end, n, writer)
 }
 
 /// The report of these bytes, and what its last line tells. It takes memory.

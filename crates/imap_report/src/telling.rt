@@ -1,13 +1,14 @@
 //! Reports: the line of each response, and the last line.
 
-ghost use Rattle.std.specs.Prelude.{◌≡◌, false, true, IfOk, OnErr, IfErr, string_bytes};
+ghost use Rattle.std.specs.Prelude.{◌≡◌, ℕ, List, length, false, true, IfOk, OnOk, OnErr, IfErr, string_bytes};
 ghost use Rattle.imap_proto.specs.Responses.{response_value};
-ghost use Rattle.imap_report.specs.Report.{name_of, line, IsTurn, Writes, Begins};
+ghost use Rattle.imap_proto.specs.Streams.{EndsAs};
+ghost use Rattle.imap_report.specs.Report.{name_of, line, IsReport, IsTurn, Told, Writes, Begins};
 
 use crate::devices::{Sink, write_all};
 use crate::outcome::{Fault, Finish};
-use imap_bytes::Err;
 use imap_proto::Response;
+use imap_proto::stream::{End, Feed, FeedError};
 use std::alloc::{AllocError, Global};
 
 fn name(response: &Response<'_>) -> &'static str
@@ -41,51 +42,77 @@ fn line_of(alloc: Global, name: &str, n: usize) -> Result<String, AllocError>
     Ok(line)
 }
 
-// What the next line says.
+// What comes next of a feed.
 #[derive(Drop)]
-pub(crate) enum Turn<'a> {
-    Next(&'a [u8], String),
-    Last(Finish, String),
+pub(crate) enum Turn {
+    // A response, and its line.
+    Line(String),
+    // No response, and why.
+    Stop(End),
 }
 
-fn next_turn(alloc: Global, m: &[u8]) -> Result<Turn<'_>, AllocError>
-    ensures { IfOk result (λ t. IsTurn m.now t) }
+fn next_turn(alloc: Global, feed: &mut Feed) -> Result<Turn, AllocError>
+    ensures { IfOk result (IsTurn feed.old feed.new) }
 {
-    match Response::parse(alloc, m) {
-        Ok((after, response)) => {
-            let text = line_of(alloc, name(&response), m.len() - after.len())?;
-            Ok(Turn::Next(after, text))
+    let before = feed.held().len();
+    match feed.next() {
+        Ok(Some(response)) => {
+            let text = line_of(alloc, name(&response), before - feed.held().len())?;
+            Ok(Turn::Line(text))
         }
-        Err(Err::Failure) => Err(AllocError),
-        Err(Err::Error) => Ok(Turn::Last(Finish::Denied, line_of(alloc, "denied", m.len())?)),
-        Err(Err::Incomplete(_)) => {
-            if m.is_empty() {
-                return Ok(Turn::Last(Finish::End, String::from_str(alloc, "end\n")?));
-            }
-            Ok(Turn::Last(Finish::Waiting, line_of(alloc, "waiting", m.len())?))
-        }
+        Ok(None) => Ok(Turn::Stop(End::Waits)),
+        Err(FeedError::Denied) => Ok(Turn::Stop(End::Denied)),
+        Err(FeedError::OutOfMemory) => Err(AllocError),
     }
 }
 
-/// Writes the report of the bytes.
-pub fn report<W: Sink>(alloc: Global, input: &[u8], writer: &mut W) -> Result<Finish, Fault>
+/// Writes a line for each response that the feed has, and tells why it gives no more.
+pub(crate) fn tell<W: Sink>(alloc: Global, feed: &mut Feed, writer: &mut W) -> Result<End, Fault>
     requires { W.has_failed writer.old ≡ false }
-    ensures whole { IfOk result (λ f. Writes (W.contents writer.old) (W.contents writer.new) input.now f) }
-    ensures begun { OnErr result (Begins (W.contents writer.old) (W.contents writer.new) input.now) }
+    ensures told { OnOk result (Told feed.old feed.new (W.contents writer.old) (W.contents writer.new)) }
+    ensures ends { IfOk result (EndsAs feed.new) }
+    ensures on { OnOk result (W.has_failed writer.new ≡ false) }
+    ensures begun { OnErr result (Begins (W.contents writer.old) (W.contents writer.new) feed.old) }
     ensures fault { IfErr result (λ e. e ≡ Fault.Write → W.has_failed writer.new ≡ true) }
     ensures kinds { IfErr result (λ e. (¬ (e ≡ Fault.Read)) × (¬ (e ≡ Fault.TooLong))) }
 {
-    let mut rest = input;
     'turns: loop {
-        match next_turn(alloc, rest)? {
-            Turn::Next(after, text) => {
-                write_all(writer, text.as_bytes())?;
-                rest = after;
-            }
-            Turn::Last(finish, text) => {
-                write_all(writer, text.as_bytes())?;
-                return Ok(finish);
-            }
+        match next_turn(alloc, feed)? {
+            Turn::Line(text) => write_all(writer, text.as_bytes())?,
+            Turn::Stop(end) => return Ok(end),
         }
     }
+}
+
+// The last line, where so many bytes are left and no response stands at their front.
+fn last_line(alloc: Global, end: End, n: usize) -> Result<(Finish, String), AllocError>
+    ensures { IfOk result (λ x. (m : List ℕ) → EndsAs m end → length m ≡ n → IsReport m (string_bytes x.1) x.0) }
+{
+    match end {
+        End::Denied => Ok((Finish::Denied, line_of(alloc, "denied", n)?)),
+        End::Waits => {
+            if n == 0 {
+                return Ok((Finish::End, String::from_str(alloc, "end\n")?));
+            }
+            Ok((Finish::Waiting, line_of(alloc, "waiting", n)?))
+        }
+    }
+}
+
+/// Writes the last line, where so many bytes are left and no response stands at their front.
+pub(crate) fn tell_last<W: Sink>(
+    alloc: Global,
+    end: End,
+    n: usize,
+    writer: &mut W,
+) -> Result<Finish, Fault>
+    requires { W.has_failed writer.old ≡ false }
+    ensures whole { IfOk result (λ f. (m : List ℕ) → EndsAs m end → length m ≡ n → Writes (W.contents writer.old) (W.contents writer.new) m f) }
+    ensures begun { OnErr result ((m : List ℕ) → EndsAs m end → length m ≡ n → Begins (W.contents writer.old) (W.contents writer.new) m) }
+    ensures fault { IfErr result (λ e. e ≡ Fault.Write → W.has_failed writer.new ≡ true) }
+    ensures kinds { IfErr result (λ e. (¬ (e ≡ Fault.Read)) × (¬ (e ≡ Fault.TooLong))) }
+{
+    let (finish, text) = last_line(alloc, end, n)?;
+    write_all(writer, text.as_bytes())?;
+    Ok(finish)
 }

@@ -162,6 +162,37 @@ fn goes_byte_by_byte(rt: HostRuntime) {
     let (result, written) = run_on(rt.alloc(), b"* OK hi\r\na1 OK\r\n", slow);
     assert_eq!(rt; result, Ok(Finish::End));
     assert_eq!(rt; written.as_slice(), b"data 9\ndone 7\nend\n".as_slice());
+    let (result, written) = run_on(rt.alloc(), b"* 1 EXISTS\r\na1 O", slow);
+    assert_eq!(rt; result, Ok(Finish::Waiting));
+    assert_eq!(rt;
+        written.as_slice(),
+        b"mailboxdata 12\nwaiting 4\n".as_slice()
+    );
+    let (result, written) = run_on(rt.alloc(), b"a1 OK\r\n* X\r\na2 OK\r\n", slow);
+    assert_eq!(rt; result, Ok(Finish::Denied));
+    assert_eq!(rt; written.as_slice(), b"done 7\ndenied 12\n".as_slice());
+}
+
+/// Whether a run whose reads fail behind so many bytes has written this by then.
+fn has_told(alloc: Global, bytes: &[u8], reads: usize, told: &[u8]) -> bool {
+    let limits = Limits {
+        read_size: 1,
+        reads,
+        ..WHOLE
+    };
+    let (result, written) = run_on(alloc, bytes, limits);
+    result == Err(Fault::Read) && written.as_slice() == told
+}
+
+#[test]
+fn writes_before_the_next_read(rt: HostRuntime) {
+    let bytes = b"* OK hi\r\na1 OK\r\n* X\r\n";
+    assert!(rt; has_told(rt.alloc(), bytes, 0, b""));
+    assert!(rt; has_told(rt.alloc(), bytes, 8, b""));
+    assert!(rt; has_told(rt.alloc(), bytes, 9, b"data 9\n"));
+    assert!(rt; has_told(rt.alloc(), bytes, 15, b"data 9\n"));
+    assert!(rt; has_told(rt.alloc(), bytes, 16, b"data 9\ndone 7\n"));
+    assert!(rt; has_told(rt.alloc(), bytes, 20, b"data 9\ndone 7\n"));
 }
 
 #[test]
@@ -173,7 +204,7 @@ fn breaks_off(rt: HostRuntime) {
     };
     let (result, written) = run_on(rt.alloc(), b"* OK hi\r\na1 OK\r\n", reader_fails);
     assert_eq!(rt; result, Err(Fault::Read));
-    assert!(rt; b"data 9\n".starts_with(written.as_slice()));
+    assert_eq!(rt; written.as_slice(), b"data 9\n".as_slice());
     let writer_fails = Limits {
         write_size: 3,
         writes: 2,

@@ -1,12 +1,12 @@
 use Rattle.std.proofs.Common.{◌≡◌, false, length}
-use Rattle.imap_report.proofs.Turns.{Told}
-use Rattle.imap_report.proofs.telling.report.Given as goal
+use Rattle.imap_report.specs.Report.{Told}
+use Rattle.imap_report.proofs.telling.tell.Given as goal
 
 abbrev pub invariant-turns : goal.invariant-turns
 invariant-turns g l = record {
-  told : Told l.input l.rest (g.W.Sink.contents l.fn.writer) (g.W.Sink.contents l.writer);
+  told : Told l.fn.feed l.feed (g.W.Sink.contents l.fn.writer) (g.W.Sink.contents l.writer);
   on : g.W.Sink.has_failed l.writer ≡ false;
 }
 
 abbrev pub decreases-turns : goal.decreases-turns
-decreases-turns g l = length l.rest
+decreases-turns g l = length l.feed

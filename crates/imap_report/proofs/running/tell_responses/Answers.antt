@@ -1,0 +1,57 @@
+use Rattle.std.proofs.Common.{rules, ◌≡◌, ◌-◌, ◌^◌, subst, ap, ◌∙◌, ◌+◌, length}
+use Rattle.imap_proto.specs.Streams.{EndsAs}
+use Rattle.imap_proto.proofs.Streams.{nothing_waits}
+use Rattle.imap_report.specs.declared.outcome.Fault.TheVariants.{TooLong}
+use Rattle.imap_report.specs.Report.{ReadsAtLeast}
+use Rattle.imap_report.proofs.Turns.{on_err}
+use Rattle.imap_report.proofs.Progress.{nothing_yet, some_read, lines_told, breaks_off, stops_here, stops_behind, reads_long_behind, ends_denied}
+use Rattle.imap_report.proofs.running.tell_responses.Goals as goal
+
+pub pieces-init : goal.pieces-init
+pieces-init g c = record {
+  so_far = rw c.new-feed.ensures (nothing_yet _ _);
+  waits = rw c.new-feed.ensures nothing_waits;
+  reads = c.requires.reads;
+  writes = c.requires.writes;
+}
+
+pub returns-in_err-n-clause-begun : goal.returns-in_err-n-clause-begun
+returns-in_err-n-clause-begun g c = on_err _ (stops_behind _ _ _ _ _ _ _ 0 c.pieces.invariant.so_far c.in_err-n.ensures.some)
+
+pub returns-in_err-tell-clause-begun : goal.returns-in_err-tell-clause-begun
+returns-in_err-tell-clause-begun g c =
+    let so_far = some_read _ _ _ _ _ _ _ _ _ c.pieces.invariant.so_far c.in_ok-n.ensures.taken c.if-n-eq0.false in
+    on_err _ (breaks_off _ _ _ _ _ _ _ so_far c.in_err-tell.ensures.begun)
+
+pub pieces-preserved : goal.pieces-preserved
+pieces-preserved g c =
+    let so_far = some_read _ _ _ _ _ _ _ _ _ c.pieces.invariant.so_far c.in_ok-n.ensures.taken c.if-n-eq0.false in
+    record {
+      so_far = lines_told _ _ _ _ _ _ _ _ so_far c.in_ok-tell.ensures.told;
+      waits = subst (EndsAs c.tell.new.feed) c.in-Waits.is c.in_ok-tell.ensures.ends;
+      reads = c.in_ok-n.ensures.on;
+      writes = c.in_ok-tell.ensures.on;
+    }
+
+pub returns-in_err-n-in-Denied-clause-begun : goal.returns-in_err-n-in-Denied-clause-begun
+returns-in_err-n-in-Denied-clause-begun g c =
+    let so_far = some_read _ _ _ _ _ _ _ _ _ c.pieces.invariant.so_far c.in_ok-n.ensures.taken c.if-n-eq0.false in
+    on_err _ (stops_behind _ _ _ _ _ _ _ 0 (lines_told _ _ _ _ _ _ _ _ so_far c.in_ok-tell.ensures.told) c.in_err-n-in-Denied.ensures.some)
+
+pub returns-in_err-n-in-Denied-clause-long : goal.returns-in_err-n-in-Denied-clause-long
+returns-in_err-n-in-Denied-clause-long g c =
+    let so_far = some_read _ _ _ _ _ _ _ _ _ c.pieces.invariant.so_far c.in_ok-n.ensures.taken c.if-n-eq0.false in
+    let told = lines_told _ _ _ _ _ _ _ _ so_far c.in_ok-tell.ensures.told in
+    let long : c.in_err-n-in-Denied.field-0.0 ≡ TooLong → ReadsAtLeast (2 ^ 64 - 1) (g.R.Source.remaining c.args.reader.now) (g.R.Source.remaining c.count_on.new.reader) =
+    λ is. reads_long_behind _ _ _ _ _ c.tell.new.feed _ (2 ^ 64 - 1) told (rw c.held-in-Denied.ensures at (c.in_err-n-in-Denied.ensures.long is)) in
+    search rules
+
+pub returns-in-Denied-clause-told : goal.returns-in-Denied-clause-told
+returns-in-Denied-clause-told g c =
+    let so_far = some_read _ _ _ _ _ _ _ _ _ c.pieces.invariant.so_far c.in_ok-n.ensures.taken c.if-n-eq0.false in
+    let read = c.in_ok-n-in-Denied.ensures.read in
+    ends_denied _ _ _ _ _ c.tell.new.feed read.0 _ _ (lines_told _ _ _ _ _ _ _ _ so_far c.in_ok-tell.ensures.told) (subst (EndsAs c.tell.new.feed) c.in-Denied.is c.in_ok-tell.ensures.ends) read.1
+    (read.2 ∙ ap (λ k. length k + length read.0) c.held-in-Denied.ensures) c.in_ok-n-in-Denied.ensures.end
+
+pub returns-clause-begun : goal.returns-clause-begun
+returns-clause-begun g c = stops_here _ _ _ _ _ _ c.pieces.invariant.so_far
