@@ -4,9 +4,8 @@ ghost use Rattle.std.specs.Prelude.{◌≡◌, ◌++◌, ◌∷◌, [], IfOk, On
 ghost use Rattle.std.specs.Option.{option_map};
 ghost use Rattle.imap_grammar.specs.Text.{Text, text_of};
 ghost use Rattle.imap_items.specs.Spanned.{text_in};
-ghost use Rattle.imap_shapes.specs.Spans.{bytes_of, bytes_owned, text_owned};
-ghost use Rattle.imap_shapes.specs.BodyValues.{BodyValue, body_seen};
-ghost use Rattle.imap_shapes.specs.EnvelopeValues.{envelope_seen};
+ghost use Rattle.imap_shapes.specs.Spans.{bytes_of};
+ghost use Rattle.imap_shapes.specs.BodyValues.{body_seen};
 ghost use Rattle.imap_structure.specs.Spanned.{body_in};
 ghost use Rattle.imap_body.specs.SectionValues.{path_value};
 ghost use Rattle.imap_body.specs.AttributeValues.{attribute_seen, BodyStructure};
@@ -15,28 +14,13 @@ use crate::types::attributes::AttributeParts;
 use crate::types::sections::SectionPath;
 use imap_bytes::texts::decode;
 use imap_shapes::BodyStructure;
-use imap_shapes::maps::change::Change;
-use imap_shapes::maps::changes::Owning;
+use imap_shapes::maps::change::{BodyChange, Change};
+use imap_shapes::maps::envelopes::mapped_envelope;
 use imap_shapes::maps::parts::{mapped_list, mapped_text};
 use imap_shapes::shapes::bodies;
-use imap_shapes::shapes::envelopes::Envelope;
 use imap_shapes::spans::{Span, SpannedText};
 use std::alloc::{AllocError, Global};
 use std::borrow::CowStr;
-
-/// What makes another body structure of one. It may take memory, and fails for want of it alone.
-pub(crate) trait BodyChange<Y> {
-    type To: Drop;
-
-    /// What the new body is to say.
-    ghost before: { Self → Y → BodyValue };
-
-    /// What a new body says.
-    ghost after: { Self.To → BodyValue };
-
-    fn change_body(&self, body: &Y) -> Result<Self::To, AllocError>
-        ensures { IfOk result (λ b. after b ≡ before self.now body.now) };
-}
 
 /// What spans of texts name in a message, decoded, and what the body structures of such texts name.
 #[derive(Drop)]
@@ -72,22 +56,6 @@ impl<'a> BodyChange<Box<bodies::BodyStructure<SpannedText, Span>>> for Decoding<
     }
 }
 
-impl<'a, 'b> BodyChange<BodyStructure<'a>> for Owning<'b> {
-    type To = BodyStructure<'b>;
-
-    ghost before = { λ c b. body_seen text_owned bytes_owned b };
-
-    ghost after = { body_seen text_of bytes_of };
-
-    fn change_body(&self, body: &BodyStructure<'a>) -> Result<BodyStructure<'b>, AllocError> {
-        body.try_map(
-            self.alloc,
-            &Owning::new(self.alloc),
-            &Owning::new(self.alloc),
-        )
-    }
-}
-
 fn copied_section(
     alloc: Global,
     section: &Option<SectionPath>,
@@ -102,17 +70,6 @@ fn copied_section(
             Ok(Some(SectionPath::Part(numbers, *what)))
         }
     }
-}
-
-fn mapped_envelope<B, D: Change<B>>(
-    alloc: Global,
-    d: &D,
-    envelope: &Box<Envelope<B>>,
-) -> Result<Box<Envelope<D::To>>, AllocError>
-    ensures { IfOk result (λ e. envelope_seen D.after e.value ≡ envelope_seen (D.before d.now) envelope.now.value) }
-{
-    let mapped = envelope.try_map(alloc, d)?;
-    Ok(Box::new(alloc, mapped)?)
 }
 
 impl<S, B, Y> AttributeParts<S, B, Y> {

@@ -12,11 +12,7 @@ impl<'a> AttributeValue<'a> {
     pub fn into_owned(self, alloc: Global) -> Result<AttributeValue<'static>, AllocError>
         ensures { IfOk result (λ x. attribute_value x ≡ attribute_owned self.entry) }
     {
-        self.try_map(
-            alloc,
-            &Owning::new(alloc),
-            &Owning::new(alloc),
-            &Owning::new(alloc),
-        )
+        let owning = Owning::new(alloc);
+        self.try_map(alloc, &owning, &owning, &owning)
     }
 }

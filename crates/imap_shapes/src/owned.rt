@@ -119,6 +119,7 @@ impl<'a> BodyStructure<'a> {
     pub fn into_owned(self, alloc: Global) -> Result<BodyStructure<'static>, AllocError>
         ensures { IfOk result (λ x. body_seen text_of bytes_of x ≡ body_seen text_owned bytes_owned self.entry) }
     {
-        self.try_map(alloc, &Owning::new(alloc), &Owning::new(alloc))
+        let owning = Owning::new(alloc);
+        self.try_map(alloc, &owning, &owning)
     }
 }

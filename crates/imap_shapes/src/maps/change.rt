@@ -1,7 +1,8 @@
-//! Changes of texts.
+//! Changes of texts and of body structures.
 
 ghost use Rattle.std.specs.Prelude.{◌≡◌, IfOk};
 ghost use Rattle.imap_grammar.specs.Text.{Text};
+ghost use Rattle.imap_shapes.specs.BodyValues.{BodyValue};
 
 use std::alloc::AllocError;
 
@@ -17,4 +18,18 @@ pub trait Change<X> {
 
     fn change(&self, x: &X) -> Result<Self::To, AllocError>
         ensures { IfOk result (λ y. after y ≡ before self.now x.now) };
+}
+
+/// What makes another body structure of one. It may take memory, and fails for want of it alone.
+pub trait BodyChange<Y> {
+    type To: Drop;
+
+    /// What the new body is to say.
+    ghost before: { Self → Y → BodyValue };
+
+    /// What a new body says.
+    ghost after: { Self.To → BodyValue };
+
+    fn change_body(&self, body: &Y) -> Result<Self::To, AllocError>
+        ensures { IfOk result (λ b. after b ≡ before self.now body.now) };
 }

@@ -3,8 +3,10 @@
 ghost use Rattle.std.specs.Prelude.{◌≡◌, IfOk, false};
 ghost use Rattle.imap_grammar.specs.Text.{text_of};
 ghost use Rattle.imap_shapes.specs.Spans.{bytes_of, bytes_owned, text_owned, bytes_in, text_in};
+ghost use Rattle.imap_shapes.specs.BodyValues.{body_seen};
 
-use super::change::Change;
+use super::change::{BodyChange, Change};
+use crate::BodyStructure;
 use crate::spans::{Span, SpannedText};
 use imap_bytes::texts::decode;
 use std::alloc::{AllocError, Global};
@@ -57,6 +59,19 @@ impl<'a, 'b> Change<CowStr<'a>> for Owning<'b> {
 
     fn change(&self, x: &CowStr<'a>) -> Result<CowStr<'b>, AllocError> {
         Ok(CowStr::Owned(String::from_str(self.alloc, x.as_str())?))
+    }
+}
+
+impl<'a, 'b> BodyChange<BodyStructure<'a>> for Owning<'b> {
+    type To = BodyStructure<'b>;
+
+    ghost before = { λ c b. body_seen text_owned bytes_owned b };
+
+    ghost after = { body_seen text_of bytes_of };
+
+    fn change_body(&self, body: &BodyStructure<'a>) -> Result<BodyStructure<'b>, AllocError> {
+        let owning = Owning::new(self.alloc);
+        body.try_map(self.alloc, &owning, &owning)
     }
 }
 

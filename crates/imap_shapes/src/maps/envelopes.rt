@@ -69,3 +69,15 @@ impl<B> Envelope<B> {
         })
     }
 }
+
+/// The same envelope with each text changed.
+pub fn mapped_envelope<B, D: Change<B>>(
+    alloc: Global,
+    d: &D,
+    envelope: &Box<Envelope<B>>,
+) -> Result<Box<Envelope<D::To>>, AllocError>
+    ensures { IfOk result (λ e. envelope_seen D.after e.value ≡ envelope_seen (D.before d.now) envelope.now.value) }
+{
+    let mapped = envelope.try_map(alloc, d)?;
+    Ok(Box::new(alloc, mapped)?)
+}
