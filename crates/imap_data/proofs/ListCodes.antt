@@ -1,5 +1,5 @@
 -- Codes that may hold a list: want of memory is answered only behind their words, and where these stand no other code is yielded.
-use Rattle.std.proofs.Common.{◌≡◌, ℕ, List, ◌++◌, Option, Some, None, Ok, Err, refl, sym, ap, subst, ◌∙◌, inl, inr}
+use Rattle.std.proofs.Common.{◌≡◌, ℕ, List, ◌++◌, Ok, Err, refl, sym, ap, subst, ◌∙◌, inl, inr}
 use Prim.Native.String.{String}
 use Rattle.std.specs.Prelude.{codes}
 use Rattle.imap_grammar.specs.declared.answer.Err.{Err as Fault}
@@ -10,7 +10,7 @@ use Rattle.imap_grammar.specs.Rule.{Rule, meaning, ◌or◌}
 use Rattle.imap_grammar.specs.Step.{step}
 use Rattle.imap_grammar.specs.Tags.{tag, word, names}
 use Rattle.imap_grammar.proofs.Agreement.{agrees, reads}
-use Rattle.imap_grammar.proofs.Memory.{begins_letter, begins_word, begins_tag, denied_apart, never_both, words_on}
+use Rattle.imap_grammar.proofs.Memory.{begins_letter, begins_tag, denied_apart, never_both, words_on}
 use Rattle.imap_grammar.proofs.ReadingWords.{exact}
 use Rattle.imap_grammar.proofs.Yields.{Yields, either_yields, made_yields}
 use Rattle.imap_data.specs.Codes.{CodeValue, Alert, Parse, BadCharset, Capabilities, PermanentFlags, HoldsNoList, BeginsListWord, BeginsListCode, append_uid_of, copy_uid_of, append_uid, copy_uid, bad_charset, capabilities, permanent_flags, any_code, code_of_a, code_of_c, code_of_p, response_code}

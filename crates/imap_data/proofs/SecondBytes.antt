@@ -1,11 +1,9 @@
 -- Which attributes of a mailbox's name answer, by the byte behind their backslash.
-use Rattle.std.proofs.Common.{◌≡◌, ◌≢◌, ◌⊎◌, ℕ, Bool, true, false, List, [], ◌∷◌, Option, Some, None, Err, refl, sym, ap, ◌∙◌, inl, inr, codes}
-use Prim.Native.String.{String}
+use Rattle.std.proofs.Common.{◌≡◌, ◌≢◌, ◌⊎◌, ℕ, Bool, true, false, List, [], ◌∷◌, Some, None, Err, refl, sym, ap, ◌∙◌, inl, inr, codes}
 use Rattle.std.specs.Prelude.{not, ◌&&◌, ◌==◌, slice_get}
 use Rattle.std.specs.Char.{to_ascii_lowercase, to_ascii_uppercase}
 use Rattle.std.proofs.lemmas.Bool.{both_ways, cases_Bool, and_parts, not-true, ne_eqb, eqb-true}
-use Rattle.imap_grammar.specs.declared.answer.Err.TheVariants.{Incomplete, Error}
-use Rattle.imap_grammar.specs.declared.answer.Needed.TheVariants.{Unknown}
+use Rattle.imap_grammar.specs.declared.answer.Err.TheVariants.{Error}
 use Rattle.imap_grammar.specs.Rule.{Rule, tag_by, nothing, ◌▹◌, ◌or◌}
 use Rattle.imap_grammar.specs.Step.{step, tag_step, run0_step}
 use Rattle.imap_grammar.specs.Tags.{same_letter}

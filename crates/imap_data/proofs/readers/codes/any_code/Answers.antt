@@ -1,5 +1,4 @@
-use Rattle.std.proofs.Common.{inl, inr}
-use Rattle.imap_grammar.proofs.Memory.{exactly_fails, wider}
+use Rattle.imap_grammar.proofs.Memory.{exactly_fails}
 use Rattle.imap_data.specs.Codes.{code_value, highest_mod_seq, metadata_code, code_of_r, code_of_t, code_of_u}
 use Rattle.imap_data.proofs.readers.codes.any_code.Goals as goal
 
