@@ -1,10 +1,10 @@
-use Rattle.std.proofs.Common.{◌≡◌, ◌<◌, ◌≤◌, ◌++◌, ◌∷◌, [], length, get_or, map, ◌∙◌, sym, ap, subst, arith}
+use Rattle.std.proofs.Common.{◌≡◌, ◌<◌, ◌++◌, ◌∷◌, [], length, get_or, map, ◌∙◌, sym, ap, subst, arith}
 use Rattle.std.specs.Option.{option_map}
 use Rattle.imap_shapes.specs.EnvelopeValues.{envelope_seen}
 use Rattle.imap_shapes.specs.ExtensionValues.{extension_seen}
 use Rattle.imap_shapes.specs.BodyValues.{common_seen, single_seen, common_of, extension_of, body_seen, Basic, TextBody, Message, Multipart, bodies_of}
 use Rattle.imap_shapes.proofs.Lists.{mapped_further, mapped_whole}
-use Rattle.imap_shapes.proofs.Trees.{basic_seen, text_seen, message_seen, multipart_seen, bodies_of_tree, bodies_of_trees, few_in_list, fewer_in_multipart, fewer_in_message}
+use Rattle.imap_shapes.proofs.Trees.{basic_seen, text_seen, message_seen, multipart_seen, few_in_list, fewer_in_multipart, fewer_in_message}
 use Rattle.imap_shapes.proofs.maps.bodies.+body.Goals as goal
 use Rattle.imap_shapes.proofs.maps.bodies.+body.Goals.{mapped_body-in-Basic+in_ok-try_map-in-Basic, mapped_body-in-Text+in_ok-try_map-in-Text, mapped_body-in-Message+in_ok-try_map-in-Message+in_ok-try_map-in-Message-2+in_ok-mapped_inner-in-Message, mapped_body-in-Multipart+in_ok-mapped_bodies-in-Multipart}
 
