@@ -8,12 +8,12 @@ use Rattle.std.specs.Cmp.Lexicographic.{pointwise}
 use Rattle.imap_grammar.specs.Equality.{Tells}
 use Rattle.imap_grammar.specs.Text.{text_of, lent_text}
 use Rattle.imap_items.specs.Capabilities.{capability_value, lent_capability}
-use Rattle.imap_data.specs.Codes.{code_content, BadCharset, Capabilities, PermanentFlags, UidNext, UidValidity, Unseen, HighestModSeq, MetadataLongEntries, MetadataMaxSize, CodeValue, code_value, HasOrderedUids, AppendUid, CopyUid, append_uid_of, copy_uid_of, append_uid, copy_uid, bad_charset, capabilities, permanent_flags, uid_validity, uid_next, unseen, highest_mod_seq, long_entries, max_size, too_many, no_private, basic_code, uid_code, metadata_code, any_code}
+use Rattle.imap_data.specs.Codes.{code_content, Alert, Parse, ReadOnly, ReadWrite, TryCreate, UidNotSticky, MetadataTooMany, MetadataNoPrivate, AppendUid, CopyUid, BadCharset, Capabilities, PermanentFlags, UidNext, UidValidity, Unseen, HighestModSeq, MetadataLongEntries, MetadataMaxSize, CodeValue, code_value, HasOrderedUids, AppendUid, CopyUid, append_uid_of, copy_uid_of, append_uid, copy_uid, bad_charset, capabilities, permanent_flags, uid_validity, uid_next, unseen, highest_mod_seq, long_entries, max_size, too_many, no_private, basic_code, uid_code, metadata_code, any_code}
 use Rattle.imap_data.specs.declared.types.codes.ResponseCode.{ResponseCode}
 use Rattle.imap_data.specs.declared.types.codes.ResponseCode.TheVariants as code
 use Rattle.imap_data.specs.contracts.types.codes.ResponseCodePartialEq.TheImpl as code_eq
 use Rattle.std.proofs.lemmas.Bool.{and_parts, and_from}
-use Rattle.imap_grammar.proofs.Seen.{items_tell, option_tells, on_tells, numbers_tell, retold, lists_tell, text_lists_tell, option_twice}
+use Rattle.imap_grammar.proofs.Seen.{unequal, kinds_apart, items_tell, option_tells, on_tells, numbers_tell, retold, lists_tell, text_lists_tell, option_twice}
 use Rattle.imap_items.proofs.Capabilities.{capability_tells}
 use Rattle.imap_items.proofs.UidSets.{member_tells}
 use Rattle.std.specs.List.{All}
@@ -27,6 +27,28 @@ texts_list_tell = on_tells (λ v. v.items) _ _ text_lists_tell
 
 charsets_tell : Tells (option_eq (λ (x y : Vec (CowStr Global) Global). pointwise (λ (a b : CowStr Global). pointwise nat_eq (cow_str_bytes a) (cow_str_bytes b)) x.items y.items)) (λ o. option_map (map lent_text) (option_map (λ v. map text_of v.items) o))
 charsets_tell = retold (option_map (λ v. map lent_text (map text_of v.items))) (λ o. option_map (map lent_text) (option_map (λ v. map text_of v.items) o)) (option_twice (λ v. map text_of v.items) (map lent_text)) (option_tells _ _ texts_list_tell)
+
+-- the number of its kind
+abbrev kind_of : CodeValue → ℕ
+kind_of Alert = 0
+kind_of (BadCharset _) = 1
+kind_of (Capabilities _) = 2
+kind_of (HighestModSeq _) = 3
+kind_of Parse = 4
+kind_of (PermanentFlags _) = 5
+kind_of ReadOnly = 6
+kind_of ReadWrite = 7
+kind_of TryCreate = 8
+kind_of (UidNext _) = 9
+kind_of (UidValidity _) = 10
+kind_of (Unseen _) = 11
+kind_of (AppendUid _ _) = 12
+kind_of (CopyUid _ _ _) = 13
+kind_of UidNotSticky = 14
+kind_of (MetadataLongEntries _) = 15
+kind_of (MetadataMaxSize _) = 16
+kind_of MetadataTooMany = 17
+kind_of MetadataNoPrivate = 18
 
 code_same : (x y : ResponseCode) → (code_eq.eq-value).it x y ≡ true → code_content x ≡ code_content y
 code_same code.Alert code.Alert h = refl
@@ -58,7 +80,7 @@ code_same (code.CopyUid m x v) (code.CopyUid n y w) h =
     let b = (items_tell _ _ member_tells).same x.items y.items q.0 in
     let d = (items_tell _ _ member_tells).same v.items w.items q.1 in
     cc
-code_same x y h = cc
+code_same x y h = absurd (unequal h)
 
 code_equal : (x y : ResponseCode) → code_content x ≡ code_content y → (code_eq.eq-value).it x y ≡ true
 code_equal code.Alert code.Alert h = refl
@@ -81,7 +103,7 @@ code_equal (code.PermanentFlags x) (code.PermanentFlags y) h = texts_list_tell.e
 code_equal (code.AppendUid m x) (code.AppendUid n y) h = and_from _ _ (numbers_tell.equal m n cc) ((items_tell _ _ member_tells).equal x.items y.items cc)
 code_equal (code.CopyUid m x v) (code.CopyUid n y w) h =
     and_from _ _ (numbers_tell.equal m n cc) (and_from _ _ ((items_tell _ _ member_tells).equal x.items y.items cc) ((items_tell _ _ member_tells).equal v.items w.items cc))
-code_equal x y h = cc
+code_equal x y h = absurd (kinds_apart kind_of _ _ refl h)
 
 pub code_tells : Tells (code_eq.eq-value).it code_content
 code_tells = record { same = code_same; equal = code_equal }

@@ -1,13 +1,13 @@
 -- What `==` tells of mailbox data.
-use Rattle.std.proofs.Common.{rules, ◌≡◌, ap, true, map}
+use Rattle.std.proofs.Common.{rules, ◌≡◌, ℕ, refl, ap, true, map}
 use Rattle.std.specs.Cmp.Lexicographic.{pointwise}
 use Rattle.std.proofs.lemmas.Bool.{and_parts, and_from}
 use Rattle.imap_grammar.specs.Equality.{Tells}
-use Rattle.imap_grammar.proofs.Seen.{texts_tell, text_tells, numbers_tell, items_tell, text_lists_tell, plain_lists_tell}
+use Rattle.imap_grammar.proofs.Seen.{unequal, kinds_apart, texts_tell, text_tells, numbers_tell, items_tell, text_lists_tell, plain_lists_tell}
 use Rattle.imap_extensions.specs.Annotations.{metadata_value}
 use Rattle.imap_extensions.proofs.Annotations.{metadata_tell}
 use Rattle.imap_data.specs.Counts.{item_content}
-use Rattle.imap_data.specs.MailboxValues.{Exists, Flags, Listed, Search, Sort, Recent, GmailLabels, GmailMsgId, GmailThrId, mailbox_content}
+use Rattle.imap_data.specs.MailboxValues.{MailboxValue, Exists, Flags, Listed, Search, Sort, Status, Recent, MetadataSolicited, MetadataUnsolicited, GmailLabels, GmailMsgId, GmailThrId, mailbox_content}
 use Rattle.imap_data.specs.declared.types.mailbox_data.MailboxDatum.{MailboxDatum}
 use Rattle.imap_data.specs.declared.types.mailbox_data.MailboxDatum.TheVariants as datum
 use Rattle.imap_data.specs.contracts.types.counts.StatusAttributePartialEq.TheImpl as item_eq
@@ -23,6 +23,21 @@ annotations_tell = items_tell _ metadata_value metadata_tell
 
 counts_tell : Tells (pointwise (item_eq.eq-value).it) (λ xs. xs)
 counts_tell = plain_lists_tell _ items_are_told
+
+-- the number of its kind
+abbrev kind_of : MailboxValue → ℕ
+kind_of (Exists _) = 0
+kind_of (Flags _) = 1
+kind_of (Listed _) = 2
+kind_of (Search _) = 3
+kind_of (Sort _) = 4
+kind_of (Status _ _) = 5
+kind_of (Recent _) = 6
+kind_of (MetadataSolicited _ _) = 7
+kind_of (MetadataUnsolicited _ _) = 8
+kind_of (GmailLabels _) = 9
+kind_of (GmailMsgId _) = 10
+kind_of (GmailThrId _) = 11
 
 datum_same : (x y : MailboxDatum) → (datum_eq.eq-value).it x y ≡ true → mailbox_content x ≡ mailbox_content y
 datum_same (datum.Exists x) (datum.Exists y) h = ap Exists (numbers_tell.same x y h)
@@ -49,7 +64,7 @@ datum_same (datum.MetadataUnsolicited x xs) (datum.MetadataUnsolicited y ys) h =
 datum_same (datum.GmailLabels x) (datum.GmailLabels y) h = ap GmailLabels (text_lists_tell.same x.items y.items h)
 datum_same (datum.GmailMsgId x) (datum.GmailMsgId y) h = ap GmailMsgId (numbers_tell.same x y h)
 datum_same (datum.GmailThrId x) (datum.GmailThrId y) h = ap GmailThrId (numbers_tell.same x y h)
-datum_same x y h = cc
+datum_same x y h = absurd (unequal h)
 
 datum_equal : (x y : MailboxDatum) → mailbox_content x ≡ mailbox_content y → (datum_eq.eq-value).it x y ≡ true
 datum_equal (datum.Exists x) (datum.Exists y) h = numbers_tell.equal x y cc
@@ -64,7 +79,7 @@ datum_equal (datum.MetadataUnsolicited x xs) (datum.MetadataUnsolicited y ys) h 
 datum_equal (datum.GmailLabels x) (datum.GmailLabels y) h = text_lists_tell.equal x.items y.items cc
 datum_equal (datum.GmailMsgId x) (datum.GmailMsgId y) h = numbers_tell.equal x y cc
 datum_equal (datum.GmailThrId x) (datum.GmailThrId y) h = numbers_tell.equal x y cc
-datum_equal x y h = cc
+datum_equal x y h = absurd (kinds_apart kind_of _ _ refl h)
 
 pub data_tell : Tells (datum_eq.eq-value).it mailbox_content
 data_tell = record { same = datum_same; equal = datum_equal }

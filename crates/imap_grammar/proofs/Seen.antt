@@ -1,5 +1,5 @@
 -- An `==` that tells the value that a type is seen as: of lists, options, numbers and texts.
-use Rattle.std.proofs.Common.{◌≡◌, ℕ, List, [], ◌∷◌, refl, sym, ap, ◌∙◌, Option, Some, None, Bool, true, map, nat_eq, eq-eqb, eqb→eq}
+use Rattle.std.proofs.Common.{◌≡◌, ℕ, List, [], ◌∷◌, refl, sym, ap, ◌∙◌, Option, Some, None, Bool, true, false, map, nat_eq, eqb, eq-eqb, eqb→eq}
 use Rattle.std.specs.Prelude.{option_map}
 use Rattle.std.specs.Option.{option_eq}
 use Rattle.std.specs.Global.{Global}
@@ -12,6 +12,14 @@ use Rattle.std.proofs.lemmas.Simd.{map-map}
 pub use Rattle.imap_grammar.specs.Equality.{Tells}
 use Rattle.imap_grammar.specs.Text.{Text, text_of, as_text, lent_text}
 use Rattle.std.specs.Cmp.Lexicographic.{pointwise, same_text}
+
+-- what `==` tells apart isn't told to be one
+pub unequal : false ≡ true → ⊥
+unequal h = absurd cc
+
+-- values of different kinds aren't one: a proof for each pair of kinds, without a search
+pub kinds_apart : {V : Type 0} (kind : V → ℕ) (a b : V) → eqb (kind a) (kind b) ≡ false → a ≡ b → ⊥
+kinds_apart kind a b apart same = unequal (sym apart ∙ eq-eqb _ _ (ap kind same))
 
 module _ {A V : Type 0} (eq : A → A → Bool) (view : A → V) (t : Tells eq view) where
   items_same : (xs ys : List A) → pointwise eq xs ys ≡ true → map view xs ≡ map view ys

@@ -12,7 +12,7 @@ use Rattle.imap_grammar.specs.Ranges.{range_of}
 use Rattle.std.proofs.lemmas.Bool.{and_parts, and_from}
 use Rattle.imap_grammar.specs.Text.{text_of, lent_text}
 use Rattle.imap_grammar.specs.Equality.{Tells}
-use Rattle.imap_grammar.proofs.Seen.{numbers_tell, text_tells, texts_tell, items_tell, lists_tell, options_tell}
+use Rattle.imap_grammar.proofs.Seen.{unequal, kinds_apart, numbers_tell, text_tells, texts_tell, items_tell, lists_tell, options_tell}
 use Rattle.imap_items.specs.Capabilities.{capability_value, lent_capability}
 use Rattle.imap_items.proofs.Capabilities.{capability_tells}
 use Rattle.imap_items.specs.contracts.types.statuses.StatusPartialEq.TheImpl as status_eq
@@ -29,7 +29,7 @@ use Rattle.imap_data.proofs.MailboxData.{data_tell}
 use Rattle.imap_shapes.proofs.Equality.{both_tell, named_tell, field}
 use Rattle.imap_shapes.specs.declared.shapes.bodies.BodyStructure.{BodyStructure}
 use Rattle.imap_body.specs.declared.types.attributes.AttributeParts.{AttributeParts}
-use Rattle.imap_proto.specs.Responses.{Capabilities, Continue, Done, Data, Expunge, Vanished, Fetch, MailboxData, Quota, QuotaRoot, Id, Acl, ListRights, MyRights, outcome_value, response_value, lent_outcome, lent_response}
+use Rattle.imap_proto.specs.Responses.{ResponseValue, Capabilities, Continue, Done, Data, Expunge, Vanished, Fetch, MailboxData, Quota, QuotaRoot, Id, Acl, ListRights, MyRights, outcome_value, response_value, lent_outcome, lent_response}
 use Rattle.imap_proto.specs.Feeds.{lent_whole}
 use Rattle.imap_proto.specs.declared.response.Response.{Response}
 use Rattle.imap_proto.specs.declared.response.Response.TheVariants as code
@@ -87,6 +87,23 @@ fetches_tell eq t = record {
 ends_tell : Tells (end_eq.eq-value).it (λ e. e)
 ends_tell = search rules
 
+-- the number of its kind
+abbrev kind_of : ResponseValue → ℕ
+kind_of (Capabilities _) = 0
+kind_of (Continue _) = 1
+kind_of (Done _ _ _) = 2
+kind_of (Data _ _) = 3
+kind_of (Expunge _) = 4
+kind_of (Vanished _ _) = 5
+kind_of (Fetch _ _) = 6
+kind_of (MailboxData _) = 7
+kind_of (Quota _) = 8
+kind_of (QuotaRoot _) = 9
+kind_of (Id _) = 10
+kind_of (Acl _) = 11
+kind_of (ListRights _) = 12
+kind_of (MyRights _) = 13
+
 module _ (fetches : FetchesTold) where
   response_same : (x y : Response) → (response_eq.eq-value).it x y ≡ true → lent_response (response_value x) ≡ lent_response (response_value y)
   response_same (code.Capabilities x) (code.Capabilities y) h = ap Capabilities (capabilities_tell.same x.items y.items h)
@@ -107,7 +124,7 @@ module _ (fetches : FetchesTold) where
   response_same (code.Acl x) (code.Acl y) h = ap Acl (acl_tells.same x y h)
   response_same (code.ListRights x) (code.ListRights y) h = ap ListRights (list_rights_tell.same x y h)
   response_same (code.MyRights x) (code.MyRights y) h = ap MyRights (my_rights_tell.same x y h)
-  response_same x y h = cc
+  response_same x y h = absurd (unequal h)
 
   response_equal : (x y : Response) → lent_response (response_value x) ≡ lent_response (response_value y) → (response_eq.eq-value).it x y ≡ true
   response_equal (code.Capabilities x) (code.Capabilities y) h = capabilities_tell.equal x.items y.items cc
@@ -124,7 +141,7 @@ module _ (fetches : FetchesTold) where
   response_equal (code.Acl x) (code.Acl y) h = acl_tells.equal x y cc
   response_equal (code.ListRights x) (code.ListRights y) h = list_rights_tell.equal x y cc
   response_equal (code.MyRights x) (code.MyRights y) h = my_rights_tell.equal x y cc
-  response_equal x y h = cc
+  response_equal x y h = absurd (kinds_apart kind_of _ _ refl h)
 
   pub response_tells : Tells (response_eq.eq-value).it (λ r. lent_response (response_value r))
   response_tells = record { same = response_same; equal = response_equal }

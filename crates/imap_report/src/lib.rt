@@ -19,6 +19,3 @@ pub use outcome::{Fault, Finish};
 pub use readers::Reading;
 pub use running::{report_of, run};
 pub use writers::Writing;
-
-#[cfg(test)]
-mod tests;

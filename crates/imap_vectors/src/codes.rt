@@ -135,7 +135,7 @@ const CAPABILITIES: Rows = &[
     ),
 ];
 
-pub const LINES: &[Rows] = &[
+const LINES: &[Rows] = &[
     WITHOUT_DATA,
     WITH_NUMBERS,
     WITH_LISTS,
@@ -143,7 +143,12 @@ pub const LINES: &[Rows] = &[
     CAPABILITIES,
 ];
 
+/// The tables of these lines, built in one place.
+pub fn lines() -> &'static [Rows] {
+    LINES
+}
+
 #[test]
 fn lines_with_codes_and_capabilities(rt: HostRuntime) {
-    assert_lines(&rt, rt.alloc(), LINES);
+    assert_lines(&rt, rt.alloc(), lines());
 }

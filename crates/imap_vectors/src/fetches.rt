@@ -163,7 +163,7 @@ const WAITING: Rows = &[
     ),
 ];
 
-pub const LINES: &[Rows] = &[
+const LINES: &[Rows] = &[
     FLAGS_AND_NUMBERS,
     TEXTS_AND_BYTES,
     STRUCTURES,
@@ -171,9 +171,14 @@ pub const LINES: &[Rows] = &[
     WAITING,
 ];
 
+/// The tables of these lines, built in one place.
+pub fn lines() -> &'static [Rows] {
+    LINES
+}
+
 #[test]
 fn attributes(rt: HostRuntime) {
-    assert_lines(&rt, rt.alloc(), LINES);
+    assert_lines(&rt, rt.alloc(), lines());
 }
 
 const SECTIONS: Rows = &[

@@ -20,13 +20,17 @@ fn attributes(alloc: Global, kept: &KeptFetch) -> Result<Vec<AttributeValue<'_>>
     Ok(values)
 }
 
+// A fetch as a response is told.
+#[derive(Debug, Drop)]
+struct Fetch<'a>(u32, Vec<AttributeValue<'a>>);
+
 // Whether a kept fetch is told so as a response, with what is left of the line behind its bytes.
 fn tells(alloc: Global, kept: &KeptFetch, line: &[u8], want: &str) -> bool {
     let front = kept.bytes();
     match (line.get(front.len()..), attributes(alloc, kept)) {
         (Some(rest), Ok(values)) => {
-            let response = Response::Fetch(kept.number(), values);
-            line.starts_with(front) && says(alloc, Ok((rest, response)), want)
+            let fetch = Fetch(kept.number(), values);
+            line.starts_with(front) && says(alloc, Ok((rest, fetch)), want)
         }
         _ => false,
     }
@@ -53,16 +57,16 @@ fn is_not_kept(alloc: Global, line: &[u8], want: &str) -> bool {
 #[test]
 fn kept_as_parsed(rt: HostRuntime) {
     let alloc = rt.alloc();
-    for rows in fetches::LINES {
+    for rows in fetches::lines() {
         for (line, want) in *rows {
             assert!(rt; is_kept(alloc, line, want), "{want}");
         }
     }
     for tables in [
-        statuses::LINES,
-        codes::LINES,
-        mailboxes::LINES,
-        extensions::LINES,
+        statuses::lines(),
+        codes::lines(),
+        mailboxes::lines(),
+        extensions::lines(),
     ] {
         for rows in tables {
             for (line, want) in *rows {

@@ -38,6 +38,8 @@ mod parts;
 #[cfg(test)]
 mod readers;
 #[cfg(test)]
+mod reports;
+#[cfg(test)]
 mod sections;
 #[cfg(test)]
 mod sizes;

@@ -110,9 +110,14 @@ const ANNOTATIONS: Rows = &[
     (b"* METADATA \"x\" ()\r\n", "Error"),
 ];
 
-pub const LINES: &[Rows] = &[NUMBERS, NAMES, STATES, FLAGS, ANNOTATIONS];
+const LINES: &[Rows] = &[NUMBERS, NAMES, STATES, FLAGS, ANNOTATIONS];
+
+/// The tables of these lines, built in one place.
+pub fn lines() -> &'static [Rows] {
+    LINES
+}
 
 #[test]
 fn lines_of_mailboxes(rt: HostRuntime) {
-    assert_lines(&rt, rt.alloc(), LINES);
+    assert_lines(&rt, rt.alloc(), lines());
 }

@@ -161,11 +161,11 @@ fn assert_owned(rt: &impl Abort, alloc: Global, tables: &[Rows]) {
 // The tables of whole lines have each variant of each enum.
 #[test]
 fn whole_lines(rt: HostRuntime) {
-    assert_owned(&rt, rt.alloc(), statuses::LINES);
-    assert_owned(&rt, rt.alloc(), codes::LINES);
-    assert_owned(&rt, rt.alloc(), mailboxes::LINES);
-    assert_owned(&rt, rt.alloc(), extensions::LINES);
-    assert_owned(&rt, rt.alloc(), fetches::LINES);
+    assert_owned(&rt, rt.alloc(), statuses::lines());
+    assert_owned(&rt, rt.alloc(), codes::lines());
+    assert_owned(&rt, rt.alloc(), mailboxes::lines());
+    assert_owned(&rt, rt.alloc(), extensions::lines());
+    assert_owned(&rt, rt.alloc(), fetches::lines());
 }
 
 // The response at the front of a copy of these bytes, made owned: the copy is gone when it is answered.

@@ -61,9 +61,14 @@ const UNTAGGED: Rows = &[
     (b"* X\r\n", "Error"),
 ];
 
-pub const LINES: &[Rows] = &[TAGGED, CONTINUATIONS, UNTAGGED];
+const LINES: &[Rows] = &[TAGGED, CONTINUATIONS, UNTAGGED];
+
+/// The tables of these lines, built in one place.
+pub fn lines() -> &'static [Rows] {
+    LINES
+}
 
 #[test]
 fn lines_of_status(rt: HostRuntime) {
-    assert_lines(&rt, rt.alloc(), LINES);
+    assert_lines(&rt, rt.alloc(), lines());
 }

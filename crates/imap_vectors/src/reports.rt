@@ -1,0 +1,271 @@
+//! Reports of streams, over devices that are made here.
+
+ghost use Rattle.std.specs.Prelude.{None};
+
+use imap_report::{Fault, Finish, Sink, Source, run};
+use std::alloc::Global;
+use std::io::{self, ErrorKind};
+use std::test::*;
+
+/// Hands out at most `size` bytes a call, and fails when no call is left.
+#[derive(Drop)]
+struct Handing<'a> {
+    bytes: &'a [u8],
+    size: usize,
+    calls_left: usize,
+    has_failed: bool,
+}
+
+impl Source for Handing<'_> {
+    ghost remaining = { λ _. None };
+
+    ghost has_failed = { λ r. r.has_failed };
+
+    fn read(&mut self, buf: &mut [u8]) -> io::Result<usize> {
+        if self.calls_left == 0 {
+            self.has_failed = true;
+            return Err(io::Error::from(ErrorKind::Other));
+        }
+        self.calls_left -= 1;
+        let n = self.bytes.len().min(self.size).min(buf.len());
+        let (front, rest) = self.bytes.split_at(n);
+        buf[..n].copy_from_slice(front);
+        self.bytes = rest;
+        Ok(n)
+    }
+
+    fn failed(&self) -> bool {
+        self.has_failed
+    }
+}
+
+/// Takes at most `size` bytes a call, and fails when no call is left.
+#[derive(Drop)]
+struct Taking {
+    written: Vec<u8>,
+    size: usize,
+    calls_left: usize,
+    has_failed: bool,
+}
+
+impl Sink for Taking {
+    ghost contents = { λ _. None };
+
+    ghost has_failed = { λ w. w.has_failed };
+
+    fn write(&mut self, buf: &[u8]) -> io::Result<usize> {
+        let n = buf.len().min(self.size);
+        let (front, _) = buf.split_at(n);
+        if n == 0 || self.calls_left == 0 || self.written.extend_from_slice(front).is_err() {
+            self.has_failed = true;
+            return Err(io::Error::from(ErrorKind::Other));
+        }
+        self.calls_left -= 1;
+        Ok(n)
+    }
+
+    fn failed(&self) -> bool {
+        self.has_failed
+    }
+}
+
+/// How the calls of a run are limited.
+#[derive(Clone, Copy)]
+struct Limits {
+    read_size: usize,
+    reads: usize,
+    write_size: usize,
+    writes: usize,
+}
+
+const WHOLE: Limits = Limits {
+    read_size: 4096,
+    reads: 1000,
+    write_size: 4096,
+    writes: 1000,
+};
+
+/// A run: what is read, how its calls are limited, how it ends, and what it has written by then.
+#[derive(Drop)]
+struct Run {
+    bytes: &'static [u8],
+    limits: Limits,
+    ends: Result<Finish, Fault>,
+    writes: &'static [u8],
+}
+
+// Whether a run goes so.
+fn goes(alloc: Global, want: &Run) -> bool {
+    let mut reader = Handing {
+        bytes: want.bytes,
+        size: want.limits.read_size,
+        calls_left: want.limits.reads,
+        has_failed: false,
+    };
+    let mut writer = Taking {
+        written: Vec::new(alloc),
+        size: want.limits.write_size,
+        calls_left: want.limits.writes,
+        has_failed: false,
+    };
+    let ends = run(alloc, &mut reader, &mut writer);
+    ends == want.ends && writer.written.as_slice() == want.writes
+}
+
+const REPORTS: &[Run] = &[
+    Run {
+        bytes: b"* OK hi\r\na1 OK\r\n",
+        limits: WHOLE,
+        ends: Ok(Finish::End),
+        writes: b"data 9\ndone 7\nend\n",
+    },
+    Run {
+        bytes: b"",
+        limits: WHOLE,
+        ends: Ok(Finish::End),
+        writes: b"end\n",
+    },
+    Run {
+        bytes: b"+ idling\r\na1 O",
+        limits: WHOLE,
+        ends: Ok(Finish::Waiting),
+        writes: b"continue 10\nwaiting 4\n",
+    },
+    Run {
+        bytes: b"* X\r\na2 OK\r\n",
+        limits: WHOLE,
+        ends: Ok(Finish::Denied),
+        writes: b"denied 12\n",
+    },
+    Run {
+        bytes: b"a1 OK\r\n* OK [BADCHARSET ({5}\r\n* 18 EXISTS\r\nxy",
+        limits: WHOLE,
+        ends: Ok(Finish::Waiting),
+        writes: b"done 7\ndata 23\nmailboxdata 13\nwaiting 2\n",
+    },
+    Run {
+        bytes: b"* CAPABILITY IMAP4rev2\r\n",
+        limits: WHOLE,
+        ends: Ok(Finish::Denied),
+        writes: b"denied 24\n",
+    },
+    Run {
+        bytes: b"* ENABLED\r\n* 4 EXPUNGE\r\n* VANISHED 1\r\n* QUOTA \"\" ()\r\n* QUOTAROOT x\r\n* ID NIL\r\n* ACL x\r\n* LISTRIGHTS x y l\r\n* MYRIGHTS x l\r\n",
+        limits: WHOLE,
+        ends: Ok(Finish::End),
+        writes: b"capabilities 11\nexpunge 13\nvanished 14\nquota 15\nquotaroot 15\nid 10\nacl 9\nlistrights 20\nmyrights 16\nend\n",
+    },
+];
+
+// A call gives or takes one byte.
+const SLOW: Limits = Limits {
+    read_size: 1,
+    reads: 1000,
+    write_size: 1,
+    writes: 1000,
+};
+
+const BYTE_BY_BYTE: &[Run] = &[
+    Run {
+        bytes: b"* OK hi\r\na1 OK\r\n",
+        limits: SLOW,
+        ends: Ok(Finish::End),
+        writes: b"data 9\ndone 7\nend\n",
+    },
+    Run {
+        bytes: b"* 1 EXISTS\r\na1 O",
+        limits: SLOW,
+        ends: Ok(Finish::Waiting),
+        writes: b"mailboxdata 12\nwaiting 4\n",
+    },
+    Run {
+        bytes: b"a1 OK\r\n* X\r\na2 OK\r\n",
+        limits: SLOW,
+        ends: Ok(Finish::Denied),
+        writes: b"done 7\ndenied 12\n",
+    },
+];
+
+const WRITER_FAILS: Limits = Limits {
+    read_size: 4096,
+    reads: 1000,
+    write_size: 3,
+    writes: 2,
+};
+
+const WRITER_TAKES_NONE: Limits = Limits {
+    read_size: 4096,
+    reads: 1000,
+    write_size: 0,
+    writes: 1000,
+};
+
+const BROKEN_OFF: &[Run] = &[
+    Run {
+        bytes: b"* OK hi\r\na1 OK\r\n",
+        limits: WRITER_FAILS,
+        ends: Err(Fault::Write),
+        writes: b"data 9",
+    },
+    Run {
+        bytes: b"* OK hi\r\n",
+        limits: WRITER_TAKES_NONE,
+        ends: Err(Fault::Write),
+        writes: b"",
+    },
+];
+
+#[test]
+fn runs(rt: HostRuntime) {
+    for table in [REPORTS, BYTE_BY_BYTE, BROKEN_OFF] {
+        for want in table {
+            assert!(rt; goes(rt.alloc(), want), "{}", want.bytes.len());
+        }
+    }
+}
+
+// How many bytes come before the reader fails, and what was written by then: a line as soon as its response is whole.
+const BEFORE_A_FAILURE: &[(usize, &[u8])] = &[
+    (0, b""),
+    (8, b""),
+    (9, b"data 9\n"),
+    (10, b"data 9\n"),
+    (15, b"data 9\n"),
+    (16, b"data 9\ndone 7\n"),
+    (20, b"data 9\ndone 7\n"),
+];
+
+#[test]
+fn writes_before_the_next_read(rt: HostRuntime) {
+    for (reads, writes) in BEFORE_A_FAILURE {
+        let limits = Limits {
+            read_size: 1,
+            reads: *reads,
+            ..WHOLE
+        };
+        let want = Run {
+            bytes: b"* OK hi\r\na1 OK\r\n* X\r\n",
+            limits,
+            ends: Err(Fault::Read),
+            writes,
+        };
+        assert!(rt; goes(rt.alloc(), &want), "{reads}");
+    }
+}
+
+// Whether a fault is told so.
+fn is_named(alloc: Global, fault: Fault, want: &str) -> bool {
+    match fault.to_string(alloc) {
+        Ok(text) => text.as_str() == want,
+        Err(_) => false,
+    }
+}
+
+#[test]
+fn faults(rt: HostRuntime) {
+    let alloc = rt.alloc();
+    assert!(rt; is_named(alloc, Fault::Read, "read failed"));
+    assert!(rt; is_named(alloc, Fault::Write, "write failed"));
+    assert!(rt; is_named(alloc, Fault::TooLong, "input too long"));
+    assert!(rt; is_named(alloc, Fault::OutOfMemory, "out of memory"));
+}
