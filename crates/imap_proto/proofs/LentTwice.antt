@@ -1,24 +1,23 @@
 -- To borrow all texts twice is to borrow them once: so a value with its texts borrowed is the same value.
-use Rattle.std.proofs.Common.{◌≡◌, List, [], ◌∷◌, Option, None, Some, ap, ap₂, refl, map, sym, ◌∙◌, cond, nat_cmp, Bool, true, false}
+use Rattle.std.proofs.Common.{◌≡◌, List, [], ◌∷◌, None, Some, ap, ap₂, refl, map, sym, ◌∙◌, cond, nat_cmp, Bool, true, false}
 use Rattle.std.specs.Option.{option_map}
 use Rattle.std.specs.Ordering.{eq_by_cmp}
 use Rattle.std.specs.Cmp.Lexicographic.{slice_cmp, nat_list_cmp_total}
-use Rattle.std.specs.FinMap.{entries, get, find, from_entries, get-entries, get-from_entries, same_map, slice_cmp-IsAntisymmetric, nat_cmp-IsAntisymmetric}
+use Rattle.std.specs.FinMap.{entries, get, find, get-entries, get-from_entries, same_map, slice_cmp-IsAntisymmetric, nat_cmp-IsAntisymmetric}
 use Rattle.imap_grammar.specs.Text.{Bytes, Text, lent_text}
-use Rattle.imap_items.specs.Capabilities.{CapabilityValue, Imap4rev1, Auth, Atom, lent_capability}
-use Rattle.imap_data.specs.Codes.{CodeValue, Alert, Parse, ReadOnly, ReadWrite, TryCreate, UidNotSticky, MetadataTooMany, MetadataNoPrivate, BadCharset, Capabilities as CodeCapabilities, PermanentFlags, UidNext, UidValidity, Unseen, HighestModSeq, MetadataLongEntries, MetadataMaxSize, AppendUid, CopyUid, lent_code}
-use Rattle.imap_data.specs.Names.{NameAttributeValue, NoInferiors, NoSelect, Marked, Unmarked, All, Archive, Drafts, Flagged, Junk, Sent, Trash, Extension, ListValue, lent_attribute as lent_name, lent_list}
-use Rattle.imap_data.specs.MailboxValues.{MailboxValue, Exists, Flags, Listed, Search, Sort, Status, Recent, MetadataSolicited, MetadataUnsolicited, GmailLabels, GmailMsgId, GmailThrId, lent_mailbox}
-use Rattle.imap_extensions.specs.Quotas.{QuotaResourceNameValue, QuotaResourceValue, QuotaValue, QuotaRootValue, Storage, Message as MessageResource, Atom as AtomResource, lent_quota_resource_name, lent_quota_resource, lent_quota, lent_quota_root}
+use Rattle.imap_items.specs.Capabilities.{Imap4rev1, Auth, Atom, lent_capability}
+use Rattle.imap_data.specs.Codes.{Alert, Parse, ReadOnly, ReadWrite, TryCreate, UidNotSticky, MetadataTooMany, MetadataNoPrivate, BadCharset, Capabilities as CodeCapabilities, PermanentFlags, UidNext, UidValidity, Unseen, HighestModSeq, MetadataLongEntries, MetadataMaxSize, AppendUid, CopyUid, lent_code}
+use Rattle.imap_data.specs.Names.{NoInferiors, NoSelect, Marked, Unmarked, All, Archive, Drafts, Flagged, Junk, Sent, Trash, Extension, lent_attribute as lent_name, lent_list}
+use Rattle.imap_data.specs.MailboxValues.{Exists, Flags, Listed, Search, Sort, Status, Recent, MetadataSolicited, MetadataUnsolicited, GmailLabels, GmailMsgId, GmailThrId, lent_mailbox}
+use Rattle.imap_extensions.specs.Quotas.{Storage, Message as MessageResource, Atom as AtomResource, lent_quota_resource_name, lent_quota_resource, lent_quota, lent_quota_root}
 use Rattle.imap_extensions.specs.Ids.{IdValue, lent_entry, lent_id}
-use Rattle.imap_extensions.specs.Acls.{AclEntryValue, AclValue, lent_acl_entry, lent_acl, lent_list_rights, lent_my_rights}
+use Rattle.imap_extensions.specs.Acls.{lent_acl_entry, lent_acl}
 use Rattle.imap_shapes.specs.declared.shapes.fields.ContentEncoding.TheVariants.{SevenBit, EightBit, Binary, Base64, QuotedPrintable, Other}
-use Rattle.imap_shapes.specs.EnvelopeValues.{AddressValue, EnvelopeValue}
-use Rattle.imap_shapes.specs.ExtensionValues.{DispositionValue, ExtensionValue, Num, Str, Listed as Members, Extensions, no_extensions, one_extension}
-use Rattle.imap_shapes.specs.BodyValues.{TypeValue, CommonValue, SingleValue, BodyValue, Basic, TextBody, Message, Multipart, Bodies, no_bodies, one_body}
-use Rattle.imap_shapes.specs.Lent.{lent_ntext, lent_address, lent_addresses, lent_envelope, lent_pair, lent_params, lent_encoding, lent_disposition, lent_languages, lent_extension, lent_extensions, lent_type, lent_common, lent_single, lent_last, lent_body, lent_bodies}
-use Rattle.imap_body.specs.AttributeValues.{AttributeValue, BodySection, BodyStructure, Envelope, Flags as FlagsAttribute, InternalDate, ModSeq, Rfc822, Rfc822Header, Rfc822Size, Rfc822Text, Uid, GmailLabels as LabelsAttribute, GmailMsgId as MsgIdAttribute, GmailThrId as ThrIdAttribute, EmailId, ThreadId, Unknown, lent_attribute}
-use Rattle.imap_proto.specs.Responses.{OutcomeValue, ResponseValue, Capabilities, Continue, Done, Data, Expunge, Vanished, Fetch, MailboxData, Quota, QuotaRoot, Id, Acl, ListRights, MyRights, lent_outcome, lent_response}
+use Rattle.imap_shapes.specs.ExtensionValues.{Num, Str, Listed as Members, no_extensions, one_extension}
+use Rattle.imap_shapes.specs.BodyValues.{Basic, TextBody, Message, Multipart, no_bodies, one_body}
+use Rattle.imap_shapes.specs.Lent.{lent_ntext, lent_address, lent_addresses, lent_envelope, lent_pair, lent_params, lent_encoding, lent_disposition, lent_extension, lent_extensions, lent_type, lent_common, lent_single, lent_last, lent_body, lent_bodies}
+use Rattle.imap_body.specs.AttributeValues.{BodySection, BodyStructure, Envelope, Flags as FlagsAttribute, InternalDate, ModSeq, Rfc822, Rfc822Header, Rfc822Size, Rfc822Text, Uid, GmailLabels as LabelsAttribute, GmailMsgId as MsgIdAttribute, GmailThrId as ThrIdAttribute, EmailId, ThreadId, Unknown, lent_attribute}
+use Rattle.imap_proto.specs.Responses.{ResponseValue, Capabilities, Continue, Done, Data, Expunge, Vanished, Fetch, MailboxData, Quota, QuotaRoot, Id, Acl, ListRights, MyRights, lent_outcome, lent_response}
 use Rattle.imap_proto.specs.LineTexts.{Same}
 
 abbrev Twice : {V : Type 0} → (V → V) → Type 0

@@ -1,5 +1,5 @@
 -- Lists of which each item in turn is changed and put behind those that were.
-use Rattle.std.proofs.Common.{◌≡◌, ℕ, refl, sym, ap, ◌∙◌, List, [], ◌∷◌, ◌++◌, length, map}
+use Rattle.std.proofs.Common.{◌≡◌, refl, sym, ap, ◌∙◌, List, [], ◌∷◌, ◌++◌, length, map}
 use Rattle.std.proofs.lemmas.List.{append_assoc, map-append, nil_from_length}
 
 module _ {A B V : Type 0} (said : A → V) (change : V → V) (says : B → V) where

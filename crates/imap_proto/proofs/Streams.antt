@@ -1,9 +1,9 @@
 -- Splits of streams.
-use Rattle.std.proofs.Common.{◌≡◌, ℕ, zero, suc, ◌+◌, ◌<◌, List, [], ◌∷◌, ◌++◌, length, Result, Ok, Err, refl, sym, ap, subst, ◌∙◌, append_assoc, arith}
+use Rattle.std.proofs.Common.{◌≡◌, ℕ, zero, suc, ◌<◌, List, [], ◌∷◌, ◌++◌, length, Ok, Err, refl, sym, ap, subst, ◌∙◌, append_assoc, arith}
 use Rattle.std.proofs.lemmas.List.{length-append, append-nil}
 use Rattle.imap_grammar.specs.declared.answer.Err.TheVariants.{Incomplete, Error, Failure}
 use Rattle.imap_grammar.specs.declared.answer.Needed.TheVariants.{Unknown}
-use Rattle.imap_grammar.specs.Meaning.{Denies, Cuts}
+use Rattle.imap_grammar.specs.Meaning.{Cuts}
 use Rattle.imap_grammar.specs.Rule.{meaning}
 use Rattle.imap_grammar.specs.Stable.{Stable}
 use Rattle.imap_grammar.specs.Step.{Step, step}
@@ -13,7 +13,7 @@ use Rattle.imap_grammar.proofs.Stability.{is_stable}
 use Rattle.imap_grammar.proofs.Starts.{waits_without}
 use Rattle.imap_proto.specs.declared.stream.End.{End}
 use Rattle.imap_proto.specs.declared.stream.End.TheVariants.{Waits, Denied}
-use Rattle.imap_proto.specs.Responses.{ResponseValue, EndsLine}
+use Rattle.imap_proto.specs.Responses.{ResponseValue}
 use Rattle.imap_proto.specs.Lines.{continuation, response}
 use Rattle.imap_proto.specs.Streams.{Waiting, EndsAs, Splits, joined, Fed, empty, fed, gave, SomeSplit, OneSplit, BeginningsWait, SplitsGoOn, FeedsSplit, CuttingsAlike}
 use Rattle.imap_proto.proofs.Ending.{response_ends}

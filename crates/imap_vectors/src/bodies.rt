@@ -175,12 +175,17 @@ const MESSAGES_AND_MULTIPARTS: Rows = &[
 ];
 
 #[test]
-fn fields_and_extensions(rt: HostRuntime) {
+fn fields_of_bodies(rt: HostRuntime) {
     let alloc = rt.alloc();
     for (input, want) in FIELDS {
         assert!(rt; says(alloc, fields(alloc, input), want), "{want}");
         assert!(rt; says(alloc, owned_fields(alloc, input), want), "{want}");
     }
+}
+
+#[test]
+fn extensions_of_bodies(rt: HostRuntime) {
+    let alloc = rt.alloc();
     for (input, want) in EXTENSIONS {
         assert!(rt; says(alloc, body_extension(alloc, input), want), "{want}");
         assert!(rt; says(alloc, owned_extension(alloc, input), want), "{want}");

@@ -78,13 +78,17 @@ const SETS: Rows = &[
 ];
 
 #[test]
-fn numbers_and_sets(rt: HostRuntime) {
+fn numbers(rt: HostRuntime) {
     for (input, want) in NUMBERS {
         assert!(rt; says(rt.alloc(), number(input), want), "{want}");
     }
     for (input, want) in LARGE_NUMBERS {
         assert!(rt; says(rt.alloc(), number_64(input), want), "{want}");
     }
+}
+
+#[test]
+fn sets(rt: HostRuntime) {
     for (input, want) in RANGES {
         assert!(rt; says(rt.alloc(), sequence_range(input), want), "{want}");
     }
@@ -138,13 +142,17 @@ const ASTRINGS: Rows = &[
 ];
 
 #[test]
-fn strings(rt: HostRuntime) {
+fn quoted_strings_and_literals(rt: HostRuntime) {
     for (input, want) in QUOTED {
         assert!(rt; says_bytes(rt.alloc(), quoted(input), want), "{want}");
     }
     for (input, want) in LITERALS {
         assert!(rt; says_bytes(rt.alloc(), literal(input), want), "{want}");
     }
+}
+
+#[test]
+fn strings(rt: HostRuntime) {
     for (input, want) in STRINGS {
         assert!(rt; says_bytes(rt.alloc(), string(input), want), "{want}");
     }
@@ -185,6 +193,10 @@ fn atoms_and_nil(rt: HostRuntime) {
     for (input, want) in NILS {
         assert!(rt; says_bytes(rt.alloc(), nil(input), want), "{want}");
     }
+}
+
+#[test]
+fn maybe_strings(rt: HostRuntime) {
     for (input, want) in MAYBE_STRINGS {
         assert!(rt; says(rt.alloc(), nstring(input), want), "{want}");
     }

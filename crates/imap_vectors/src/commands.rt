@@ -95,7 +95,7 @@ fn examined(alloc: Global, mailbox: &str) -> Result<Command, BuildError> {
 }
 
 #[test]
-fn mailboxes_and_sessions(rt: HostRuntime) {
+fn mailboxes(rt: HostRuntime) {
     let alloc = rt.alloc();
     let found = Some(State::Selected);
     let want = r#"SELECT "a\"b" (CONDSTORE)"#;
@@ -104,6 +104,11 @@ fn mailboxes_and_sessions(rt: HostRuntime) {
     assert!(rt; is(examined(alloc, ""), r#"EXAMINE """#, found));
     assert!(rt; is(CommandBuilder::list(alloc, "", "*"), r#"LIST "" "*""#, None));
     assert!(rt; is(CommandBuilder::check(alloc), "CHECK", None));
+}
+
+#[test]
+fn sessions(rt: HostRuntime) {
+    let alloc = rt.alloc();
     let found = Some(State::Authenticated);
     assert!(rt; is(CommandBuilder::close(alloc), "CLOSE", found));
     assert!(rt;

@@ -107,6 +107,11 @@ fn data_of_mailboxes(rt: HostRuntime) {
         let answer = mailbox_datum(alloc, line);
         assert!(rt; is_copied(answer), "{told}");
     }
+}
+
+#[test]
+fn annotations(rt: HostRuntime) {
+    let alloc = rt.alloc();
     let line = b"METADATA \"\xff\" (/shared/comment NIL /private/comment \"a\")\r";
     let answer = metadata_solicited(alloc, line);
     assert!(rt; is_copied(answer));
@@ -129,7 +134,7 @@ fn quotas(rt: HostRuntime) {
 const NOTHING: &[u8] = b"";
 
 #[test]
-fn parts_of_values(rt: HostRuntime) -> Result<(), Fail> {
+fn parts_of_lists(rt: HostRuntime) -> Result<(), Fail> {
     let alloc = rt.alloc();
     let names = MailboxListData {
         name_attributes: Vec::new(alloc),
@@ -138,6 +143,12 @@ fn parts_of_values(rt: HostRuntime) -> Result<(), Fail> {
     };
     assert!(rt; is_copied(Ok((NOTHING, names))));
     assert!(rt; is_copied(Ok((NOTHING, NameAttribute::Sent))));
+    Ok(())
+}
+
+#[test]
+fn parts_of_annotations_and_quotas(rt: HostRuntime) -> Result<(), Fail> {
+    let alloc = rt.alloc();
     let annotation = Metadata {
         entry: String::from_str(alloc, "/shared/comment")?,
         value: None,
@@ -151,6 +162,11 @@ fn parts_of_values(rt: HostRuntime) -> Result<(), Fail> {
     assert!(rt; is_copied(Ok((NOTHING, resource))));
     let name = QuotaResourceName::Atom(CowStr::Borrowed("x"));
     assert!(rt; is_copied(Ok((NOTHING, name))));
+    Ok(())
+}
+
+#[test]
+fn members_of_sets(rt: HostRuntime) -> Result<(), Fail> {
     assert!(rt; UidSetMember::UidRange(1..=8).clone()? == UidSetMember::from(1..=8));
     assert!(rt; UidSetMember::from(5) == UidSetMember::Uid(5));
     Ok(())
@@ -185,6 +201,11 @@ fn equality_and_hashes(rt: HostRuntime) {
     let owned = b"QUOTA \"\xff\" (STORAGE 1 2)\r";
     assert!(rt; are_equal(quota(alloc, lent), quota(alloc, owned)));
     assert!(rt; is_found(alloc, quota(alloc, lent), quota(alloc, owned)));
+}
+
+#[test]
+fn equal_identities(rt: HostRuntime) {
+    let alloc = rt.alloc();
     let in_order = id(alloc, b"ID (\"a\" \"1\" \"b\" \"2\")\r");
     let turned = id(alloc, b"ID (\"b\" \"2\" \"a\" \"1\")\r");
     assert!(rt; are_equal(in_order, turned));

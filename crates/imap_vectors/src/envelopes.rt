@@ -55,12 +55,17 @@ fn owned_envelope(alloc: Global, i: &[u8]) -> IResult<&[u8], Envelope<'static>> 
 }
 
 #[test]
-fn envelopes(rt: HostRuntime) {
+fn addresses(rt: HostRuntime) {
     let alloc = rt.alloc();
     for (input, want) in ADDRESSES {
         assert!(rt; says(alloc, address(input), want), "{want}");
         assert!(rt; says(alloc, owned_address(alloc, input), want), "{want}");
     }
+}
+
+#[test]
+fn envelopes(rt: HostRuntime) {
+    let alloc = rt.alloc();
     for (input, want) in ENVELOPES {
         assert!(rt; says(alloc, envelope(alloc, input), want), "{want}");
         assert!(rt; says(alloc, owned_envelope(alloc, input), want), "{want}");

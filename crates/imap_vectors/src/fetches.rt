@@ -210,7 +210,7 @@ const LISTS: Rows = &[
 ];
 
 #[test]
-fn readers_of_attributes(rt: HostRuntime) {
+fn sections_of_bodies(rt: HostRuntime) {
     let alloc = rt.alloc();
     for (input, want) in SECTIONS {
         assert!(rt;
@@ -218,9 +218,19 @@ fn readers_of_attributes(rt: HostRuntime) {
             "{want}"
         );
     }
+}
+
+#[test]
+fn single_attributes(rt: HostRuntime) {
+    let alloc = rt.alloc();
     for (input, want) in SINGLE {
         assert!(rt; says(alloc, attribute(alloc, input), want), "{want}");
     }
+}
+
+#[test]
+fn lists_of_attributes(rt: HostRuntime) {
+    let alloc = rt.alloc();
     for (input, want) in LISTS {
         assert!(rt; says(alloc, attribute_list(alloc, input), want), "{want}");
     }

@@ -103,9 +103,19 @@ fn lists(rt: HostRuntime) {
             "{want}"
         );
     }
+}
+
+#[test]
+fn nonempty_lists(rt: HostRuntime) {
+    let alloc = rt.alloc();
     for (input, want) in NONEMPTY_LISTS {
         assert!(rt; says(alloc, some_numbers(alloc, input), want), "{want}");
     }
+}
+
+#[test]
+fn lists_of_literals(rt: HostRuntime) {
+    let alloc = rt.alloc();
     assert!(rt; says(alloc, literals(alloc, b"({3}\r\nab"), "Incomplete(Size(1))"));
     assert!(rt;
         says(
@@ -131,12 +141,17 @@ const MAYBE_NUMBERS: Rows = &[
 ];
 
 #[test]
-fn brackets_and_choices(rt: HostRuntime) {
+fn brackets(rt: HostRuntime) {
     let alloc = rt.alloc();
     for (input, want) in DELIMITED {
         assert!(rt; says(alloc, delimited_number(input), want), "{want}");
         assert!(rt; says(alloc, delimited_by_closure(input), want), "{want}");
     }
+}
+
+#[test]
+fn choices(rt: HostRuntime) {
+    let alloc = rt.alloc();
     for (input, want) in MAYBE_NUMBERS {
         assert!(rt; says(alloc, maybe_number(input), want), "{want}");
     }

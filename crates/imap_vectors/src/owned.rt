@@ -46,6 +46,11 @@ fn parts_of_bodies(rt: HostRuntime) {
     assert!(rt; shows(alloc, DISPOSITION.into_owned(alloc), want));
     let want = r#"ContentType { ty: "t", subtype: "s", params: None }"#;
     assert!(rt; shows(alloc, TYPE.into_owned(alloc), want));
+}
+
+#[test]
+fn common_content(rt: HostRuntime) {
+    let alloc = rt.alloc();
     let common = BodyContentCommon {
         ty: TYPE,
         disposition: Some(DISPOSITION),
@@ -55,6 +60,11 @@ fn parts_of_bodies(rt: HostRuntime) {
     let want =
         r#"BodyContentCommon { ty: ContentType { ty: "t", subtype: "s", params: None }, disposition: Some(ContentDisposition { ty: "d", params: None }), language: None, location: Some("a") }"#;
     assert!(rt; shows(alloc, common.into_owned(alloc), want));
+}
+
+#[test]
+fn content_of_a_part(rt: HostRuntime) {
+    let alloc = rt.alloc();
     let other = BodyContentSinglePart {
         id: Some(NAME),
         md5: None,
@@ -122,6 +132,12 @@ fn extension_data(rt: HostRuntime) -> Result<(), Fail> {
     let want =
         r#"(Some("a"), Some(ContentDisposition { ty: "d", params: None }), Some(["en"]), Some("l"), None)"#;
     assert!(rt; shows_single(alloc, single.into_owned(alloc), want));
+    Ok(())
+}
+
+#[test]
+fn extension_data_of_a_multipart(rt: HostRuntime) -> Result<(), Fail> {
+    let alloc = rt.alloc();
     let multipart = BodyExtMPart {
         param: Some(Vec::from_array(alloc, [(NAME, CowStr::Borrowed("b"))])?),
         disposition: Some(DISPOSITION),

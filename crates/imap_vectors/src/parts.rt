@@ -3,7 +3,7 @@
 use crate::answers::says;
 use imap_body::readers::body_structure;
 use imap_proto::bodystructure::BodyStructParser;
-use imap_proto::imap_core::Err;
+use imap_proto::imap_core::{Err, IResult};
 use imap_proto::rfc3501::body_structure::BodyStructure;
 use std::alloc::Global;
 use std::test::*;
@@ -48,17 +48,30 @@ fn searched(
     }
 }
 
-fn finds_in(alloc: Global, root: &BodyStructure<'_>, sought: Sought, want: &str) -> bool {
-    match searched(alloc, root, sought) {
-        Ok(path) => says(alloc, Ok((NOTHING, path)), want),
-        Err(_) => false,
+/// What can be searched.
+trait Tree {
+    /// Whether the search is told so.
+    fn finds(&self, alloc: Global, sought: Sought, want: &str) -> bool;
+}
+
+impl<'a> Tree for BodyStructure<'a> {
+    fn finds(&self, alloc: Global, sought: Sought, want: &str) -> bool {
+        match searched(alloc, self, sought) {
+            Ok(path) => says(alloc, Ok((NOTHING, path)), want),
+            Err(_) => false,
+        }
     }
 }
 
-/// Whether the search in the body read, which is dropped behind it, is told so.
-fn finds(alloc: Global, i: &[u8], sought: Sought, want: &str) -> bool {
-    match body_structure(alloc, i) {
-        Ok((_, root)) => finds_in(alloc, &root, sought, want),
+/// Whether the search in what was read, which is dropped behind it, is told so.
+fn finds<T: Tree + Drop>(
+    alloc: Global,
+    answer: IResult<&[u8], T>,
+    sought: Sought,
+    want: &str,
+) -> bool {
+    match answer {
+        Ok((_, root)) => root.finds(alloc, sought, want),
         Err(_) => false,
     }
 }
@@ -99,6 +112,7 @@ const SEARCHES: &[(&[u8], Sought, &str)] = &[
 #[test]
 fn parts(rt: HostRuntime) {
     for (input, sought, want) in SEARCHES {
-        assert!(rt; finds(rt.alloc(), input, *sought, want), "{want}");
+        let answer = body_structure(rt.alloc(), input);
+        assert!(rt; finds(rt.alloc(), answer, *sought, want), "{want}");
     }
 }

@@ -10,7 +10,7 @@ use imap_data::readers::{
 use std::test::*;
 
 #[test]
-fn shared_by_lines(rt: HostRuntime) {
+fn statuses_and_flags(rt: HostRuntime) {
     let alloc = rt.alloc();
     assert!(rt; says(alloc, status(b"PreAuth "), r#"PreAuth then " ""#));
     assert!(rt; says(alloc, status(b"FINE "), "Error"));
@@ -23,6 +23,11 @@ fn shared_by_lines(rt: HostRuntime) {
             r#"["\\Answered", "$Forwarded"] then "x""#
         )
     );
+}
+
+#[test]
+fn mailboxes_and_sets(rt: HostRuntime) {
+    let alloc = rt.alloc();
     assert!(rt;
         says_marked(
             alloc,
@@ -82,7 +87,7 @@ fn lists_at_positions(rt: HostRuntime) {
 }
 
 #[test]
-fn codes_and_capabilities(rt: HostRuntime) {
+fn codes(rt: HostRuntime) {
     let alloc = rt.alloc();
     assert!(rt;
         says(
@@ -101,6 +106,11 @@ fn codes_and_capabilities(rt: HostRuntime) {
     ] {
         assert!(rt; says(alloc, response_code(alloc, input), want), "{want}");
     }
+}
+
+#[test]
+fn capabilities(rt: HostRuntime) {
+    let alloc = rt.alloc();
     let found = capability_data(alloc, b"CAPABILITY IMAP4rev12\r");
     assert!(rt; says(alloc, found, r#"[Imap4rev1] then "2\r""#));
     assert!(rt; says(alloc, capability_data(alloc, b"CAPABILITY\r"), "Error"));
@@ -121,6 +131,11 @@ fn data_of_mailboxes(rt: HostRuntime) {
     ] {
         assert!(rt; says(alloc, mailbox_datum(alloc, input), want), "{want}");
     }
+}
+
+#[test]
+fn annotations(rt: HostRuntime) {
+    let alloc = rt.alloc();
     let found = metadata_solicited(alloc, b"METADATA \"x\" (/shared/comment NIL)\r");
     let want =
         r#"MetadataSolicited { mailbox: "x", values: [Metadata { entry: "/shared/comment", value: None }] } then "\r""#;
@@ -131,7 +146,7 @@ fn data_of_mailboxes(rt: HostRuntime) {
 }
 
 #[test]
-fn extensions(rt: HostRuntime) {
+fn vanished_and_quotas(rt: HostRuntime) {
     let alloc = rt.alloc();
     let found = vanished(alloc, b"VANISHED (EARLIER) 41,43:116\r");
     assert!(rt; says(alloc, found, r#"(true, [41..=41, 43..=116]) then "\r""#));
@@ -139,6 +154,11 @@ fn extensions(rt: HostRuntime) {
     let want =
         r#"Quota { root_name: "", resources: [QuotaResource { name: Storage, usage: 1, limit: 2 }] } then "\r""#;
     assert!(rt; says(alloc, found, want));
+}
+
+#[test]
+fn quota_roots_and_identities(rt: HostRuntime) {
+    let alloc = rt.alloc();
     let found = quota_root(alloc, b"QUOTAROOT INBOX user\r");
     let want = r#"QuotaRoot { mailbox_name: "INBOX", quota_root_names: ["user"] } then "\r""#;
     assert!(rt; says(alloc, found, want));

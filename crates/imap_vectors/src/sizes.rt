@@ -1,7 +1,8 @@
 //! Lines with long texts.
 
+use imap_proto::Response;
+use imap_proto::imap_core::IResult;
 use imap_proto::rfc3501::MailboxDatum;
-use imap_proto::{ParseResult, Response};
 use std::alloc::{AllocError, Global};
 use std::test::*;
 
@@ -15,15 +16,30 @@ fn line(alloc: Global, before: &[u8], letters: u32, after: &[u8]) -> Result<Vec<
     Ok(line)
 }
 
-// How long the information of a status line is, or the name of the mailbox that a state is of.
-fn length(answer: ParseResult<'_>) -> Option<usize> {
-    match &answer {
-        Ok((_, Response::Data { outcome, .. })) => match &outcome.information {
-            Some(text) => Some(text.len()),
-            None => None,
-        },
-        Ok((_, Response::MailboxData(MailboxDatum::Status { mailbox, .. }))) => Some(mailbox.len()),
-        _ => None,
+/// What has a long text.
+trait Long {
+    /// How long it is.
+    fn length(&self) -> Option<usize>;
+}
+
+impl<'a> Long for Response<'a> {
+    // of the information of a status line, or of the name of the mailbox that a state is of
+    fn length(&self) -> Option<usize> {
+        match self {
+            Response::Data { outcome, .. } => match &outcome.information {
+                Some(text) => Some(text.len()),
+                None => None,
+            },
+            Response::MailboxData(MailboxDatum::Status { mailbox, .. }) => Some(mailbox.len()),
+            _ => None,
+        }
+    }
+}
+
+fn length<T: Long + Drop>(answer: IResult<&[u8], T>) -> Option<usize> {
+    match answer {
+        Ok((_, value)) => value.length(),
+        Err(_) => None,
     }
 }
 

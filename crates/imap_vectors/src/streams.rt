@@ -4,9 +4,10 @@ ghost use Rattle.std.specs.Prelude.{◌<◌};
 
 use crate::answers::{Rows, assert_lines, says};
 use imap_proto::Response;
-use imap_proto::imap_core::Err;
+use imap_proto::imap_core::{Err, IResult};
 use imap_proto::stream::{Feed, read_pieces};
 use std::alloc::{AllocError, Global};
+use std::fmt::Debug;
 use std::test::*;
 
 // What is announced as a literal: as long as a number of 32 bits tells, or longer, which is no literal; and a line that is whole only with what
@@ -93,6 +94,12 @@ fn stream_in_pieces(rt: HostRuntime) -> Result<(), Fail> {
         let pieces = cut(alloc, STREAM, size)?;
         assert!(rt; are_told(alloc, &pieces, IN_STREAM)?, "{size}");
     }
+    Ok(())
+}
+
+#[test]
+fn streams_without_a_response(rt: HostRuntime) -> Result<(), Fail> {
+    let alloc = rt.alloc();
     assert!(rt; are_told(alloc, &[], "Whole { responses: [], rest: [], end: Waits }")?);
     assert!(rt;
         are_told(
@@ -111,13 +118,26 @@ fn is_same_in_bytes(alloc: Global, line: &[u8]) -> Result<bool, AllocError> {
     are_told(alloc, &bytes, whole.as_str())
 }
 
+// How many bytes were left where there is a value.
+fn left<T: Drop>(answer: IResult<&[u8], T>) -> Option<usize> {
+    match answer {
+        Ok((rest, _)) => Some(rest.len()),
+        Err(_) => None,
+    }
+}
+
+fn waits<T: Drop>(answer: IResult<&[u8], T>) -> bool {
+    matches!(answer, Err(Err::Incomplete(_)))
+}
+
 // Whether each proper beginning of what a response consumed waits; where there is no response, whatever is there.
 fn do_beginnings_wait(alloc: Global, line: &[u8]) -> bool {
-    let Ok((rest, _)) = Response::parse(alloc, line) else {
-        return true;
-    };
-    let consumed = line.len() - rest.len();
-    (0..consumed).all(|n| { matches!(Response::parse(alloc, &line[..n]), Err(Err::Incomplete(_))) })
+    match left(Response::parse(alloc, line)) {
+        Some(left) if left <= line.len() => {
+            (0..line.len() - left).all(|n| waits(Response::parse(alloc, &line[..n])))
+        }
+        _ => true,
+    }
 }
 
 /// Whether it is the same how a line is cut: one byte at a time gives what it gives, and what stands before its end waits.
@@ -128,10 +148,15 @@ pub fn may_be_cut(alloc: Global, line: &[u8]) -> bool {
     }
 }
 
-// What the next call gives is told so.
-fn gives(alloc: Global, feed: &mut Feed, want: &str) -> Result<bool, AllocError> {
-    let text = format!(in alloc; "{:?}", feed.next())?;
+// Whether something is told so.
+fn tells<T: Debug + Drop>(alloc: Global, value: T, want: &str) -> Result<bool, AllocError> {
+    let text = format!(in alloc; "{value:?}")?;
     Ok(text.as_str() == want)
+}
+
+// Whether the next call gives this.
+fn gives(alloc: Global, feed: &mut Feed, want: &str) -> Result<bool, AllocError> {
+    tells(alloc, feed.next(), want)
 }
 
 #[test]

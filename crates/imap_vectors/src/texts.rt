@@ -4,7 +4,7 @@ use crate::answers::{Marked, Rows, says, says_marked, with_mark};
 use imap_proto::Response;
 use imap_proto::bodystructure::PartsError;
 use imap_proto::imap_core::{
-    Err, Needed, astring_utf8, nstring_utf8, quoted_utf8, string_utf8, text,
+    Err, IResult, Needed, astring_utf8, nstring_utf8, quoted_utf8, string_utf8, text,
 };
 use imap_proto::rfc3501::{AttributeValue, MailboxDatum};
 use std::alloc::{AllocError, Global};
@@ -100,6 +100,18 @@ fn add_texts<'a>(
     Ok(())
 }
 
+/// What has texts.
+trait Telling {
+    /// Its texts, each with its mark.
+    fn texts(&self, alloc: Global) -> Result<Vec<Marked<'_>>, AllocError>;
+}
+
+impl<'a> Telling for Response<'a> {
+    fn texts(&self, alloc: Global) -> Result<Vec<Marked<'_>>, AllocError> {
+        texts(alloc, self)
+    }
+}
+
 /// The texts of a response, each with its mark: the information of a status line, the pairs of an identity, the
 /// mailbox and the entries of annotations, or what the attributes of a message have.
 fn texts<'a>(alloc: Global, response: &'a Response<'_>) -> Result<Vec<Marked<'a>>, AllocError> {
@@ -168,14 +180,23 @@ const MARKED_LINES: Rows = &[
     ),
 ];
 
-#[test]
-fn lent_and_owned(rt: HostRuntime) -> Result<(), Fail> {
-    for (line, want) in MARKED_LINES {
-        let (rest, response) = Response::parse(rt.alloc(), line)?;
-        let texts = texts(rt.alloc(), &response)?;
-        assert!(rt; says(rt.alloc(), Ok((rest, texts)), want), "{want}");
+// Whether the texts of what was read are told so.
+fn has_texts<T: Telling + Drop>(alloc: Global, answer: IResult<&[u8], T>, want: &str) -> bool {
+    match answer {
+        Ok((rest, value)) => match value.texts(alloc) {
+            Ok(texts) => says(alloc, Ok((rest, texts)), want),
+            Err(_) => false,
+        },
+        Err(_) => false,
     }
-    Ok(())
+}
+
+#[test]
+fn lent_and_owned(rt: HostRuntime) {
+    for (line, want) in MARKED_LINES {
+        let answer = Response::parse(rt.alloc(), line);
+        assert!(rt; has_texts(rt.alloc(), answer, want), "{want}");
+    }
 }
 
 #[test]
@@ -189,6 +210,11 @@ fn texts_of_faults(rt: HostRuntime) -> Result<(), Fail> {
     for (fault, want) in rows {
         assert_eq!(rt; format!(in rt.alloc(); "{fault}")?.as_str(), want);
     }
+    Ok(())
+}
+
+#[test]
+fn texts_of_faults_of_parts(rt: HostRuntime) -> Result<(), Fail> {
     let rows = [
         (PartsError::OutOfMemory, "out of memory"),
         (PartsError::TooManyParts, "too many parts"),
