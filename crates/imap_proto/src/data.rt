@@ -19,7 +19,7 @@ use crate::response::Response;
 use imap_body::AttributeValue;
 use imap_body::readers::attribute_list;
 use imap_bytes::tags::{cut0, tag, word};
-use imap_bytes::{Err, IResult, Needed, named, number};
+use imap_bytes::{Err, IResult, named, number};
 use imap_data::MailboxDatum;
 use imap_data::readers::{
     acl, capability_data, enabled_data, id, list_rights, mailbox_datum, metadata_solicited,
@@ -72,7 +72,7 @@ macro_rules! line {
 
 #[tactic(auto, unfolding(crate::specs::Lines::status_line, crate::specs::Lines::status_data))]
 #[inline(never)]
-fn status_line(alloc: Global, i: &[u8]) -> IResult<&[u8], Response<'_>>
+pub(crate) fn status_line(alloc: Global, i: &[u8]) -> IResult<&[u8], Response<'_>>
     ensures steps { Gives response_value result (step rule.status_line i.now) }
     ensures memory { SucceedsFor TakesNone rule.status_line i.now result }
 {
@@ -93,7 +93,7 @@ fn fetched(alloc: Global, i: &[u8]) -> IResult<&[u8], Vec<AttributeValue<'_>>>
 // The number is read once, whichever word stands behind it.
 #[tactic(auto, unfolding(crate::specs::Lines::numbered_line, crate::specs::Lines::expunge, crate::specs::Lines::fetch, imap_data::specs::MailboxData::exists, imap_data::specs::MailboxData::recent))]
 #[inline(never)]
-fn numbered_line(alloc: Global, i: &[u8]) -> IResult<&[u8], Response<'_>>
+pub(crate) fn numbered_line(alloc: Global, i: &[u8]) -> IResult<&[u8], Response<'_>>
     ensures steps { Gives response_value result (step rule.numbered_line i.now) }
     ensures memory { SucceedsFor TakesNone rule.numbered_line i.now result }
 {
@@ -107,7 +107,7 @@ fn numbered_line(alloc: Global, i: &[u8]) -> IResult<&[u8], Response<'_>>
 
 #[tactic(auto, unfolding(crate::specs::Lines::mailbox_line))]
 #[inline(never)]
-fn mailbox_line(alloc: Global, i: &[u8]) -> IResult<&[u8], Response<'_>>
+pub(crate) fn mailbox_line(alloc: Global, i: &[u8]) -> IResult<&[u8], Response<'_>>
     ensures steps { Gives response_value result (step rule.mailbox_line i.now) }
     ensures memory { SucceedsFor TakesNone rule.mailbox_line i.now result }
 {
@@ -117,7 +117,7 @@ fn mailbox_line(alloc: Global, i: &[u8]) -> IResult<&[u8], Response<'_>>
 
 #[tactic(auto, unfolding(crate::specs::Lines::list_line))]
 #[inline(never)]
-fn list_line(alloc: Global, i: &[u8]) -> IResult<&[u8], Response<'_>>
+pub(crate) fn list_line(alloc: Global, i: &[u8]) -> IResult<&[u8], Response<'_>>
     ensures steps { Gives response_value result (step rule.list_line i.now) }
     ensures memory { SucceedsFor TakesNone rule.list_line i.now result }
 {
@@ -128,7 +128,7 @@ fn list_line(alloc: Global, i: &[u8]) -> IResult<&[u8], Response<'_>>
 
 #[tactic(auto, unfolding(crate::specs::Lines::capability_line))]
 #[inline(never)]
-fn capability_line(alloc: Global, i: &[u8]) -> IResult<&[u8], Response<'_>>
+pub(crate) fn capability_line(alloc: Global, i: &[u8]) -> IResult<&[u8], Response<'_>>
     ensures { Gives response_value result (step rule.capability_line i.now) }
 {
     line!(capability_data(alloc, i), found => Response::Capabilities(found));
@@ -137,7 +137,7 @@ fn capability_line(alloc: Global, i: &[u8]) -> IResult<&[u8], Response<'_>>
 
 #[tactic(auto, unfolding(crate::specs::Lines::enabled_line))]
 #[inline(never)]
-fn enabled_line(alloc: Global, i: &[u8]) -> IResult<&[u8], Response<'_>>
+pub(crate) fn enabled_line(alloc: Global, i: &[u8]) -> IResult<&[u8], Response<'_>>
     ensures { Gives response_value result (step rule.enabled_line i.now) }
 {
     line!(enabled_data(alloc, i), found => Response::Capabilities(found));
@@ -146,7 +146,7 @@ fn enabled_line(alloc: Global, i: &[u8]) -> IResult<&[u8], Response<'_>>
 
 #[tactic(auto, unfolding(crate::specs::Lines::annotation_line))]
 #[inline(never)]
-fn annotation_line(alloc: Global, i: &[u8]) -> IResult<&[u8], Response<'_>>
+pub(crate) fn annotation_line(alloc: Global, i: &[u8]) -> IResult<&[u8], Response<'_>>
     ensures { Gives response_value result (step rule.annotation_line i.now) }
 {
     line!(metadata_solicited(alloc, i), found => Response::MailboxData(found));
@@ -157,7 +157,7 @@ fn annotation_line(alloc: Global, i: &[u8]) -> IResult<&[u8], Response<'_>>
 
 #[tactic(auto, unfolding(crate::specs::Lines::vanished_line, crate::specs::Lines::vanished_data))]
 #[inline(never)]
-fn vanished_line(alloc: Global, i: &[u8]) -> IResult<&[u8], Response<'_>>
+pub(crate) fn vanished_line(alloc: Global, i: &[u8]) -> IResult<&[u8], Response<'_>>
     ensures { Gives response_value result (step rule.vanished_line i.now) }
 {
     line!(vanished(alloc, i), (earlier, uids) => Response::Vanished { earlier, uids });
@@ -166,7 +166,7 @@ fn vanished_line(alloc: Global, i: &[u8]) -> IResult<&[u8], Response<'_>>
 
 #[tactic(auto, unfolding(crate::specs::Lines::quota_line))]
 #[inline(never)]
-fn quota_line(alloc: Global, i: &[u8]) -> IResult<&[u8], Response<'_>>
+pub(crate) fn quota_line(alloc: Global, i: &[u8]) -> IResult<&[u8], Response<'_>>
     ensures { Gives response_value result (step rule.quota_line i.now) }
 {
     line!(quota(alloc, i), found => Response::Quota(found));
@@ -176,7 +176,7 @@ fn quota_line(alloc: Global, i: &[u8]) -> IResult<&[u8], Response<'_>>
 
 #[tactic(auto, unfolding(crate::specs::Lines::id_line))]
 #[inline(never)]
-fn id_line(alloc: Global, i: &[u8]) -> IResult<&[u8], Response<'_>>
+pub(crate) fn id_line(alloc: Global, i: &[u8]) -> IResult<&[u8], Response<'_>>
     ensures steps { Gives response_value result (step rule.id_line i.now) }
     ensures memory { SucceedsFor TakesNone rule.id_line i.now result }
 {
@@ -186,7 +186,7 @@ fn id_line(alloc: Global, i: &[u8]) -> IResult<&[u8], Response<'_>>
 
 #[tactic(auto, unfolding(crate::specs::Lines::acl_line))]
 #[inline(never)]
-fn acl_line(alloc: Global, i: &[u8]) -> IResult<&[u8], Response<'_>>
+pub(crate) fn acl_line(alloc: Global, i: &[u8]) -> IResult<&[u8], Response<'_>>
     ensures { Gives response_value result (step rule.acl_line i.now) }
 {
     line!(acl(alloc, i), found => Response::Acl(found));
@@ -196,36 +196,8 @@ fn acl_line(alloc: Global, i: &[u8]) -> IResult<&[u8], Response<'_>>
 // An answer without a response. It is a call, so that an answer of a line is copied once.
 #[cold]
 #[inline(never)]
-fn no_response<'a>(e: Err) -> IResult<&'a [u8], Response<'a>>
+pub(crate) fn no_response<'a>(e: Err) -> IResult<&'a [u8], Response<'a>>
     ensures { result ≡ Refused e }
 {
     Err(e)
-}
-
-/// `* `, a datum and the end of its line: of the alternatives those are tried, in order, that may start with the first byte.
-#[tactic(auto, using(crate::proofs::FirstBytes::datum_none, crate::proofs::FirstBytes::datum_of_status, crate::proofs::FirstBytes::datum_of_number, crate::proofs::FirstBytes::datum_of_mailbox, crate::proofs::FirstBytes::datum_of_list, crate::proofs::FirstBytes::datum_of_capability, crate::proofs::FirstBytes::datum_of_enabled, crate::proofs::FirstBytes::datum_of_annotation, crate::proofs::FirstBytes::datum_of_vanished, crate::proofs::FirstBytes::datum_of_quota, crate::proofs::FirstBytes::datum_of_id, crate::proofs::FirstBytes::datum_of_acl, crate::proofs::FirstBytes::datum_other), unfolding(crate::specs::Lines::data_line))]
-#[inline(never)]
-pub(crate) fn data_line(alloc: Global, i: &[u8]) -> IResult<&[u8], Response<'_>>
-    ensures steps { Gives response_value result (step rule.data_line i.now) }
-    ensures memory { SucceedsFor TakesNone rule.data_line i.now result }
-{
-    let rest = match tag(b"* ", i) {
-        Ok((rest, _)) => rest,
-        Err(e) => return no_response(e),
-    };
-    match rest.first() {
-        None => no_response(Err::Incomplete(Needed::Unknown)),
-        Some(b'o' | b'O' | b'n' | b'N' | b'b' | b'B' | b'p' | b'P') => status_line(alloc, rest),
-        Some(b'f' | b'F' | b's' | b'S' | b'x' | b'X') => mailbox_line(alloc, rest),
-        Some(b'l' | b'L') => list_line(alloc, rest),
-        Some(b'c' | b'C') => capability_line(alloc, rest),
-        Some(b'e' | b'E') => enabled_line(alloc, rest),
-        Some(b'm' | b'M') => annotation_line(alloc, rest),
-        Some(b'v' | b'V') => vanished_line(alloc, rest),
-        Some(b'q' | b'Q') => quota_line(alloc, rest),
-        Some(b'i' | b'I') => id_line(alloc, rest),
-        Some(b'a' | b'A') => acl_line(alloc, rest),
-        Some(b) if b.is_ascii_digit() => numbered_line(alloc, rest),
-        Some(_) => no_response(Err::Error),
-    }
 }

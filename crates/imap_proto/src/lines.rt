@@ -10,12 +10,15 @@ ghost use Rattle.imap_proto.specs.Memory.{TakesNone};
 ghost use Rattle.imap_proto.specs.Responses.{response_value};
 ghost use Rattle.imap_proto.specs.Lines as rule;
 
-use crate::data::data_line;
+use crate::data::{
+    acl_line, annotation_line, capability_line, enabled_line, id_line, list_line, mailbox_line,
+    no_response, numbered_line, quota_line, status_line, vanished_line,
+};
 use crate::outcomes::{outcome, spaced_outcome};
 use crate::response::{RequestId, Response};
 use imap_bytes::strings::as_utf8;
 use imap_bytes::tags::{cut1, maybe_space, tag};
-use imap_bytes::{Err, IResult, is_astring_char};
+use imap_bytes::{Err, IResult, Needed, is_astring_char};
 use imap_data::readers::status;
 use std::alloc::Global;
 
@@ -83,16 +86,39 @@ fn tagged(alloc: Global, i: &[u8]) -> IResult<&[u8], Response<'_>>
     ))
 }
 
-/// A response: a continuation, a data line or a tagged line.
-#[tactic(auto, using(crate::proofs::FirstBytes::response_none, crate::proofs::FirstBytes::response_plus, crate::proofs::FirstBytes::response_star, crate::proofs::FirstBytes::response_other))]
+/// A response: a continuation, a tagged line, or `* `, a datum and the end of its line. Of the alternatives those are tried, in order, that may start with the first byte.
+///
+/// Each arm returns what its call answers: so the answer is made where the caller wants it, and not copied there.
+#[tactic(auto, using(crate::proofs::FirstBytes::response_none, crate::proofs::FirstBytes::response_plus, crate::proofs::FirstBytes::response_star, crate::proofs::FirstBytes::response_other, crate::proofs::FirstBytes::datum_none, crate::proofs::FirstBytes::datum_of_status, crate::proofs::FirstBytes::datum_of_number, crate::proofs::FirstBytes::datum_of_mailbox, crate::proofs::FirstBytes::datum_of_list, crate::proofs::FirstBytes::datum_of_capability, crate::proofs::FirstBytes::datum_of_enabled, crate::proofs::FirstBytes::datum_of_annotation, crate::proofs::FirstBytes::datum_of_vanished, crate::proofs::FirstBytes::datum_of_quota, crate::proofs::FirstBytes::datum_of_id, crate::proofs::FirstBytes::datum_of_acl, crate::proofs::FirstBytes::datum_other), unfolding(crate::specs::Lines::data_line))]
 #[inline(never)]
 pub(crate) fn response(alloc: Global, i: &[u8]) -> IResult<&[u8], Response<'_>>
     ensures steps { Gives response_value result (step rule.response i.now) }
     ensures memory { SucceedsFor TakesNone rule.response i.now result }
 {
     match i.first() {
-        None | Some(b'+') => continuation(alloc, i),
-        Some(b'*') => data_line(alloc, i),
-        Some(_) => tagged(alloc, i),
+        None | Some(b'+') => return continuation(alloc, i),
+        Some(b'*') => {}
+        Some(_) => return tagged(alloc, i),
+    }
+    let rest = match tag(b"* ", i) {
+        Ok((rest, _)) => rest,
+        Err(e) => return no_response(e),
+    };
+    match rest.first() {
+        None => return no_response(Err::Incomplete(Needed::Unknown)),
+        Some(b'o' | b'O' | b'n' | b'N' | b'b' | b'B' | b'p' | b'P') => {
+            return status_line(alloc, rest);
+        }
+        Some(b'f' | b'F' | b's' | b'S' | b'x' | b'X') => return mailbox_line(alloc, rest),
+        Some(b'l' | b'L') => return list_line(alloc, rest),
+        Some(b'c' | b'C') => return capability_line(alloc, rest),
+        Some(b'e' | b'E') => return enabled_line(alloc, rest),
+        Some(b'm' | b'M') => return annotation_line(alloc, rest),
+        Some(b'v' | b'V') => return vanished_line(alloc, rest),
+        Some(b'q' | b'Q') => return quota_line(alloc, rest),
+        Some(b'i' | b'I') => return id_line(alloc, rest),
+        Some(b'a' | b'A') => return acl_line(alloc, rest),
+        Some(b) if b.is_ascii_digit() => return numbered_line(alloc, rest),
+        Some(_) => return no_response(Err::Error),
     }
 }
