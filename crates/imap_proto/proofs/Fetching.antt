@@ -133,16 +133,16 @@ Apart k =
     ⊎ ((step (word " EXISTS") k ≡ Err Error) × (step (word " RECENT") k ≡ Err Error) × (step (word " EXPUNGE") k ≡ Err Error))
     ⊎ ((step (word " FETCH ") k ≡ Err (Incomplete Unknown)) × (step (word " EXISTS") k ≡ Err (Incomplete Unknown)))
 
-word_denied : (w k : List ℕ) → differs same_letter w k ≡ true → step (tag_by same_letter w) k ≡ Err Error
+pub word_denied : (w k : List ℕ) → differs same_letter w k ≡ true → step (tag_by same_letter w) k ≡ Err Error
 unfolding meaning
 word_denied w k h = (agrees (tag_by same_letter w) k).fails Error h
 
-word_waits : (w k : List ℕ) → is_begun same_letter w k ≡ true → step (tag_by same_letter w) k ≡ Err (Incomplete Unknown)
+pub word_waits : (w k : List ℕ) → is_begun same_letter w k ≡ true → step (tag_by same_letter w) k ≡ Err (Incomplete Unknown)
 unfolding meaning
 word_waits w k h = (agrees (tag_by same_letter w) k).fails (Incomplete Unknown) h
 
 -- a byte that is an F in any case is no other letter
-no_letter : (x d : ℕ) → same_letter 70 d ≡ true → (to_ascii_lowercase x == 102) ≡ false → same_letter x d ≡ false
+pub no_letter : (x d : ℕ) → same_letter 70 d ≡ true → (to_ascii_lowercase x == 102) ≡ false → same_letter x d ≡ false
 no_letter x d f other = let lower : 102 ≡ to_ascii_lowercase d = eqb-true _ _ f in rw (← lower) other
 
 second_apart : (c d : ℕ) (k : List ℕ) (t : Bool) → same_letter 32 c ≡ true → same_letter 70 d ≡ t → Apart (c ∷ d ∷ k)

@@ -20,21 +20,20 @@ use Rattle.imap_grammar.specs.Meaning.{is_word, begins, outside}
 use Rattle.imap_grammar.specs.Memory.{BeginsWord, FailsOnlyIf, SucceedsFor}
 use Rattle.imap_grammar.specs.Rule.{Rule, meaning, gives, opt, ◌⨾◌, ◌or◌}
 use Rattle.imap_grammar.specs.Step.{step, ◌>>=◌, or_else, beside}
-use Rattle.imap_grammar.specs.Tags.{word, sp, crlf, same_letter}
+use Rattle.imap_grammar.specs.Tags.{sp, crlf, same_letter}
 use Rattle.imap_grammar.specs.Text.{Bytes, Text, text_of, decoded}
 use Rattle.imap_grammar.proofs.Agreement.{agrees, reads, fails}
-use Rattle.imap_grammar.proofs.Memory.{none_of_kind, none_yielded, same_kind, of_part, given, before, second}
+use Rattle.imap_grammar.proofs.Memory.{none_yielded, of_part, given, before, second}
 use Rattle.imap_grammar.proofs.Joins.{tried_none}
 use Rattle.imap_grammar.proofs.ReadingWords.{letter}
 use Rattle.imap_grammar.proofs.Steps.{ok_is}
 use Rattle.imap_grammar.proofs.Yields.{Yields, given_yields, made_yields, left_yields, either_yields}
-use Rattle.imap_bytes.specs.Numbers.{number}
 use Rattle.imap_bytes.specs.Texts.{text, is_owned, FailsForOwned}
 use Rattle.imap_bytes.proofs.ReadingTexts.{decoded_utf8}
 use Rattle.imap_bytes.proofs.ReadingQuoted.{lossy_some}
 use Rattle.imap_data.specs.declared.types.codes.ResponseCode.{ResponseCode}
 use Rattle.imap_data.specs.Codes.{CodeValue, code_value, HoldsNoList, BeginsListWord, BeginsListCode, response_code}
-use Rattle.imap_data.specs.MailboxData.{exists, recent, mailbox_datum}
+use Rattle.imap_data.specs.MailboxData.{mailbox_datum}
 use Rattle.imap_data.specs.MailboxValues.{IsNumber}
 use Rattle.imap_data.specs.declared.types.mailbox_data.MailboxDatum.{MailboxDatum}
 use Rattle.imap_data.proofs.NumberData.{solicited_other, unsolicited_other}
@@ -46,7 +45,7 @@ use Rattle.imap_proto.specs.declared.outcome.Outcome.{Outcome}
 use Rattle.imap_data.proofs.ListCodes.{list_code_yielded}
 use Rattle.imap_proto.specs.Outcomes.{outcome_of, outcome, no_outcome, spaced_outcome}
 use Rattle.imap_proto.specs.Responses.{OutcomeValue, ResponseValue, Capabilities, MailboxData, Quota, QuotaRoot, Id, Acl, ListRights, MyRights}
-use Rattle.imap_proto.specs.Lines.{data_of, status_data, expunge, fetch, fetch_of, vanished_of, vanished_data, ended, spaces, status_line, numbered_line, mailbox_line, list_line, capability_line, enabled_line, annotation_line, vanished_line, quota_line, id_line, acl_line, done_of, tagged}
+use Rattle.imap_proto.specs.Lines.{data_of, status_data, fetch_of, vanished_of, vanished_data, spaces, status_line, mailbox_line, list_line, capability_line, enabled_line, annotation_line, vanished_line, quota_line, id_line, acl_line, done_of, tagged, fetched_line}
 use Rattle.imap_proto.specs.Memory.{OutcomeTakesNone, TakesNone}
 
 -- ---- a word of text-chars in front of a line stands in front of the line's text too
@@ -250,29 +249,10 @@ status_failed m mid s e part front was h =
     (second (λ v. TakesNone (data_of v)) status spaced_outcome m mid s (failed e) front
     (of_part OutcomeTakesNone spaced_outcome mid e part (failed e) was h)))
 
--- behind a number
-
-pub exists_end_failed : (m j mid w : Bytes) (n : ℕ) (e : Fault) → step number m ≡ Ok (j, n) → step (word " EXISTS") j ≡ Ok (mid, w) → step (spaces ⨾ crlf) mid ≡ Err e → SucceedsFor TakesNone numbered_line m (failed e)
-unfolding numbered_line exists recent expunge
-exists_end_failed m j mid w n e a b f = none_yielded TakesNone numbered_line m e (failed e) (rw (a, b, f) refl)
-
-pub recent_end_failed : (m j mid w : Bytes) (n : ℕ) (e : Fault) → step number m ≡ Ok (j, n) → step (word " EXISTS") j ≡ Err Error → step (word " RECENT") j ≡ Ok (mid, w) → step (spaces ⨾ crlf) mid ≡ Err e → SucceedsFor TakesNone numbered_line m (failed e)
-unfolding numbered_line exists recent expunge
-recent_end_failed m j mid w n e a b c f = none_yielded TakesNone numbered_line m e (failed e) (rw (a, b, c, f) refl)
-
-pub expunge_end_failed : (m j mid w : Bytes) (n : ℕ) (e : Fault) → step number m ≡ Ok (j, n) → step (word " EXISTS") j ≡ Err Error → step (word " RECENT") j ≡ Err Error → step (word " EXPUNGE") j ≡ Ok (mid, w) → step (spaces ⨾ crlf) mid ≡ Err e
-    → SucceedsFor TakesNone numbered_line m (failed e)
-unfolding numbered_line exists recent expunge
-expunge_end_failed m j mid w n e a b c d f = none_yielded TakesNone numbered_line m e (failed e) (rw (a, b, c, d, f) refl)
-
-fetch_other : Yields (λ v. ¬ (TakesNone v)) (ended fetch)
-unfolding fetch
-fetch_other = left_yields (made_yields fetch_of (λ v h. h))
-
--- where none of the three words stands, no number alone is yielded
-pub fetch_failed : (m j : Bytes) (n : ℕ) (e : Fault) → step number m ≡ Ok (j, n) → step (word " EXISTS") j ≡ Err Error → step (word " RECENT") j ≡ Err Error → step (word " EXPUNGE") j ≡ Err Error → SucceedsFor TakesNone numbered_line m (failed e)
-unfolding numbered_line exists recent expunge
-fetch_failed m j n e a b c d = same_kind TakesNone numbered_line (ended fetch) m (failed e) (rw (a, b, c, d) refl) (none_of_kind TakesNone (ended fetch) m (failed e) fetch_other)
+-- a FETCH, behind its number
+pub fetched_other : (n : ℕ) → Yields (λ v. ¬ (TakesNone v)) (fetched_line n)
+unfolding fetched_line
+fetched_other n = left_yields (made_yields fetch_of (λ v h. h))
 
 -- ---- data that hold a list
 

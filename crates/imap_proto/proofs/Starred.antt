@@ -1,29 +1,25 @@
 -- What stands behind the `* ` of a data line.
-use Rattle.std.proofs.Common.{◌≡◌, ℕ, List, [], ◌∷◌, ◌++◌, suc, get_or, Fits, w8, Ok, Err, refl, subst, ◌∙◌}
-use Rattle.imap_grammar.specs.declared.answer.Err.{Err as Fault}
+use Rattle.std.proofs.Common.{◌≡◌, ℕ, List, [], ◌∷◌, ◌++◌, suc, get_or, Fits, w8, Ok, Err, refl, sym, subst, ◌∙◌}
 use Rattle.imap_grammar.specs.Answer.{Returned}
 use Rattle.imap_grammar.specs.Memory.{SucceedsFor}
 use Rattle.imap_grammar.specs.Rule.{Rule, meaning}
-use Rattle.imap_grammar.specs.Step.{step}
+use Rattle.imap_grammar.specs.Step.{Step, ◌>>=◌, beside, step}
 use Rattle.imap_grammar.specs.Tags.{tag}
 use Rattle.imap_grammar.proofs.Agreement.{reads}
-use Rattle.imap_grammar.proofs.Memory.{same_kind, none_of_kind, behind}
-use Rattle.imap_grammar.proofs.Yields.{Yields}
 use Rattle.imap_proto.specs.Responses.{ResponseValue}
 use Rattle.imap_proto.specs.Lines.{ended_datum, data_line, response}
-use Rattle.imap_proto.specs.Memory.{TakesNone}
 
-pub denied_datum : (m mid x : List ℕ) (e : Fault) → step response m ≡ step data_line m → step (tag "* ") m ≡ Ok (mid, x) → step ended_datum mid ≡ Err e → step response m ≡ Err e
+pub starred : (m mid x : List ℕ) → step response m ≡ step data_line m → step (tag "* ") m ≡ Ok (mid, x) → step response m ≡ step ended_datum mid
 unfolding data_line
-denied_datum m mid x e star front is = star ∙ rw (front, is) refl
+starred m mid x star front = star ∙ rw front (joined (step ended_datum mid))
+  where
+    joined : (s : Step ResponseValue) → ((s >>= beside x) >>= λ (v : List ℕ × (List ℕ × ResponseValue)). Ok (v.0, v.1.1)) ≡ s
+    joined (Ok y) = refl
+    joined (Err e) = refl
 
--- one alternative answers, and yields none of the kind
-pub other_datum : {A : Type 0} (r : Rule ResponseValue) (m mid x : List ℕ) (result : Returned A) → step response m ≡ step data_line m → step (tag "* ") m ≡ Ok (mid, x) → step ended_datum mid ≡ step r mid → Yields (λ v. ¬ (TakesNone v)) r
-    → SucceedsFor TakesNone response m result
-unfolding data_line
-other_datum r m mid x result star front same none =
-    same_kind TakesNone response data_line m result star
-    (behind TakesNone (tag "* ") ended_datum m mid x result front (same_kind TakesNone ended_datum r mid result same (none_of_kind TakesNone r mid result none)))
+-- where one rule answers for another, it takes memory for no more
+pub moved : {A V : Type 0} (kind : V → Type 0) (r s : Rule V) (m j : List ℕ) (result : Returned A) → step r m ≡ step s j → SucceedsFor kind s j result → SucceedsFor kind r m result
+moved kind r s m j result same h = λ v rest y k. h v rest (sym same ∙ y) k
 
 first_behind : (front mid : List ℕ) → ((n : ℕ) → Fits w8 (get_or (front ++ mid) n 0)) → Fits w8 (get_or mid 0 0)
 first_behind [] mid h = h 0

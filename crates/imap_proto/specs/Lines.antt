@@ -3,7 +3,7 @@ use Rattle.std.specs.Prelude.{ℕ, Bool, List, ◌==◌, ◌&&◌, not}
 use Rattle.imap_grammar.specs.Ascii.{space, plus}
 use Rattle.imap_grammar.specs.Classes.{is_astring_char}
 use Rattle.imap_grammar.specs.Text.{Bytes}
-use Rattle.imap_grammar.specs.Rule.{Rule, run0, run1, gives, ◌⨾◌, ◌▹◌, ◌◃◌, ◌or◌}
+use Rattle.imap_grammar.specs.Rule.{Rule, run0, run1, gives, nothing, ◌⨾◌, ◌▹◌, ◌◃◌, ◌or◌}
 use Rattle.imap_grammar.specs.Ranges.{Range}
 use Rattle.imap_grammar.specs.Tags.{tag, word, sp, maybe_space, crlf}
 use Rattle.imap_bytes.specs.Numbers.{number}
@@ -11,6 +11,7 @@ use Rattle.imap_bytes.specs.Strings.{in_utf8}
 use Rattle.imap_items.specs.declared.types.statuses.Status.{Status}
 use Rattle.imap_items.specs.Statuses.{status}
 use Rattle.imap_items.specs.Capabilities.{capability_data, enabled_data}
+use Rattle.imap_data.specs.MailboxValues.{Exists, Recent}
 use Rattle.imap_data.specs.MailboxData.{mailbox_datum, exists, recent}
 use Rattle.imap_data.specs.Annotations.{metadata_solicited, metadata_unsolicited}
 use Rattle.imap_extensions.specs.Vanishings.{vanished}
@@ -104,6 +105,13 @@ status_line = ended status_data
 -- EXISTS, RECENT, EXPUNGE and FETCH have their number in front
 unfoldable pub numbered_line : Rule ResponseValue
 numbered_line = ended (gives MailboxData (exists or recent) or expunge or fetch)
+
+-- the same behind the number: of the three that say no more, and of FETCH
+unfoldable pub count_line : ℕ → Rule ResponseValue
+count_line n = ended (gives MailboxData (gives Exists (nothing n ◃ word " EXISTS") or gives Recent (nothing n ◃ word " RECENT")) or gives Expunge (nothing n ◃ word " EXPUNGE"))
+
+unfoldable pub fetched_line : ℕ → Rule ResponseValue
+fetched_line n = ended (gives fetch_of (nothing n ⨾ fetched))
 
 unfoldable pub mailbox_line : Rule ResponseValue
 mailbox_line = ended (gives MailboxData mailbox_datum)

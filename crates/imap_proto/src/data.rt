@@ -19,7 +19,7 @@ use crate::response::Response;
 use imap_body::AttributeValue;
 use imap_body::readers::attribute_list;
 use imap_bytes::tags::{cut0, tag, word};
-use imap_bytes::{Err, IResult, named, number};
+use imap_bytes::{Err, IResult, named};
 use imap_data::MailboxDatum;
 use imap_data::readers::{
     acl, capability_data, enabled_data, id, list_rights, mailbox_datum, metadata_solicited,
@@ -90,18 +90,31 @@ fn fetched(alloc: Global, i: &[u8]) -> IResult<&[u8], Vec<AttributeValue<'_>>>
     Ok((rest, attributes))
 }
 
-// The number is read once, whichever word stands behind it.
-#[tactic(auto, unfolding(crate::specs::Lines::numbered_line, crate::specs::Lines::expunge, crate::specs::Lines::fetch, imap_data::specs::MailboxData::exists, imap_data::specs::MailboxData::recent))]
+/// `EXISTS`, `RECENT` and `EXPUNGE`, whose number stood in front. No memory.
+///
+/// They are apart from `FETCH`, so that they clear no slot of its attributes.
+#[tactic(auto, unfolding(crate::specs::Lines::count_line))]
 #[inline(never)]
-pub(crate) fn numbered_line(alloc: Global, i: &[u8]) -> IResult<&[u8], Response<'_>>
-    ensures steps { Gives response_value result (step rule.numbered_line i.now) }
-    ensures memory { SucceedsFor TakesNone rule.numbered_line i.now result }
+pub(crate) fn count_line<'a>(n: u32, i: &'a [u8]) -> IResult<&'a [u8], Response<'a>>
+    ensures { Exactly response_value result (step (rule.count_line n) i.now) }
 {
-    let (rest, n) = number(i)?;
-    line!(word(b" EXISTS", rest), _ => Response::MailboxData(MailboxDatum::Exists(n)));
-    line!(word(b" RECENT", rest), _ => Response::MailboxData(MailboxDatum::Recent(n)));
-    line!(word(b" EXPUNGE", rest), _ => Response::Expunge(n));
-    line!(fetched(alloc, rest), attributes => Response::Fetch(n, attributes));
+    line!(word(b" EXISTS", i), _ => Response::MailboxData(MailboxDatum::Exists(n)));
+    line!(word(b" RECENT", i), _ => Response::MailboxData(MailboxDatum::Recent(n)));
+    line!(word(b" EXPUNGE", i), _ => Response::Expunge(n));
+    Err(Err::Error)
+}
+
+/// `FETCH`, whose number stood in front.
+#[tactic(auto, unfolding(crate::specs::Lines::fetched_line))]
+#[inline(never)]
+pub(crate) fn fetched_line<'a>(
+    alloc: Global,
+    n: u32,
+    i: &'a [u8],
+) -> IResult<&'a [u8], Response<'a>>
+    ensures { Gives response_value result (step (rule.fetched_line n) i.now) }
+{
+    line!(fetched(alloc, i), attributes => Response::Fetch(n, attributes));
     Err(Err::Error)
 }
 

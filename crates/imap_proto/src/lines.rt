@@ -1,6 +1,7 @@
 //! Lines: continuations, untagged data and tagged statuses.
 
-ghost use Rattle.std.specs.Prelude.{◌≡◌, ◌<◌, length, position, IfSome};
+ghost use Rattle.std.specs.Prelude.{◌≡◌, ◌<◌, length, position, slice_get, IfSome};
+ghost use Rattle.std.specs.Option.{option_copied};
 ghost use Rattle.imap_grammar.specs.Answer.{Exactly, Gives};
 ghost use Rattle.imap_grammar.specs.Step.{step};
 ghost use Rattle.imap_grammar.specs.Meaning.{outside};
@@ -11,14 +12,14 @@ ghost use Rattle.imap_proto.specs.Responses.{response_value};
 ghost use Rattle.imap_proto.specs.Lines as rule;
 
 use crate::data::{
-    acl_line, annotation_line, capability_line, enabled_line, id_line, list_line, mailbox_line,
-    no_response, numbered_line, quota_line, status_line, vanished_line,
+    acl_line, annotation_line, capability_line, count_line, enabled_line, fetched_line, id_line,
+    list_line, mailbox_line, no_response, quota_line, status_line, vanished_line,
 };
 use crate::outcomes::{outcome, spaced_outcome};
 use crate::response::{RequestId, Response};
 use imap_bytes::strings::as_utf8;
 use imap_bytes::tags::{cut1, maybe_space, tag};
-use imap_bytes::{Err, IResult, Needed, is_astring_char};
+use imap_bytes::{Err, IResult, Needed, is_astring_char, number};
 use imap_data::readers::status;
 use std::alloc::Global;
 
@@ -86,10 +87,17 @@ fn tagged(alloc: Global, i: &[u8]) -> IResult<&[u8], Response<'_>>
     ))
 }
 
+// The byte behind the first.
+fn second(i: &[u8]) -> Option<&u8>
+    ensures { option_copied result ≡ slice_get i.now 1 }
+{
+    i.get(1)
+}
+
 /// A response: a continuation, a tagged line, or `* `, a datum and the end of its line. Of the alternatives those are tried, in order, that may start with the first byte.
 ///
-/// Each arm returns what its call answers: so the answer is made where the caller wants it, and not copied there.
-#[tactic(auto, using(crate::proofs::FirstBytes::response_none, crate::proofs::FirstBytes::response_plus, crate::proofs::FirstBytes::response_star, crate::proofs::FirstBytes::response_other, crate::proofs::FirstBytes::datum_none, crate::proofs::FirstBytes::datum_of_status, crate::proofs::FirstBytes::datum_of_number, crate::proofs::FirstBytes::datum_of_mailbox, crate::proofs::FirstBytes::datum_of_list, crate::proofs::FirstBytes::datum_of_capability, crate::proofs::FirstBytes::datum_of_enabled, crate::proofs::FirstBytes::datum_of_annotation, crate::proofs::FirstBytes::datum_of_vanished, crate::proofs::FirstBytes::datum_of_quota, crate::proofs::FirstBytes::datum_of_id, crate::proofs::FirstBytes::datum_of_acl, crate::proofs::FirstBytes::datum_other), unfolding(crate::specs::Lines::data_line))]
+/// Each arm returns what one call answers, so that an answer is copied once on its way. The number of a line is read here: it is small, and what stands behind it is told apart by its second byte.
+#[tactic(auto, using(crate::proofs::FirstBytes::response_none, crate::proofs::FirstBytes::response_plus, crate::proofs::FirstBytes::response_star, crate::proofs::FirstBytes::response_other, crate::proofs::FirstBytes::datum_none, crate::proofs::FirstBytes::datum_of_status, crate::proofs::FirstBytes::datum_of_number, crate::proofs::FirstBytes::datum_of_mailbox, crate::proofs::FirstBytes::datum_of_list, crate::proofs::FirstBytes::datum_of_capability, crate::proofs::FirstBytes::datum_of_enabled, crate::proofs::FirstBytes::datum_of_annotation, crate::proofs::FirstBytes::datum_of_vanished, crate::proofs::FirstBytes::datum_of_quota, crate::proofs::FirstBytes::datum_of_id, crate::proofs::FirstBytes::datum_of_acl, crate::proofs::FirstBytes::datum_other, crate::proofs::Numbered::number_stopped, crate::proofs::Numbered::number_and_fetch, crate::proofs::Numbered::number_and_count), unfolding(crate::specs::Lines::data_line))]
 #[inline(never)]
 pub(crate) fn response(alloc: Global, i: &[u8]) -> IResult<&[u8], Response<'_>>
     ensures steps { Gives response_value result (step rule.response i.now) }
@@ -118,7 +126,13 @@ pub(crate) fn response(alloc: Global, i: &[u8]) -> IResult<&[u8], Response<'_>>
         Some(b'q' | b'Q') => return quota_line(alloc, rest),
         Some(b'i' | b'I') => return id_line(alloc, rest),
         Some(b'a' | b'A') => return acl_line(alloc, rest),
-        Some(b) if b.is_ascii_digit() => return numbered_line(alloc, rest),
+        Some(b) if b.is_ascii_digit() => match number(rest) {
+            Ok((rest, n)) => match second(rest) {
+                Some(b'f' | b'F') => return fetched_line(alloc, n, rest),
+                _ => return count_line(n, rest),
+            },
+            Err(e) => return no_response(e),
+        },
         Some(_) => return no_response(Err::Error),
     }
 }
