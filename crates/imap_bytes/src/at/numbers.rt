@@ -1,6 +1,6 @@
 //! Numbers at a position. None takes memory.
 
-ghost use Rattle.std.specs.Prelude.{◌≡◌, ◌≤◌, ◌<◌, ◌+◌, ◌*◌, ◌-◌, ◌^◌, length, drop, nat_lt, position, IfSome};
+ghost use Rattle.std.specs.Prelude.{◌≡◌, ◌≤◌, ◌<◌, true, false, ◌+◌, ◌*◌, ◌-◌, ◌^◌, length, drop, nat_lt, position, IfSome};
 ghost use Rattle.imap_grammar.specs.Positions.{AnswersAt, ExactlyAt, Ahead};
 ghost use Rattle.imap_grammar.specs.Memory.{NeverFails};
 ghost use Rattle.imap_grammar.specs.Step.{step};
@@ -20,22 +20,31 @@ fn digits_end(i: &[u8]) -> Option<usize>
     i.iter().position(|c| !is_digit(*c))
 }
 
+// What a digit stands for; of another byte it is more than 9. All of it is in 64 bits, so that no step of the loop below widens a byte.
+fn digit_value(b: u8) -> u64
+    ensures digit { classes.is_digit b ≡ true → (result ≤ 9) × (result ≡ b - 48) }
+    ensures other { classes.is_digit b ≡ false → 9 < result }
+{
+    u64::from(b).wrapping_sub(u64::from(b'0'))
+}
+
 // How many digits stand in front, and the number that they write, if 32 bits hold it. `None` where nothing follows them.
 fn digits_in_front(i: &[u8]) -> Option<(usize, Option<u32>)>
     ensures at { InFront (2 ^ 32) i.now result }
     ensures within { IfSome result (λ x. x.0 < length i.now) }
 {
-    let mut count = 0;
+    let mut left = i;
     let mut number: u64 = 0;
-    while let Some(d) = i.get(count) {
-        if !is_digit(*d) {
-            return Some((count, u32::try_from(number).ok()));
+    while let Some((b, more)) = left.split_first() {
+        let digit = digit_value(*b);
+        if digit > 9 {
+            return Some((i.len() - left.len(), u32::try_from(number).ok()));
         }
         if number > u64::from(u32::MAX / 10) {
             return Some((digits_end(i)?, None));
         }
-        number = number * 10 + u64::from(d.saturating_sub(b'0'));
-        count += 1;
+        number = number * 10 + digit;
+        left = more;
     }
     None
 }
