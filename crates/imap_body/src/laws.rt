@@ -143,8 +143,7 @@ fn spans_equality()
     attributes_equality::<Span, Span, Box<Structure<SpannedText, Span>>>();
 }
 
-/// `==` tells whether two values say the same: texts by their bytes, whichever lie in the input. What is kept as positions it tells by these,
-/// field by field, whatever they name in a message.
+/// `==` tells whether two values say the same: texts by their bytes, whichever lie in the input. What is kept as positions it tells by these, field by field, whatever they name in a message.
 pub fn equality()
     ensures message_section { Tells ⟦<MessageSection as PartialEq>⟧.eq (λ x. x) }
     ensures section_path { Tells ⟦<SectionPath as PartialEq>⟧.eq path_value }

@@ -6,9 +6,10 @@ use Rattle.imap_grammar.specs.declared.answer.Err.TheVariants.{Incomplete, Error
 use Rattle.imap_grammar.specs.declared.answer.Needed.TheVariants.{Unknown}
 use Rattle.imap_grammar.specs.Ascii.{quote, open_brace}
 use Rattle.imap_grammar.specs.Meaning.{begins}
+use Rattle.imap_grammar.specs.Rule.{opt}
 use Rattle.imap_grammar.specs.Step.{Step, ◌>>=◌, step, and_then, or_else}
 use Rattle.imap_grammar.proofs.Starts.{denied, waited}
-use Rattle.imap_bytes.specs.Strings.{quoted, literal, literal_header, string, nil, nstring}
+use Rattle.imap_bytes.specs.Strings.{quoted_part, quoted, literal, literal_header, string, nil, nstring}
 
 denied_last : {A : Type 0} (s : Step A) → or_else s (Err Error) ≡ s
 denied_last (Ok x) = refl
@@ -30,6 +31,12 @@ no_literal b m h = denied literal b m (let e = eqb-true b quote h in rw e refl)
 no_quoted : (b : ℕ) (m : List ℕ) → (b == quote) ≡ false → step quoted (b ∷ m) ≡ Err Error
 unfolding quoted
 no_quoted b m h = denied quoted b m (other b quote h)
+
+-- no part of a quoted string's content begins with its closing quote
+pub no_part : (m : List ℕ) → begins (λ b. b == quote) m ≡ true → step (opt quoted_part) m ≡ Ok (m, None)
+unfolding quoted_part
+no_part [] h = absurd cc
+no_part (b ∷ m) h = let e = eqb-true b quote h in rw e (let none = denied quoted_part quote m refl in rw none refl)
 
 quoted_waits : step quoted [] ≡ Err (Incomplete Unknown)
 unfolding quoted

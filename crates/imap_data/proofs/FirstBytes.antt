@@ -11,7 +11,7 @@ use Rattle.imap_items.specs.Capabilities.{capability_data}
 use Rattle.imap_items.specs.Gmail.{gmail_label_list, gmail_msgid, gmail_thrid}
 use Rattle.imap_data.specs.Codes.{any_code, basic_code, uid_code, metadata_code, bad_charset, capabilities, permanent_flags, uid_validity, uid_next, unseen, highest_mod_seq, append_uid, copy_uid, long_entries, max_size, too_many, no_private, code_of_a, code_of_c, code_of_p, code_of_r, code_of_t, code_of_u}
 use Rattle.imap_data.specs.Counts.{status_item, item_of_u, messages, highest_mod_seq as item_mod_seq, recent as item_recent, uid_next as item_uid_next, uid_validity as item_uid_validity, unseen as item_unseen}
-use Rattle.imap_data.specs.MailboxData.{mailbox_datum, flags, exists, list, lsub, status, recent, search, labels, msgid, thrid, sort, datum_of_number, datum_of_l, datum_of_s, datum_of_x}
+use Rattle.imap_data.specs.MailboxData.{mailbox_datum, flags, exists, list, lsub, status, recent, search, labels, msgid, thrid, sort, datum_of_number, list_or_lsub, datum_of_s, datum_of_x}
 
 -- ---- codes
 
@@ -95,9 +95,9 @@ pub datum_is_flags : AtAny "fF" mailbox_datum flags
 unfolding mailbox_datum flags exists list lsub status recent search labels msgid thrid sort gmail_label_list gmail_msgid gmail_thrid number digits
 datum_is_flags = by_any "fF" mailbox_datum flags (λ m. refl)
 
-pub datum_is_of_l : AtAny "lL" mailbox_datum datum_of_l
-unfolding mailbox_datum flags exists list lsub status recent search labels msgid thrid sort gmail_label_list gmail_msgid gmail_thrid number digits datum_of_l
-datum_is_of_l = by_any "lL" mailbox_datum datum_of_l (λ m. refl)
+pub datum_is_of_l : AtAny "lL" mailbox_datum list_or_lsub
+unfolding mailbox_datum flags exists list lsub status recent search labels msgid thrid sort gmail_label_list gmail_msgid gmail_thrid number digits list_or_lsub
+datum_is_of_l = by_any "lL" mailbox_datum list_or_lsub (λ m. refl)
 
 pub datum_is_of_s : AtAny "sS" mailbox_datum datum_of_s
 unfolding mailbox_datum flags exists list lsub status recent search labels msgid thrid sort gmail_label_list gmail_msgid gmail_thrid number digits datum_of_s

@@ -9,7 +9,7 @@ use Rattle.imap_grammar.proofs.Yields.{Yields, either_yields, made_yields}
 use Rattle.imap_items.specs.Gmail.{gmail_msgid, gmail_thrid}
 use Rattle.imap_data.specs.MailboxValues.{MailboxValue, Flags, Listed, Search, Sort, GmailLabels, IsNumber}
 use Rattle.imap_data.specs.Annotations.{solicited_of, metadata_solicited, unsolicited_of, metadata_unsolicited}
-use Rattle.imap_data.specs.MailboxData.{flags, list, lsub, status_of, status, search, sort, labels, msgid, thrid, datum_of_l, datum_of_s, datum_of_x}
+use Rattle.imap_data.specs.MailboxData.{flags, list, lsub, status_of, status, search, sort, labels, msgid, thrid, list_or_lsub, datum_of_s, datum_of_x}
 
 abbrev IsOther : MailboxValue → Type 0
 IsOther v = ¬ (IsNumber v)
@@ -18,8 +18,8 @@ pub flags_other : Yields IsOther flags
 unfolding flags
 flags_other = made_yields Flags (λ v h. h)
 
-pub of_l_other : Yields IsOther datum_of_l
-unfolding datum_of_l list lsub
+pub of_l_other : Yields IsOther list_or_lsub
+unfolding list_or_lsub list lsub
 of_l_other = either_yields (made_yields Listed (λ v h. h)) (made_yields Listed (λ v h. h))
 
 pub of_s_other : Yields IsOther datum_of_s

@@ -56,8 +56,8 @@ mailbox_datum = flags or exists or list or lsub or status or recent or search or
 unfoldable pub datum_of_number : Rule MailboxValue
 datum_of_number = exists or recent
 
-unfoldable pub datum_of_l : Rule MailboxValue
-datum_of_l = list or lsub
+unfoldable pub list_or_lsub : Rule MailboxValue
+list_or_lsub = list or lsub
 
 unfoldable pub datum_of_s : Rule MailboxValue
 datum_of_s = status or search or sort

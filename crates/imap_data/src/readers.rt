@@ -25,4 +25,4 @@ pub use imap_items::readers::{
     gmail_label_list, gmail_msgid, gmail_thrid, mailbox, mailboxes, rights, status, statuses,
     uid_set, uid_sets,
 };
-pub use mailbox_data::mailbox_datum;
+pub use mailbox_data::{list_or_lsub, mailbox_datum};

@@ -1,5 +1,5 @@
 -- Pairs that are put into a map as they are read.
-use Rattle.std.proofs.Common.{◌≡◌, ℕ, List, [], ◌∷◌, ◌++◌, Option, Some, None, Ok, Err, true, refl, sym, ap, ◌∙◌}
+use Rattle.std.proofs.Common.{◌≡◌, ℕ, List, [], ◌∷◌, ◌++◌, Option, Some, None, Ok, Err, true, refl, sym, ap, subst, ◌∙◌}
 use Rattle.std.specs.FinMap.{empty}
 use Rattle.imap_grammar.specs.declared.answer.Err.{Err as Fault}
 use Rattle.imap_grammar.specs.declared.answer.Err.TheVariants.{Incomplete, Error, Failure}
@@ -65,6 +65,13 @@ back_of v = Ok (v.0, v.1.1)
 abbrev made : {A B : Type 0} → (A → B) → List ℕ × A → Step B
 made f v = Ok (v.0, f v.1)
 
+-- The map holds the first pair of i, and those that were read behind it up to k.
+pub record PutBehind (i k : List ℕ) (held : IdValue) : Type 0 where
+  pub first : Pair
+  pub rest : List ℕ
+  pub read_first : step id_pair i ≡ Ok (rest, first)
+  pub behind : Put (put_pair empty first) rest k held
+
 -- The first pair, and those behind it.
 pub first_and_more : (i rest : List ℕ) (p : Pair) (m : IdValue) → step id_pair i ≡ Ok (rest, p) → m ≡ put_pair empty p → step (gives map_of_pairs id_pairs) i ≡ step (gives (put_pairs m) (many next_pair)) rest
 unfolding id_pairs next_pair
@@ -79,6 +86,25 @@ unfolding id_pairs
 no_first i Failure here = tt
 no_first i Error here = rw here refl
 no_first i (Incomplete n) here = rw here refl
+
+pub first_put : (i rest : List ℕ) (held : IdValue) (p : Pair) → held ≡ empty → step id_pair i ≡ Ok (rest, p) → PutBehind i rest (put_pair held p)
+first_put i rest held p none here = record { first = p; rest = rest; read_first = here; behind = rw (← none) (none_put (put_pair held p) rest) }
+
+pub next_put : (i k rest : List ℕ) (held new : IdValue) (p : Pair) → PutBehind i k held → new ≡ held → step (opt next_pair) k ≡ Ok (rest, Some p) → PutBehind i rest (put_pair new p)
+next_put i k rest held new p so_far put here = record {
+  first = so_far.first;
+  rest = so_far.rest;
+  read_first = so_far.read_first;
+  behind = one_put _ so_far.rest k rest held (put_pair new p) p so_far.behind here (ap (λ x. put_pair x p) put);
+}
+
+pub last_put : (i k rest : List ℕ) (held new : IdValue) → PutBehind i k held → new ≡ held → step (opt next_pair) k ≡ Ok (rest, None) → step (gives map_of_pairs id_pairs) i ≡ Ok (k, new)
+last_put i k rest held new so_far put here =
+    first_and_more i so_far.rest so_far.first _ so_far.read_first refl ∙ all_put _ so_far.rest k rest held so_far.behind here ∙ ap (holds k) (sym put)
+
+pub fault_behind : (i k : List ℕ) (held : IdValue) (e : Fault) → PutBehind i k held → Stops e (step (opt next_pair) k) → Stops e (step (gives map_of_pairs id_pairs) i)
+fault_behind i k held e so_far here =
+    subst (Stops e) (sym (first_and_more i so_far.rest so_far.first _ so_far.read_first refl)) (fault_put _ so_far.rest k held e so_far.behind here)
 
 -- What is made of a value may be made of it inside of what surrounds it.
 gives_inside : {A B C D E : Type 0} (a : Rule A) (b : Rule B) (c : Rule C) (f : B → D) (g : D → E) (m : List ℕ) → step (gives (λ x. g (f x)) (a ▹ b ◃ c)) m ≡ step (gives g (a ▹ gives f b ◃ c)) m

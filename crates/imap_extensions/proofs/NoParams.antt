@@ -1,6 +1,5 @@
 -- `NIL` in place of the fields, for which no memory is taken.
 use Rattle.std.proofs.Common.{◌≡◌, ◌≢◌, Option, Ok, Err, refl, inl, inr}
-use Rattle.std.specs.Prelude.{option_map}
 use Rattle.imap_grammar.specs.declared.answer.Err.{Err as Fault}
 use Rattle.imap_grammar.specs.declared.answer.Err.TheVariants.{Incomplete, Error, Failure}
 use Rattle.imap_grammar.specs.Answer.{Returned, Gives}
@@ -12,7 +11,7 @@ use Rattle.imap_grammar.proofs.Agreement.{reads}
 use Rattle.imap_grammar.proofs.Memory.{none_yielded, never_both}
 use Rattle.imap_grammar.proofs.Yields.{Yields, made_yields}
 use Rattle.imap_bytes.specs.Strings.{nil}
-use Rattle.imap_extensions.specs.Ids.{IdValue, IdTable, id_value, IsNil, params_of, some_params, id_params}
+use Rattle.imap_extensions.specs.Ids.{IdValue, IsNil, params_of, some_params, id_params}
 
 params_made : Yields (λ v. ¬ (IsNil v)) some_params
 params_made = made_yields params_of (λ v h. h)
@@ -26,10 +25,10 @@ opened v m rest b is = elim (reads id_params m rest v is) [
 ]
 
 -- the reader of the list failed, and did not deny
-pub list_failed : {A : Type 0} (m : Bytes) (e : Fault) (part : Returned (Option IdTable)) (result : Returned A) → part ≡ Err e → e ≢ Error → Gives (option_map id_value) part (step some_params m) → FailsOnlyIf (BeginsWord "(" m) part
+pub list_failed : {A B : Type 0} (m : Bytes) (e : Fault) (view : B → Option IdValue) (part : Returned B) (result : Returned A) → part ≡ Err e → e ≢ Error → Gives view part (step some_params m) → FailsOnlyIf (BeginsWord "(" m) part
     → SucceedsFor IsNil id_params m result
 unfolding id_params
-list_failed m e (Ok x) result is other g f = absurd cc
-list_failed m e (Err Error) result is other g f = absurd (other cc)
-list_failed m e (Err (Incomplete n)) result is other g f = none_yielded IsNil id_params m (Incomplete n) result (rw g refl)
-list_failed m e (Err Failure) result is other g f = λ v rest y k. absurd (opened v m rest (f refl) y k)
+list_failed m e view (Ok x) result is other g f = absurd cc
+list_failed m e view (Err Error) result is other g f = absurd (other cc)
+list_failed m e view (Err (Incomplete n)) result is other g f = none_yielded IsNil id_params m (Incomplete n) result (rw g refl)
+list_failed m e view (Err Failure) result is other g f = λ v rest y k. absurd (opened v m rest (f refl) y k)

@@ -6,6 +6,7 @@ pub mod at;
 pub mod classes;
 pub mod laws;
 pub mod lists;
+pub mod scanning;
 pub mod tags;
 pub mod text;
 

@@ -8,7 +8,7 @@ use Rattle.imap_grammar.specs.Step.{step}
 use Rattle.imap_grammar.proofs.Starts.{AtNone, AtAny, AtDigit, AtOther, AtOtherThanDigits, by_none, waits_without, by_any, by_digit, by_other, by_other_than_digits}
 use Rattle.imap_bytes.specs.Numbers.{number, digits}
 use Rattle.imap_items.specs.Statuses.{status}
-use Rattle.imap_data.specs.MailboxData.{flags, exists, list, lsub, status as mailbox_status, recent, search, labels, msgid, thrid, sort, mailbox_datum}
+use Rattle.imap_data.specs.MailboxData.{flags, exists, list, lsub, status as mailbox_status, recent, search, labels, msgid, thrid, sort, mailbox_datum, list_or_lsub}
 use Rattle.imap_items.specs.Gmail.{gmail_label_list, gmail_msgid, gmail_thrid}
 use Rattle.imap_items.specs.Capabilities.{capability_data, enabled_data}
 use Rattle.imap_data.specs.Annotations.{metadata_solicited, metadata_unsolicited}
@@ -17,6 +17,8 @@ use Rattle.imap_extensions.specs.Vanishings.{vanished}
 use Rattle.imap_extensions.specs.Quotas.{quota, quota_root}
 use Rattle.imap_extensions.specs.Ids.{id}
 use Rattle.imap_extensions.specs.Acls.{acl, list_rights, my_rights}
+use Rattle.imap_data.specs.Codes.{response_code}
+use Rattle.imap_proto.specs.Outcomes.{outcome, plain_outcome}
 use Rattle.imap_proto.specs.Lines.{continuation, data_line, request_tag, tagged, response, datum, state_datum, extension_datum, status_data, expunge, fetch, vanished_data, ended_datum, status_line, numbered_line, mailbox_line, list_line, capability_line, enabled_line, annotation_line, vanished_line, quota_line, id_line, acl_line}
 
 -- ---- responses
@@ -37,6 +39,12 @@ pub response_other : AtOther "+*" response tagged
 unfolding response continuation data_line tagged request_tag
 response_other = by_other "+*" response tagged (λ m. refl)
 
+-- ---- outcomes
+
+pub outcome_uncoded : AtOther "[" outcome plain_outcome
+unfolding outcome plain_outcome response_code
+outcome_uncoded = by_other "[" outcome plain_outcome (λ m. refl)
+
 -- ---- data
 
 pub datum_none : (m : List ℕ) → slice_get m 0 ≡ None → step ended_datum m ≡ Err (Incomplete Unknown)
@@ -52,7 +60,7 @@ unfolding ended_datum mailbox_line datum state_datum extension_datum status_data
 datum_of_mailbox = by_any "fFsSxX" ended_datum mailbox_line (λ m. refl)
 
 pub datum_of_list : AtAny "lL" ended_datum list_line
-unfolding ended_datum list_line datum state_datum extension_datum status_data expunge fetch vanished_data status flags exists list lsub mailbox_status recent search labels msgid thrid sort mailbox_datum gmail_label_list gmail_msgid gmail_thrid capability_data enabled_data metadata_solicited metadata_unsolicited metadata_mailbox vanished quota quota_root id acl list_rights my_rights number digits
+unfolding ended_datum list_line list_or_lsub datum state_datum extension_datum status_data expunge fetch vanished_data status flags exists list lsub mailbox_status recent search labels msgid thrid sort mailbox_datum gmail_label_list gmail_msgid gmail_thrid capability_data enabled_data metadata_solicited metadata_unsolicited metadata_mailbox vanished quota quota_root id acl list_rights my_rights number digits
 datum_of_list = by_any "lL" ended_datum list_line (λ m. refl)
 
 pub datum_of_capability : AtAny "cC" ended_datum capability_line

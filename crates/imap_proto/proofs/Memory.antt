@@ -18,7 +18,7 @@ use Rattle.imap_grammar.specs.Classes.{is_text_char}
 use Rattle.imap_grammar.specs.Lists.{tried_of}
 use Rattle.imap_grammar.specs.Meaning.{is_word, begins, outside}
 use Rattle.imap_grammar.specs.Memory.{BeginsWord, FailsOnlyIf, SucceedsFor}
-use Rattle.imap_grammar.specs.Rule.{Rule, meaning, gives, opt, ◌⨾◌, ◌or◌}
+use Rattle.imap_grammar.specs.Rule.{Rule, meaning, gives, nothing, opt, ◌⨾◌, ◌or◌}
 use Rattle.imap_grammar.specs.Step.{step, ◌>>=◌, or_else, beside}
 use Rattle.imap_grammar.specs.Tags.{sp, crlf, same_letter}
 use Rattle.imap_grammar.specs.Text.{Bytes, Text, text_of, decoded}
@@ -33,17 +33,17 @@ use Rattle.imap_bytes.proofs.ReadingTexts.{decoded_utf8}
 use Rattle.imap_bytes.proofs.ReadingQuoted.{lossy_some}
 use Rattle.imap_data.specs.declared.types.codes.ResponseCode.{ResponseCode}
 use Rattle.imap_data.specs.Codes.{CodeValue, code_value, HoldsNoList, BeginsListWord, BeginsListCode, response_code}
-use Rattle.imap_data.specs.MailboxData.{mailbox_datum}
+use Rattle.imap_data.specs.MailboxData.{mailbox_datum, list_or_lsub}
 use Rattle.imap_data.specs.MailboxValues.{IsNumber}
 use Rattle.imap_data.specs.declared.types.mailbox_data.MailboxDatum.{MailboxDatum}
-use Rattle.imap_data.proofs.NumberData.{solicited_other, unsolicited_other}
+use Rattle.imap_data.proofs.NumberData.{of_l_other, solicited_other, unsolicited_other}
 use Rattle.imap_extensions.specs.Acls.{list_rights}
 use Rattle.imap_extensions.specs.Ids.{IdTable, IsNil, id}
 use Rattle.imap_items.specs.declared.types.statuses.Status.{Status}
 use Rattle.imap_items.specs.Statuses.{status}
 use Rattle.imap_proto.specs.declared.outcome.Outcome.{Outcome}
 use Rattle.imap_data.proofs.ListCodes.{list_code_yielded}
-use Rattle.imap_proto.specs.Outcomes.{outcome_of, outcome, no_outcome, spaced_outcome}
+use Rattle.imap_proto.specs.Outcomes.{outcome_of, outcome, plain_outcome, no_outcome, spaced_outcome}
 use Rattle.imap_proto.specs.Responses.{OutcomeValue, ResponseValue, Capabilities, MailboxData, Quota, QuotaRoot, Id, Acl, ListRights, MyRights}
 use Rattle.imap_proto.specs.Lines.{data_of, status_data, fetch_of, vanished_of, vanished_data, spaces, status_line, mailbox_line, list_line, capability_line, enabled_line, annotation_line, vanished_line, quota_line, id_line, acl_line, done_of, tagged, fetched_line}
 use Rattle.imap_proto.specs.Memory.{OutcomeTakesNone, TakesNone}
@@ -174,14 +174,28 @@ text_taken k m (Err Failure) g f = λ v rest is h.
     let lent = lent_yielded k m v rest (reads text m rest v is) h in
     absurd (false≢true (sym o.3 ∙ ap (λ (t : Text). t.borrowed) (sym same) ∙ lent))
 
--- the text's reader failed
+-- the text's reader failed, behind whatever stands in front
+text_behind : {A : Type 0} (front : Rule (Option CodeValue)) (m mid : Bytes) (k : Option CodeValue) (e : Fault) (part : Returned (CowStr Global)) (result : Returned A) → step front m ≡ Ok (mid, k) → part ≡ Err e → Gives text_of part (step text mid) → FailsForOwned is_owned text mid part
+    → SucceedsFor OutcomeTakesNone (gives outcome_of (front ⨾ text)) m result
+text_behind front m mid k e part result here was g f =
+    given OutcomeTakesNone outcome_of (front ⨾ text) m result
+    (second (λ v. OutcomeTakesNone (outcome_of v)) front text m mid k result here
+    (of_part (λ t. OutcomeTakesNone (outcome_of (k, t))) text mid e part result was (text_taken k mid part g f)))
+
 pub text_stopped : {A : Type 0} (m mid : Bytes) (k : Option CodeValue) (e : Fault) (part : Returned (CowStr Global)) (result : Returned A) → step (opt response_code) m ≡ Ok (mid, k) → part ≡ Err e → Gives text_of part (step text mid) → FailsForOwned is_owned text mid part
     → SucceedsFor OutcomeTakesNone outcome m result
 unfolding outcome
-text_stopped m mid k e part result front was g f =
-    given OutcomeTakesNone outcome_of (opt response_code ⨾ text) m result
-    (second (λ v. OutcomeTakesNone (outcome_of v)) (opt response_code) text m mid k result front
-    (of_part (λ t. OutcomeTakesNone (outcome_of (k, t))) text mid e part result was (text_taken k mid part g f)))
+text_stopped m mid k e part result front was g f = text_behind (opt response_code) m mid k e part result front was g f
+
+pub plain_stopped : {A : Type 0} (m : Bytes) (e : Fault) (part : Returned (CowStr Global)) (result : Returned A) → part ≡ Err e → Gives text_of part (step text m) → FailsForOwned is_owned text m part
+    → SucceedsFor OutcomeTakesNone plain_outcome m result
+unfolding plain_outcome
+plain_stopped m e part result was g f = text_behind (nothing None) m m None e part result refl was g f
+
+-- where no code was read, an outcome is a plain one
+pub uncoded : (m : Bytes) → step (opt response_code) m ≡ Ok (m, None) → step outcome m ≡ step plain_outcome m
+unfolding outcome plain_outcome
+uncoded m none = rw none refl
 
 never_denied : (m : Bytes) → step outcome m ≡ Err Error → ⊥
 unfolding meaning outcome text
@@ -227,12 +241,12 @@ first_of a b m result h none = λ v rest is k. elim (reads (a or b) m rest v is)
   | inr y ↦ absurd (none.each m v rest y.1 k)
 ]
 
-pub list_failed : (m : Bytes) (e : Fault) (part : Returned MailboxDatum) → part ≡ Err e → SucceedsFor IsNumber mailbox_datum m part → SucceedsFor TakesNone list_line m (failed e)
+pub list_failed : (m : Bytes) (e : Fault) → SucceedsFor TakesNone list_line m (failed e)
 unfolding list_line
-list_failed m e part was h =
-    before TakesNone (gives MailboxData mailbox_datum or gives ListRights list_rights) (spaces ⨾ crlf) m (failed e)
-    (first_of (gives MailboxData mailbox_datum) (gives ListRights list_rights) m (failed e)
-    (given TakesNone MailboxData mailbox_datum m (failed e) (of_part IsNumber mailbox_datum m e part (failed e) was h))
+list_failed m e =
+    before TakesNone (gives MailboxData list_or_lsub or gives ListRights list_rights) (spaces ⨾ crlf) m (failed e)
+    (first_of (gives MailboxData list_or_lsub) (gives ListRights list_rights) m (failed e)
+    (given TakesNone MailboxData list_or_lsub m (failed e) (λ v rest is k. absurd (of_l_other.each m v rest (reads list_or_lsub m rest v is) k)))
     (made_yields ListRights (λ v h. h)))
 
 pub id_failed : (m : Bytes) (e : Fault) (part : Returned (Option IdTable)) → part ≡ Err e → SucceedsFor IsNil id m part → SucceedsFor TakesNone id_line m (failed e)

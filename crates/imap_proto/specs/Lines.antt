@@ -12,7 +12,7 @@ use Rattle.imap_items.specs.declared.types.statuses.Status.{Status}
 use Rattle.imap_items.specs.Statuses.{status}
 use Rattle.imap_items.specs.Capabilities.{capability_data, enabled_data}
 use Rattle.imap_data.specs.MailboxValues.{Exists, Recent}
-use Rattle.imap_data.specs.MailboxData.{mailbox_datum, exists, recent}
+use Rattle.imap_data.specs.MailboxData.{mailbox_datum, list_or_lsub, exists, recent}
 use Rattle.imap_data.specs.Annotations.{metadata_solicited, metadata_unsolicited}
 use Rattle.imap_extensions.specs.Vanishings.{vanished}
 use Rattle.imap_extensions.specs.Quotas.{quota, quota_root}
@@ -117,7 +117,7 @@ unfoldable pub mailbox_line : Rule ResponseValue
 mailbox_line = ended (gives MailboxData mailbox_datum)
 
 unfoldable pub list_line : Rule ResponseValue
-list_line = ended (gives MailboxData mailbox_datum or gives ListRights list_rights)
+list_line = ended (gives MailboxData list_or_lsub or gives ListRights list_rights)
 
 unfoldable pub capability_line : Rule ResponseValue
 capability_line = ended (gives Capabilities capability_data)

@@ -1,7 +1,7 @@
 -- What a status line says besides its status (RFC 3501, section 7.1 and section 9: resp-text).
 use Rattle.std.specs.Prelude.{[], ◌∷◌, Option, None, Some, drop, chars, encode_utf8_all}
 use Rattle.imap_grammar.specs.Text.{Bytes, Text}
-use Rattle.imap_grammar.specs.Rule.{Rule, gives, opt, otherwise, ◌⨾◌, ◌▹◌}
+use Rattle.imap_grammar.specs.Rule.{Rule, gives, nothing, opt, otherwise, ◌⨾◌, ◌▹◌}
 use Rattle.imap_grammar.specs.Tags.{sp}
 use Rattle.imap_bytes.specs.Texts.{text}
 use Rattle.imap_data.specs.Codes.{CodeValue}
@@ -30,6 +30,10 @@ outcome_of v = record { code = v.0; information = information v.0 v.1 }
 
 unfoldable pub outcome : Rule OutcomeValue
 outcome = gives outcome_of (opt response_code ⨾ text)
+
+-- the same where no code stands
+unfoldable pub plain_outcome : Rule OutcomeValue
+plain_outcome = gives outcome_of (nothing None ⨾ text)
 
 abbrev pub no_outcome : OutcomeValue
 no_outcome = record { code = None; information = None }

@@ -22,8 +22,8 @@ use imap_bytes::tags::{cut0, tag, word};
 use imap_bytes::{Err, IResult, named};
 use imap_data::MailboxDatum;
 use imap_data::readers::{
-    acl, capability_data, enabled_data, id, list_rights, mailbox_datum, metadata_solicited,
-    metadata_unsolicited, my_rights, quota, quota_root, status, vanished,
+    acl, capability_data, enabled_data, id, list_or_lsub, list_rights, mailbox_datum,
+    metadata_solicited, metadata_unsolicited, my_rights, quota, quota_root, status, vanished,
 };
 use std::alloc::Global;
 
@@ -134,7 +134,7 @@ pub(crate) fn list_line(alloc: Global, i: &[u8]) -> IResult<&[u8], Response<'_>>
     ensures steps { Gives response_value result (step rule.list_line i.now) }
     ensures memory { SucceedsFor TakesNone rule.list_line i.now result }
 {
-    line!(mailbox_datum(alloc, i), found => Response::MailboxData(found));
+    line!(list_or_lsub(alloc, i), found => Response::MailboxData(found));
     line!(list_rights(alloc, i), found => Response::ListRights(found));
     Err(Err::Error)
 }

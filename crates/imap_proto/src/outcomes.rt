@@ -63,11 +63,22 @@ fn behind_code(text: CowStr<'_>) -> Option<CowStr<'_>>
     }
 }
 
-/// A code in brackets if there is one, and the text behind it.
-///
-/// It takes memory for a code that may hold a list, and for a text that is no UTF-8.
+// An outcome without a code. It is a call of its own, as is one with a code, so that it clears no slot of a code.
+#[tactic(auto, unfolding(crate::specs::Outcomes::plain_outcome))]
+#[inline(never)]
+fn plain_outcome(alloc: Global, i: &[u8]) -> IResult<&[u8], Outcome<'_>>
+    ensures steps { Gives outcome_value result (step outcomes.plain_outcome i.now) }
+    ensures memory { SucceedsFor OutcomeTakesNone outcomes.plain_outcome i.now result }
+{
+    let (rest, text) = text(alloc, i)?;
+    let (code, information) = (None, plain(text));
+    Ok((rest, Outcome { code, information }))
+}
+
+// An outcome that may have a code.
 #[tactic(auto, unfolding(crate::specs::Outcomes::outcome))]
-pub(crate) fn outcome(alloc: Global, i: &[u8]) -> IResult<&[u8], Outcome<'_>>
+#[inline(never)]
+fn coded_outcome(alloc: Global, i: &[u8]) -> IResult<&[u8], Outcome<'_>>
     ensures steps { Gives outcome_value result (step outcomes.outcome i.now) }
     ensures memory { SucceedsFor OutcomeTakesNone outcomes.outcome i.now result }
 {
@@ -77,11 +88,21 @@ pub(crate) fn outcome(alloc: Global, i: &[u8]) -> IResult<&[u8], Outcome<'_>>
             let (code, information) = (Some(code), behind_code(text));
             Ok((rest, Outcome { code, information }))
         }
-        None => {
-            let (rest, text) = text(alloc, i)?;
-            let (code, information) = (None, plain(text));
-            Ok((rest, Outcome { code, information }))
-        }
+        None => plain_outcome(alloc, i),
+    }
+}
+
+/// A code in brackets if there is one, and the text behind it. The first byte tells whether a code may stand there.
+///
+/// It takes memory for a code that may hold a list, and for a text that is no UTF-8.
+#[tactic(auto, using(crate::proofs::FirstBytes::outcome_uncoded))]
+pub(crate) fn outcome(alloc: Global, i: &[u8]) -> IResult<&[u8], Outcome<'_>>
+    ensures steps { Gives outcome_value result (step outcomes.outcome i.now) }
+    ensures memory { SucceedsFor OutcomeTakesNone outcomes.outcome i.now result }
+{
+    match i.first() {
+        None | Some(b'[') => coded_outcome(alloc, i),
+        Some(_) => plain_outcome(alloc, i),
     }
 }
 

@@ -4,8 +4,8 @@ use crate::answers::{says, says_at, says_marked};
 use imap_data::at;
 use imap_data::readers::{
     acl, capability_data, enabled_data, flag, flag_list, flag_perm, gmail_label_list, gmail_msgid,
-    gmail_thrid, id, list_rights, mailbox, mailbox_datum, metadata_solicited, metadata_unsolicited,
-    my_rights, quota, quota_root, response_code, status, uid_set, vanished,
+    gmail_thrid, id, list_or_lsub, list_rights, mailbox, mailbox_datum, metadata_solicited,
+    metadata_unsolicited, my_rights, quota, quota_root, response_code, status, uid_set, vanished,
 };
 use std::test::*;
 
@@ -130,6 +130,15 @@ fn data_of_mailboxes(rt: HostRuntime) {
         (b"STATUS x (UNSEEN 1 SIZE 5)", "Error"),
     ] {
         assert!(rt; says(alloc, mailbox_datum(alloc, input), want), "{want}");
+    }
+    for (input, want) in [
+        (
+            b"lsub (\\Marked) NIL inbox\r".as_slice(),
+            r#"List(MailboxListData { name_attributes: [Marked], delimiter: None, name: "INBOX" }) then "\r""#,
+        ),
+        (b"SEARCH 1\r", "Error"),
+    ] {
+        assert!(rt; says(alloc, list_or_lsub(alloc, input), want), "{want}");
     }
 }
 

@@ -28,8 +28,9 @@ fn digit_value(b: u8) -> u64
     u64::from(b).wrapping_sub(u64::from(b'0'))
 }
 
-// How many digits stand in front, and the number that they write, if 32 bits hold it. `None` where nothing follows them.
-fn digits_in_front(i: &[u8]) -> Option<(usize, Option<u32>)>
+// The same as `digits_in_front`, for any number of digits.
+#[inline(always)]
+fn many_digits_in_front(i: &[u8]) -> Option<(usize, Option<u32>)>
     ensures at { InFront (2 ^ 32) i.now result }
     ensures within { IfSome result (λ x. x.0 < length i.now) }
 {
@@ -47,6 +48,27 @@ fn digits_in_front(i: &[u8]) -> Option<(usize, Option<u32>)>
         left = more;
     }
     None
+}
+
+// How many digits stand in front, and the number that they write, if 32 bits hold it. `None` where nothing follows them.
+//
+// Eleven digits are read with no look at the size of their number, since 64 bits hold any of so many: the compiler writes these turns out one by one.
+#[inline(always)]
+fn digits_in_front(i: &[u8]) -> Option<(usize, Option<u32>)>
+    ensures at { InFront (2 ^ 32) i.now result }
+    ensures within { IfSome result (λ x. x.0 < length i.now) }
+{
+    let mut number: u64 = 0;
+    let mut count = 0;
+    while count < 11 {
+        let digit = digit_value(*i.get(count)?);
+        if digit > 9 {
+            return Some((count, u32::try_from(number).ok()));
+        }
+        number = number * 10 + digit;
+        count += 1;
+    }
+    many_digits_in_front(i)
 }
 
 // The number with one more digit, if 64 bits hold it.
@@ -82,6 +104,7 @@ fn digits_in_front_64(i: &[u8]) -> Option<(usize, Option<u64>)>
 ///
 /// It is judged behind the byte that ends its digits: a larger one is `Error`, digits up to the end of the message wait.
 #[tactic(auto, using(imap_grammar::proofs::Agreement::exact_answered_at))]
+#[inline(always)]
 pub fn number(m: &[u8], p: usize) -> Result<(usize, u32), Err>
     requires { p ≤ length m.now }
     ensures steps { ExactlyAt (λ x. x) m.now result (step numbers.number (drop p m.now)) }

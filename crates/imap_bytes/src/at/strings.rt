@@ -1,10 +1,10 @@
 //! Strings at a position, as spans of their content. None takes memory.
 
-ghost use Rattle.std.specs.Prelude.{◌≡◌, ◌==◌, ◌||◌, ◌≤◌, ◌<◌, length, drop, position, IfOk, IfSome};
+ghost use Rattle.std.specs.Prelude.{◌≡◌, ◌==◌, ◌||◌, ◌≤◌, length, drop, IfOk, IfSome};
 ghost use Rattle.imap_grammar.specs.Positions.{AnswersAt, ExactlyAt, Ahead, Inside, Lies, RestsOn, maybe_in, named_in};
 ghost use Rattle.imap_grammar.specs.Memory.{NeverFails};
 ghost use Rattle.imap_grammar.specs.Step.{step, take_step};
-ghost use Rattle.imap_grammar.specs.Meaning.{begins, outside};
+ghost use Rattle.imap_grammar.specs.Meaning.{begins};
 ghost use Rattle.imap_grammar.specs.Rule.{run0, run1, opt};
 ghost use Rattle.imap_grammar.specs.Ascii.{quote, open_brace};
 ghost use Rattle.imap_grammar.specs.Classes as classes;
@@ -14,16 +14,9 @@ use crate::at::numbers::number;
 use crate::strings::as_utf8;
 use imap_grammar::at::span::Span;
 use imap_grammar::at::tags::{cut0, cut1, tag, word};
-use imap_grammar::classes::{is_astring_char, is_atom_char, is_quoted_char};
 use imap_grammar::lists::tried;
+use imap_grammar::scanning::{AstringChar, AtomChar, QuotedChar, run_end};
 use imap_grammar::{Err, Needed, first};
-
-fn plain_end(i: &[u8]) -> Option<usize>
-    ensures at { result ≡ position (outside classes.is_quoted_char) i.now }
-    ensures within { IfSome result (λ n. n < length i.now) }
-{
-    i.iter().position(|c| !is_quoted_char(*c))
-}
 
 #[inline(always)]
 fn plain(m: &[u8], p: usize) -> Result<(usize, Span), Err>
@@ -32,7 +25,7 @@ fn plain(m: &[u8], p: usize) -> Result<(usize, Span), Err>
     ensures inside { Inside m.now p result }
 {
     let (_, i) = m.split_at(p);
-    cut1(plain_end(i), m, p)
+    cut1(run_end::<QuotedChar>(i), m, p)
 }
 
 #[tactic(auto, unfolding(crate::specs::Strings::quoted_part))]
@@ -73,6 +66,10 @@ fn quoted_content(m: &[u8], p: usize) -> Result<(usize, Span), Err>
         match part {
             None => return Ok((q, Span { start: p, end: q })),
             Some(_) => q = after,
+        }
+        // No part begins with a quote.
+        if opens_quoted(m, q) {
+            return Ok((q, Span { start: p, end: q }));
         }
     }
 }
@@ -168,13 +165,6 @@ pub fn string(m: &[u8], p: usize) -> Result<(usize, Span), Err>
     }
 }
 
-fn astring_end(i: &[u8]) -> Option<usize>
-    ensures at { result ≡ position (outside classes.is_astring_char) i.now }
-    ensures within { IfSome result (λ n. n < length i.now) }
-{
-    i.iter().position(|c| !is_astring_char(*c))
-}
-
 /// At least one astring-char.
 pub fn astring_chars(m: &[u8], p: usize) -> Result<(usize, Span), Err>
     requires { p ≤ length m.now }
@@ -183,7 +173,7 @@ pub fn astring_chars(m: &[u8], p: usize) -> Result<(usize, Span), Err>
     ensures no_failure { NeverFails result }
 {
     let (_, i) = m.split_at(p);
-    cut1(astring_end(i), m, p)
+    cut1(run_end::<AstringChar>(i), m, p)
 }
 
 /// Bare astring-chars, or a string (RFC 3501, section 9: astring).
@@ -241,13 +231,6 @@ pub fn nstring(m: &[u8], p: usize) -> Result<(usize, Option<Span>), Err>
     Ok((q, None))
 }
 
-fn atom_end(i: &[u8]) -> Option<usize>
-    ensures at { result ≡ position (outside classes.is_atom_char) i.now }
-    ensures within { IfSome result (λ n. n < length i.now) }
-{
-    i.iter().position(|c| !is_atom_char(*c))
-}
-
 /// Atom-chars, maybe none.
 pub fn atom_chars0(m: &[u8], p: usize) -> Result<(usize, Span), Err>
     requires { p ≤ length m.now }
@@ -256,7 +239,7 @@ pub fn atom_chars0(m: &[u8], p: usize) -> Result<(usize, Span), Err>
     ensures no_failure { NeverFails result }
 {
     let (_, i) = m.split_at(p);
-    cut0(atom_end(i), m, p)
+    cut0(run_end::<AtomChar>(i), m, p)
 }
 
 /// At least one atom-char.
@@ -267,7 +250,7 @@ pub fn atom_chars(m: &[u8], p: usize) -> Result<(usize, Span), Err>
     ensures no_failure { NeverFails result }
 {
     let (_, i) = m.split_at(p);
-    cut1(atom_end(i), m, p)
+    cut1(run_end::<AtomChar>(i), m, p)
 }
 
 // An atom, as its span and as its text.

@@ -1,10 +1,9 @@
 //! The text of a line at a position. It takes no memory.
 
-ghost use Rattle.std.specs.Prelude.{◌≡◌, ◌≤◌, ◌<◌, length, drop, position, IfSome};
+ghost use Rattle.std.specs.Prelude.{◌≤◌, length, drop};
 ghost use Rattle.imap_grammar.specs.Positions.{AnswersAt, ExactlyAt, Inside, named_in};
 ghost use Rattle.imap_grammar.specs.Memory.{NeverFails};
 ghost use Rattle.imap_grammar.specs.Step.{step};
-ghost use Rattle.imap_grammar.specs.Meaning.{outside};
 ghost use Rattle.imap_grammar.specs.Rule.{run0};
 ghost use Rattle.imap_grammar.specs.Text.{decoded};
 ghost use Rattle.imap_grammar.specs.Classes as classes;
@@ -13,14 +12,7 @@ ghost use Rattle.imap_bytes.specs.Texts as texts;
 use imap_grammar::Err;
 use imap_grammar::at::span::Span;
 use imap_grammar::at::tags::cut0;
-use imap_grammar::classes::is_text_char;
-
-fn text_end(i: &[u8]) -> Option<usize>
-    ensures at { result ≡ position (outside classes.is_text_char) i.now }
-    ensures within { IfSome result (λ n. n < length i.now) }
-{
-    i.iter().position(|c| !is_text_char(*c))
-}
+use imap_grammar::scanning::{TextChar, run_end};
 
 /// Text-chars, maybe none.
 pub fn text_chars(m: &[u8], p: usize) -> Result<(usize, Span), Err>
@@ -30,7 +22,7 @@ pub fn text_chars(m: &[u8], p: usize) -> Result<(usize, Span), Err>
     ensures no_failure { NeverFails result }
 {
     let (_, i) = m.split_at(p);
-    cut0(text_end(i), m, p)
+    cut0(run_end::<TextChar>(i), m, p)
 }
 
 /// Text-chars up to the first other byte, maybe none, as the span of the text (RFC 3501, section 9: text).

@@ -108,10 +108,14 @@ fn datum_of_number(i: &[u8]) -> IResult<&[u8], MailboxDatum<'_>>
     Err(Err::Error)
 }
 
-#[tactic(auto, unfolding(crate::specs::MailboxData::datum_of_l))]
+/// `LIST` or `LSUB`, and what it says of a mailbox (RFC 3501, section 9: mailbox-data).
+///
+/// It takes memory for the attributes, and for texts that are no UTF-8.
+#[tactic(auto, using(imap_grammar::proofs::Agreement::answered), unfolding(crate::specs::MailboxData::list_or_lsub))]
 #[inline(always)]
-fn datum_of_l(alloc: Global, i: &[u8]) -> IResult<&[u8], MailboxDatum<'_>>
-    ensures { Gives (λ x. mailbox_value x) result (step rules.datum_of_l i.now) }
+pub fn list_or_lsub(alloc: Global, i: &[u8]) -> IResult<&[u8], MailboxDatum<'_>>
+    ensures steps { Gives (λ x. mailbox_value x) result (step rules.list_or_lsub i.now) }
+    ensures answer { Answers rules.list_or_lsub (λ x. mailbox_value x) i.now result }
 {
     first!(list(alloc, i));
     lsub(alloc, i)
@@ -148,7 +152,7 @@ fn datum(alloc: Global, i: &[u8]) -> IResult<&[u8], MailboxDatum<'_>>
     match i.first() {
         None => Err(Err::Incomplete(Needed::Unknown)),
         Some(b'f' | b'F') => flags(alloc, i),
-        Some(b'l' | b'L') => datum_of_l(alloc, i),
+        Some(b'l' | b'L') => list_or_lsub(alloc, i),
         Some(b's' | b'S') => datum_of_s(alloc, i),
         Some(b'x' | b'X') => datum_of_x(alloc, i),
         Some(b) if b.is_ascii_digit() => datum_of_number(i),

@@ -122,6 +122,7 @@ fn delimiter(alloc: Global, i: &[u8]) -> IResult<&[u8], Option<CowStr<'_>>>
 
 /// What LIST and LSUB say of a mailbox (RFC 3501, section 9: mailbox-list).
 #[tactic(auto, unfolding(crate::specs::Names::list_data))]
+#[inline(always)]
 pub(crate) fn list_data(alloc: Global, i: &[u8]) -> IResult<&[u8], MailboxListData<'_>>
     ensures { Gives (λ x. list_value x) result (step names.list_data i.now) }
 {

@@ -1,12 +1,13 @@
 //! What an implementation says of itself.
 
-ghost use Rattle.std.specs.Prelude.{◌≡◌, option_map, OnOk};
+ghost use Rattle.std.specs.FinMap.{empty};
+ghost use Rattle.std.specs.Prelude.{◌≡◌, Some, option_map, OnOk};
 ghost use Rattle.imap_grammar.specs.Answer.{Answers, Gives};
 ghost use Rattle.imap_grammar.specs.Memory.{BeginsWord, FailsOnlyIf, SucceedsFor};
-ghost use Rattle.imap_grammar.specs.Rule.{gives, many, opt};
+ghost use Rattle.imap_grammar.specs.Rule.{gives, opt};
 ghost use Rattle.imap_grammar.specs.Step.{step};
 ghost use Rattle.imap_extensions.specs.Ids as ids;
-ghost use Rattle.imap_extensions.specs.Ids.{id_value, pair_value, put_pair as put_value, put_pairs, map_of_pairs};
+ghost use Rattle.imap_extensions.specs.Ids.{id_value, pair_value, put_pair as put_value, map_of_pairs};
 
 use crate::types::ids::{IdMap, put};
 use imap_bytes::lists::tried;
@@ -20,6 +21,7 @@ use std::collections::HashMap;
 type IdPair<'a> = (CowStr<'a>, Option<CowStr<'a>>);
 
 #[tactic(auto, unfolding(crate::specs::Ids::id_pair))]
+#[inline(always)]
 fn id_pair(alloc: Global, i: &[u8]) -> IResult<&[u8], IdPair<'_>>
     ensures { Gives pair_value result (step ids.id_pair i.now) }
 {
@@ -54,59 +56,54 @@ fn put_pair<'a>(map: &mut IdMap<'a>, pair: IdPair<'a>) -> Result<(), AllocError>
     }
 }
 
-// The pairs behind the first, put into the map as they are read: of equal keys the last wins.
-fn pairs_behind<'a>(alloc: Global, map: IdMap<'a>, i: &'a [u8]) -> IResult<&'a [u8], IdMap<'a>>
-    ensures { Gives id_value result (step (gives (put_pairs (id_value map.entry)) (many ids.next_pair)) i.now) }
+// Pairs, put into an empty map as they are read: of equal fields the last counts.
+fn put_pairs<'a>(alloc: Global, map: &mut IdMap<'a>, i: &'a [u8]) -> IResult<&'a [u8], ()>
+    requires { id_value map.old ≡ empty }
+    ensures { Gives (λ x. id_value map.new) result (step (gives map_of_pairs ids.id_pairs) i.now) }
 {
-    let mut map = map;
-    let mut rest = i;
+    let (mut rest, mut pair) = id_pair(alloc, i)?;
     'pairs: loop {
-        let (after, pair) = maybe_next_pair(alloc, rest)?;
-        match pair {
-            None => return Ok((rest, map)),
-            Some(pair) => put_pair(&mut map, pair)?,
+        put_pair(map, pair)?;
+        let (after, next) = maybe_next_pair(alloc, rest)?;
+        match next {
+            None => return Ok((rest, ())),
+            Some(found) => pair = found,
         }
         rest = after;
     }
 }
 
-fn id_pairs(alloc: Global, i: &[u8]) -> IResult<&[u8], IdMap<'_>>
-    ensures { Gives id_value result (step (gives map_of_pairs ids.id_pairs) i.now) }
-{
-    let (rest, first) = id_pair(alloc, i)?;
-    let mut map = HashMap::new(alloc);
-    put_pair(&mut map, first)?;
-    pairs_behind(alloc, map, rest)
-}
-
 #[tactic(auto, unfolding(crate::specs::Ids::id_map))]
-fn id_map(alloc: Global, i: &[u8]) -> IResult<&[u8], IdMap<'_>>
-    ensures steps { Gives id_value result (step ids.id_map i.now) }
+fn put_list<'a>(alloc: Global, map: &mut IdMap<'a>, i: &'a [u8]) -> IResult<&'a [u8], ()>
+    requires { id_value map.old ≡ empty }
+    ensures steps { Gives (λ x. id_value map.new) result (step ids.id_map i.now) }
     ensures memory { FailsOnlyIf (BeginsWord "(" i.now) result }
 {
     let (rest, _) = tag(b"(", i)?;
-    let (rest, map) = id_pairs(alloc, rest)?;
+    let (rest, _) = put_pairs(alloc, map, rest)?;
     let (rest, _) = blanks0(rest)?;
     let (rest, _) = tag(b")", rest)?;
-    Ok((rest, map))
+    Ok((rest, ()))
 }
 
 #[tactic(auto, using(crate::proofs::IdPairs::some_params_is))]
-fn some_params(alloc: Global, i: &[u8]) -> IResult<&[u8], Option<IdMap<'_>>>
-    ensures steps { Gives (option_map id_value) result (step ids.some_params i.now) }
+fn some_params<'a>(alloc: Global, map: &mut IdMap<'a>, i: &'a [u8]) -> IResult<&'a [u8], ()>
+    requires { id_value map.old ≡ empty }
+    ensures steps { Gives (λ x. Some (id_value map.new)) result (step ids.some_params i.now) }
     ensures memory { FailsOnlyIf (BeginsWord "(" i.now) result }
 {
-    let (rest, map) = id_map(alloc, i)?;
-    Ok((rest, Some(map)))
+    put_list(alloc, map, i)
 }
 
+// The map is made here and filled where it stands, since each move of it is dear. An empty one takes no memory.
 #[tactic(auto, unfolding(crate::specs::Ids::id_params))]
 fn id_params(alloc: Global, i: &[u8]) -> IResult<&[u8], Option<IdMap<'_>>>
     ensures steps { Gives (option_map id_value) result (step ids.id_params i.now) }
     ensures memory { SucceedsFor ids.IsNil ids.id_params i.now result }
 {
-    match tried(some_params(alloc, i))? {
-        Some(found) => Ok(found),
+    let mut map = HashMap::new(alloc);
+    match tried(some_params(alloc, &mut map, i))? {
+        Some((rest, _)) => Ok((rest, Some(map))),
         None => {
             let (rest, _) = nil(i)?;
             Ok((rest, None))

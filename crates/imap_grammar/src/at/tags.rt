@@ -39,6 +39,7 @@ fn agrees_in_any_case(word: &[u8], i: &[u8]) -> bool
 
 /// Exactly these bytes.
 #[tactic(auto, using(crate::proofs::Positions::stepped, crate::proofs::Positions::zip_cut), unfolding(crate::specs::Step::tag_step))]
+#[inline(always)]
 pub fn tag(text: &[u8], m: &[u8], p: usize) -> Result<(usize, Span), Err>
     requires { p ≤ length m.now }
     ensures steps { ExactlyAt (λ x. named_in m.now x) m.now result (step (tag_by ◌==◌ text.now) (drop p m.now)) }

@@ -43,6 +43,7 @@ fn preauth_word(i: &[u8]) -> IResult<&[u8], Status>
 
 // Of the words those are tried, in order, that may start with the first byte.
 #[tactic(auto, using(crate::proofs::FirstBytes::status_none, crate::proofs::FirstBytes::status_is_ok, crate::proofs::FirstBytes::status_is_no, crate::proofs::FirstBytes::status_is_bad_or_bye, crate::proofs::FirstBytes::status_is_preauth, crate::proofs::FirstBytes::status_other))]
+#[inline(always)]
 fn status_word(i: &[u8]) -> IResult<&[u8], Status>
     ensures { Exactly (λ x. x) result (step rule.status i.now) }
 {
@@ -58,6 +59,7 @@ fn status_word(i: &[u8]) -> IResult<&[u8], Status>
 
 /// A status word in any case (RFC 3501, section 9: resp-cond-state, resp-cond-auth, resp-cond-bye). No memory.
 #[tactic(auto, using(imap_grammar::proofs::Agreement::exact_answered, imap_grammar::proofs::Memory::exactly_never))]
+#[inline(always)]
 pub fn status(i: &[u8]) -> IResult<&[u8], Status>
     ensures steps { Exactly (λ x. x) result (step rule.status i.now) }
     ensures answer { Answers rule.status (λ x. x) i.now result }

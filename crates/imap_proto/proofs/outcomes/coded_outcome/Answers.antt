@@ -1,8 +1,10 @@
-use Rattle.std.proofs.Common.{rules, Some, None, sym, ◌∙◌}
+use Rattle.std.proofs.Common.{rules, Some, sym, subst, ◌∙◌}
 use Rattle.imap_grammar.proofs.Joins.{tried_fault}
+use Rattle.imap_grammar.specs.Answer.{Gives}
 use Rattle.imap_data.specs.Codes.{code_value}
-use Rattle.imap_proto.proofs.Memory.{code_missing, code_stopped, text_stopped}
-use Rattle.imap_proto.proofs.outcomes.outcome.Goals as goal
+use Rattle.imap_proto.specs.Responses.{outcome_value}
+use Rattle.imap_proto.proofs.Memory.{code_missing, code_stopped, text_stopped, uncoded}
+use Rattle.imap_proto.proofs.outcomes.coded_outcome.Goals as goal
 
 pub returns-in_err-rest-clause-memory : goal.returns-in_err-rest-clause-memory
 returns-in_err-rest-clause-memory c =
@@ -14,7 +16,12 @@ pub returns-in_err-rest-in-Some-clause-memory : goal.returns-in_err-rest-in-Some
 returns-in_err-rest-in-Some-clause-memory c =
     text_stopped _ _ (Some (code_value c.in-Some.code)) c.in_err-rest-in-Some.field-0.0 c.text.result _ (search rules) c.in_err-rest-in-Some.was c.text.ensures.steps c.text.ensures.memory
 
-pub returns-in_err-rest-in-None-clause-memory : goal.returns-in_err-rest-in-None-clause-memory
-returns-in_err-rest-in-None-clause-memory c =
+pub returns-in-None-clause-steps : goal.returns-in-None-clause-steps
+returns-in-None-clause-steps c =
     let code = code_missing _ c.response_code.result c.in_ok-rest.field-0 (sym c.tried.ensures ∙ c.in_ok-rest.was) c.in-None.is c.response_code.ensures.steps in
-    text_stopped _ _ None c.in_err-rest-in-None.field-0.0 c.text-in-None.result _ code c.in_err-rest-in-None.was c.text-in-None.ensures.steps c.text-in-None.ensures.memory
+    subst (Gives outcome_value c.plain_outcome.result) (sym (uncoded _ code)) c.plain_outcome.ensures.steps
+
+pub returns-in-None-clause-memory : goal.returns-in-None-clause-memory
+returns-in-None-clause-memory c =
+    let code = code_missing _ c.response_code.result c.in_ok-rest.field-0 (sym c.tried.ensures ∙ c.in_ok-rest.was) c.in-None.is c.response_code.ensures.steps in
+    λ v rest is k. c.plain_outcome.ensures.memory v rest (sym (uncoded _ code) ∙ is) k

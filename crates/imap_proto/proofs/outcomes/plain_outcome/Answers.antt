@@ -1,0 +1,5 @@
+use Rattle.imap_proto.proofs.Memory.{plain_stopped}
+use Rattle.imap_proto.proofs.outcomes.plain_outcome.Goals as goal
+
+pub returns-in_err-rest-clause-memory : goal.returns-in_err-rest-clause-memory
+returns-in_err-rest-clause-memory c = plain_stopped _ c.in_err-rest.field-0.0 c.text.result _ c.in_err-rest.was c.text.ensures.steps c.text.ensures.memory
