@@ -95,9 +95,9 @@ pub datum_is_flags : AtAny "fF" mailbox_datum flags
 unfolding mailbox_datum flags exists list lsub status recent search labels msgid thrid sort gmail_label_list gmail_msgid gmail_thrid number digits
 datum_is_flags = by_any "fF" mailbox_datum flags (λ m. refl)
 
-pub datum_is_of_l : AtAny "lL" mailbox_datum list_or_lsub
+pub datum_is_list_or_lsub : AtAny "lL" mailbox_datum list_or_lsub
 unfolding mailbox_datum flags exists list lsub status recent search labels msgid thrid sort gmail_label_list gmail_msgid gmail_thrid number digits list_or_lsub
-datum_is_of_l = by_any "lL" mailbox_datum list_or_lsub (λ m. refl)
+datum_is_list_or_lsub = by_any "lL" mailbox_datum list_or_lsub (λ m. refl)
 
 pub datum_is_of_s : AtAny "sS" mailbox_datum datum_of_s
 unfolding mailbox_datum flags exists list lsub status recent search labels msgid thrid sort gmail_label_list gmail_msgid gmail_thrid number digits datum_of_s

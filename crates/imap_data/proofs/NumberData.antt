@@ -18,9 +18,9 @@ pub flags_other : Yields IsOther flags
 unfolding flags
 flags_other = made_yields Flags (λ v h. h)
 
-pub of_l_other : Yields IsOther list_or_lsub
+pub list_or_lsub_other : Yields IsOther list_or_lsub
 unfolding list_or_lsub list lsub
-of_l_other = either_yields (made_yields Listed (λ v h. h)) (made_yields Listed (λ v h. h))
+list_or_lsub_other = either_yields (made_yields Listed (λ v h. h)) (made_yields Listed (λ v h. h))
 
 pub of_s_other : Yields IsOther datum_of_s
 unfolding datum_of_s status search sort

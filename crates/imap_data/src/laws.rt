@@ -86,6 +86,7 @@ pub fn stable()
     ensures gmail_msgid { Stable gmail.gmail_msgid }
     ensures gmail_thrid { Stable gmail.gmail_thrid }
     ensures mailbox_datum { Stable mailbox_data.mailbox_datum }
+    ensures list_or_lsub { Stable mailbox_data.list_or_lsub }
     ensures quota_resource { Stable quotas.quota_resource }
     ensures quota { Stable quotas.quota }
     ensures quota_root { Stable quotas.quota_root }

@@ -9,7 +9,7 @@ use Rattle.imap_grammar.specs.Rule.{Rule, gives, many, opt, ◌▹◌, ◌◃◌
 use Rattle.imap_grammar.specs.Step.{Step, step, ◌>>=◌, beside, and_then}
 use Rattle.imap_grammar.specs.Tags.{tag, blanks0}
 use Rattle.imap_grammar.proofs.Consumption.{consumes}
-use Rattle.imap_grammar.proofs.Loops.{onto, onto_nothing, more, end, after_fault}
+use Rattle.imap_grammar.proofs.Loops.{onto, more, end, after_fault}
 use Rattle.imap_extensions.specs.Ids.{IdValue, put_pair, put_pairs, map_of_pairs, some_params, id_pair, next_pair, id_pairs, id_list, id_map}
 
 abbrev Pair : Type 0
@@ -31,9 +31,6 @@ next_pair_takes = refl
 put_more : (m : IdValue) (ps : List Pair) (p : Pair) → put_pair (put_pairs m ps) p ≡ put_pairs m (ps ++ p ∷ [])
 put_more m [] p = refl
 put_more m (q ∷ ps) p = put_more (put_pair m q) ps p
-
-pub none_put : (m : IdValue) (i : List ℕ) → Put m i i m
-none_put m i = record { pairs = []; read = onto_nothing (step (many next_pair) i); put = refl }
 
 pub one_put : (m : IdValue) (i k rest : List ℕ) (held new : IdValue) (p : Pair) → Put m i k held → step (opt next_pair) k ≡ Ok (rest, Some p) → new ≡ put_pair held p → Put m i rest new
 one_put m i k rest held new p so_far here put = record {
@@ -87,9 +84,7 @@ no_first i Failure here = tt
 no_first i Error here = rw here refl
 no_first i (Incomplete n) here = rw here refl
 
-pub first_put : (i rest : List ℕ) (held : IdValue) (p : Pair) → held ≡ empty → step id_pair i ≡ Ok (rest, p) → PutBehind i rest (put_pair held p)
-first_put i rest held p none here = record { first = p; rest = rest; read_first = here; behind = rw (← none) (none_put (put_pair held p) rest) }
-
+-- one pair more, the end of the pairs, and a fault behind them
 pub next_put : (i k rest : List ℕ) (held new : IdValue) (p : Pair) → PutBehind i k held → new ≡ held → step (opt next_pair) k ≡ Ok (rest, Some p) → PutBehind i rest (put_pair new p)
 next_put i k rest held new p so_far put here = record {
   first = so_far.first;

@@ -36,7 +36,7 @@ use Rattle.imap_data.specs.Codes.{CodeValue, code_value, HoldsNoList, BeginsList
 use Rattle.imap_data.specs.MailboxData.{mailbox_datum, list_or_lsub}
 use Rattle.imap_data.specs.MailboxValues.{IsNumber}
 use Rattle.imap_data.specs.declared.types.mailbox_data.MailboxDatum.{MailboxDatum}
-use Rattle.imap_data.proofs.NumberData.{of_l_other, solicited_other, unsolicited_other}
+use Rattle.imap_data.proofs.NumberData.{list_or_lsub_other, solicited_other, unsolicited_other}
 use Rattle.imap_extensions.specs.Acls.{list_rights}
 use Rattle.imap_extensions.specs.Ids.{IdTable, IsNil, id}
 use Rattle.imap_items.specs.declared.types.statuses.Status.{Status}
@@ -246,7 +246,7 @@ unfolding list_line
 list_failed m e =
     before TakesNone (gives MailboxData list_or_lsub or gives ListRights list_rights) (spaces ⨾ crlf) m (failed e)
     (first_of (gives MailboxData list_or_lsub) (gives ListRights list_rights) m (failed e)
-    (given TakesNone MailboxData list_or_lsub m (failed e) (λ v rest is k. absurd (of_l_other.each m v rest (reads list_or_lsub m rest v is) k)))
+    (given TakesNone MailboxData list_or_lsub m (failed e) (λ v rest is k. absurd (list_or_lsub_other.each m v rest (reads list_or_lsub m rest v is) k)))
     (made_yields ListRights (λ v h. h)))
 
 pub id_failed : (m : Bytes) (e : Fault) (part : Returned (Option IdTable)) → part ≡ Err e → SucceedsFor IsNil id m part → SucceedsFor TakesNone id_line m (failed e)

@@ -143,7 +143,7 @@ fn datum_of_x(alloc: Global, i: &[u8]) -> IResult<&[u8], MailboxDatum<'_>>
 }
 
 // Of the data those are tried, in order, that may start with the first byte.
-#[tactic(auto, using(crate::proofs::FirstBytes::datum_none, crate::proofs::FirstBytes::datum_is_flags, crate::proofs::FirstBytes::datum_is_of_l, crate::proofs::FirstBytes::datum_is_of_s, crate::proofs::FirstBytes::datum_is_of_x, crate::proofs::FirstBytes::datum_is_of_number, crate::proofs::FirstBytes::datum_other))]
+#[tactic(auto, using(crate::proofs::FirstBytes::datum_none, crate::proofs::FirstBytes::datum_is_flags, crate::proofs::FirstBytes::datum_is_list_or_lsub, crate::proofs::FirstBytes::datum_is_of_s, crate::proofs::FirstBytes::datum_is_of_x, crate::proofs::FirstBytes::datum_is_of_number, crate::proofs::FirstBytes::datum_other))]
 #[inline(always)]
 fn datum(alloc: Global, i: &[u8]) -> IResult<&[u8], MailboxDatum<'_>>
     ensures steps { Gives (λ x. mailbox_value x) result (step rules.mailbox_datum i.now) }

@@ -2,15 +2,15 @@ use Rattle.std.proofs.Common.{rules}
 use Rattle.imap_grammar.proofs.Memory.{same_kind, none_of_kind, fails_apart}
 use Rattle.imap_data.specs.MailboxValues.{mailbox_value, IsNumber}
 use Rattle.imap_data.specs.MailboxData.{mailbox_datum, flags, list_or_lsub, datum_of_s, datum_of_x}
-use Rattle.imap_data.proofs.FirstBytes.{datum_is_flags, datum_is_of_l, datum_is_of_s, datum_is_of_x}
-use Rattle.imap_data.proofs.NumberData.{flags_other, of_l_other, of_s_other, labels_other}
+use Rattle.imap_data.proofs.FirstBytes.{datum_is_flags, datum_is_list_or_lsub, datum_is_of_s, datum_is_of_x}
+use Rattle.imap_data.proofs.NumberData.{flags_other, list_or_lsub_other, of_s_other, labels_other}
 use Rattle.imap_data.proofs.readers.mailbox_data.datum.Goals as goal
 
 pub returns-in-Some-eq102-clause-memory : goal.returns-in-Some-eq102-clause-memory
 returns-in-Some-eq102-clause-memory c = same_kind IsNumber mailbox_datum flags _ _ (datum_is_flags _ (search rules)) (none_of_kind IsNumber flags _ _ flags_other)
 
 pub returns-in-Some-eq108-clause-memory : goal.returns-in-Some-eq108-clause-memory
-returns-in-Some-eq108-clause-memory c = same_kind IsNumber mailbox_datum list_or_lsub _ _ (datum_is_of_l _ (search rules)) (none_of_kind IsNumber list_or_lsub _ _ of_l_other)
+returns-in-Some-eq108-clause-memory c = same_kind IsNumber mailbox_datum list_or_lsub _ _ (datum_is_list_or_lsub _ (search rules)) (none_of_kind IsNumber list_or_lsub _ _ list_or_lsub_other)
 
 pub returns-in-Some-eq115-clause-memory : goal.returns-in-Some-eq115-clause-memory
 returns-in-Some-eq115-clause-memory c = same_kind IsNumber mailbox_datum datum_of_s _ _ (datum_is_of_s _ (search rules)) (none_of_kind IsNumber datum_of_s _ _ of_s_other)
