@@ -13,6 +13,8 @@ impl<'a> AttributeValue<'a> {
         ensures { IfOk result (λ x. attribute_value x ≡ attribute_owned self.entry) }
     {
         let owning = Owning::new(alloc);
-        self.try_map(alloc, &owning, &owning, &owning)
+        let owned = self.try_map(alloc, &owning, &owning, &owning);
+        drop(self); // By a call, as a body structure is.
+        owned
     }
 }

@@ -34,8 +34,7 @@ impl SpannedAttribute {
 
     /// The attribute that it names in m, as far as m has the bytes of its span: texts are borrowed from m where their bytes are UTF-8, byte strings always.
     ///
-    /// It rests on the bytes of the span alone, and reads no rule again. It takes memory for lists, envelopes, body structures and texts that are no UTF-8;
-    /// `Err` where there is none.
+    /// It rests on the bytes of the span alone, and reads no rule again. `Err`: no memory for lists, envelopes, body structures or texts that are no UTF-8.
     pub fn value<'a>(&self, alloc: Global, m: &'a [u8]) -> Result<AttributeValue<'a>, AllocError>
         ensures { IfOk result (λ v. attribute_value v ≡ attribute_in m.now self.now) }
     {

@@ -14,8 +14,7 @@ use imap_bytes::IResult;
 use imap_bytes::at::span::rest;
 use std::alloc::{AllocError, Global};
 
-/// A section of a message's body: `BODY`, the section in brackets, maybe the index where it starts, and its contents
-/// (RFC 3501, section 7.4.2: `BODY[<section>]<<origin octet>>`).
+/// A section of a message's body, maybe from an index on, and its contents (RFC 3501, section 7.4.2: `BODY[<section>]<<origin octet>>`).
 ///
 /// It takes memory for the path of a part. Its bytes are borrowed.
 #[tactic(auto, using(imap_grammar::proofs::Agreement::answered))]

@@ -3,4 +3,4 @@ use Rattle.imap_shapes.specs.EnvelopeValues.{address_seen}
 use Rattle.imap_shapes.proofs.maps.envelopes.mapped_list.Given as goal
 
 abbrev pub invariant-loop-address : goal.invariant-loop-address
-invariant-loop-address g l = map (address_seen g.C.Change.after) l.mapped.items ≡ map (address_seen (g.C.Change.before l.c)) (take l.address-index l.addresses.items)
+invariant-loop-address g l = map (address_seen g.C.Change.after) l.mapped.items ≡ map (address_seen (g.C.Change.before l.c)) (take l.address-index l.address-items)
