@@ -14,7 +14,7 @@ impl<'a> AttributeValue<'a> {
     {
         let owning = Owning::new(alloc);
         let owned = self.try_map(alloc, &owning, &owning, &owning);
-        drop(self); // By a call, as a body structure is.
+        drop(self); // By a call, for the reason that `BodyStructure::into_owned` gives.
         owned
     }
 }

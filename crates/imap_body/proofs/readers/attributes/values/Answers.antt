@@ -1,5 +1,7 @@
 use Rattle.std.proofs.Common.{◌++◌, ◌∷◌, [], map, ◌∙◌, ap, sym}
-use Rattle.std.proofs.lemmas.List.{map_more, take_all}
+use Rattle.std.proofs.lemmas.List.{map_more}
+use Rattle.imap_shapes.proofs.Lists.{mapped_whole}
+use Rattle.imap_body.specs.AttributeValues.{attribute_value}
 use Rattle.imap_body.specs.SpannedAttributes.{attribute_in}
 use Rattle.imap_body.proofs.readers.attributes.values.Goals as goal
 
@@ -11,4 +13,4 @@ loop-attribute-preserved c =
 pub returns : goal.returns
 returns c =
     let named = attribute_in c.args.m.now in
-    c.loop-attribute.invariant ∙ ap (map named) (take_all c.loop-attribute.attribute-index c.deref-attribute-items.result.now c.loop-attribute-test.false) ∙ ap (map named) c.deref-attribute-items.ensures.value
+    mapped_whole attribute_value named c.loop-attribute.values.items c.deref-attribute-items.result.now c.loop-attribute.attribute-index c.loop-attribute-test.false c.loop-attribute.invariant ∙ ap (map named) c.deref-attribute-items.ensures.value
