@@ -14,7 +14,7 @@ impl<'a> AttributeValue<'a> {
     {
         let owning = Owning::new(alloc);
         let owned = self.try_map(alloc, &owning, &owning, &owning);
-        drop(self); // By a call, for the reason that `BodyStructure::into_owned` gives.
+        drop(self); // By a call, as `imap_shapes` drops what it owns.
         owned
     }
 }

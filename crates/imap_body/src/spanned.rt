@@ -10,10 +10,10 @@ ghost use Rattle.imap_body.specs.Attributes as rules;
 use crate::at::attributes::attribute;
 use crate::maps::Decoding;
 use crate::types::attributes::{AttributeSpans, AttributeValue};
-use imap_bytes::Err;
 use imap_bytes::at::parenthesized_nonempty_list;
 use imap_shapes::maps::changes::NamedBytes;
 use imap_shapes::spans::Span;
+use imap_structure::at::Reached;
 use std::alloc::{AllocError, Global};
 
 /// An attribute of a message as positions and numbers.
@@ -73,7 +73,7 @@ impl AttributeSpans {
 
 // The attribute at p, with its span.
 #[tactic(auto, using(crate::proofs::Standing::attribute_named, crate::proofs::Standing::attribute_rests))]
-fn spanned_attribute(alloc: Global, m: &[u8], p: usize) -> Result<(usize, SpannedAttribute), Err>
+fn spanned_attribute(alloc: Global, m: &[u8], p: usize) -> Reached<SpannedAttribute>
     requires { p ≤ length m.now }
     ensures steps { GivesAt (λ x. attribute_in m.now x) m.now result (step rules.attribute (drop p m.now)) }
     ensures ahead { Ahead m.now p result }
@@ -91,11 +91,7 @@ fn spanned_attribute(alloc: Global, m: &[u8], p: usize) -> Result<(usize, Spanne
 /// The attributes of a message in parentheses (RFC 3501, section 9: msg-att), each as its positions in m.
 ///
 /// It takes memory for the list and for what the attributes list, and for no text.
-pub fn attribute_list_at(
-    alloc: Global,
-    m: &[u8],
-    p: usize,
-) -> Result<(usize, Vec<SpannedAttribute>), Err>
+pub fn attribute_list_at(alloc: Global, m: &[u8], p: usize) -> Reached<Vec<SpannedAttribute>>
     requires { p ≤ length m.now }
     ensures steps { GivesAt (λ x. map (attribute_in m.now) x.items) m.now result (step rules.attribute_list (drop p m.now)) }
     ensures answer { AnswersAt rules.attribute_list (λ x. map (attribute_in m.now) x.items) m.now p result }

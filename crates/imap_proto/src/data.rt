@@ -58,11 +58,14 @@ fn line_end(i: &[u8]) -> IResult<&[u8], (&[u8], &[u8])>
 
 // Where the reader answers, ends its line and answers the response that is made of what it found; goes on where it denies.
 macro_rules! line {
-    ($answer:expr, $found:pat => $response:expr) => {
+    ($answer:expr, $found:ident => $response:expr) => {
         match $answer {
             Ok((rest, $found)) => match line_end(rest) {
                 Ok((rest, _)) => return Ok((rest, $response)),
-                Err(e) => return Err(e),
+                Err(e) => {
+                    drop($found); // By a call, for the reason that `made!` gives.
+                    return Err(e);
+                }
             },
             Err(Err::Error) => {}
             Err(e) => return Err(e),
@@ -98,9 +101,9 @@ fn fetched(alloc: Global, i: &[u8]) -> IResult<&[u8], Vec<AttributeValue<'_>>>
 pub(crate) fn count_line<'a>(n: u32, i: &'a [u8]) -> IResult<&'a [u8], Response<'a>>
     ensures { Exactly response_value result (step (rule.count_line n) i.now) }
 {
-    line!(word(b" EXISTS", i), _ => Response::MailboxData(MailboxDatum::Exists(n)));
-    line!(word(b" RECENT", i), _ => Response::MailboxData(MailboxDatum::Recent(n)));
-    line!(word(b" EXPUNGE", i), _ => Response::Expunge(n));
+    line!(word(b" EXISTS", i), found => Response::MailboxData(MailboxDatum::Exists(n)));
+    line!(word(b" RECENT", i), found => Response::MailboxData(MailboxDatum::Recent(n)));
+    line!(word(b" EXPUNGE", i), found => Response::Expunge(n));
     Err(Err::Error)
 }
 
@@ -173,7 +176,7 @@ pub(crate) fn annotation_line(alloc: Global, i: &[u8]) -> IResult<&[u8], Respons
 pub(crate) fn vanished_line(alloc: Global, i: &[u8]) -> IResult<&[u8], Response<'_>>
     ensures { Gives response_value result (step rule.vanished_line i.now) }
 {
-    line!(vanished(alloc, i), (earlier, uids) => Response::Vanished { earlier, uids });
+    line!(vanished(alloc, i), found => Response::Vanished { earlier: found.0, uids: found.1 });
     Err(Err::Error)
 }
 

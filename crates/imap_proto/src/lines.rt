@@ -21,6 +21,7 @@ use imap_bytes::strings::as_utf8;
 use imap_bytes::tags::{cut1, maybe_space, tag};
 use imap_bytes::{Err, IResult, Needed, is_astring_char, number};
 use imap_data::readers::status;
+use imap_shapes::made;
 use std::alloc::Global;
 
 #[tactic(auto, unfolding(crate::specs::Lines::continuation))]
@@ -32,7 +33,7 @@ fn continuation(alloc: Global, i: &[u8]) -> IResult<&[u8], Response<'_>>
     let (rest, _) = tag(b"+", i)?;
     let (rest, _) = maybe_space(rest)?;
     let (rest, outcome) = outcome(alloc, rest)?;
-    let (rest, _) = tag(b"\r\n", rest)?;
+    let (rest, _) = made!(tag(b"\r\n", rest), outcome);
     Ok((rest, Response::Continue(outcome)))
 }
 
@@ -75,7 +76,7 @@ fn tagged(alloc: Global, i: &[u8]) -> IResult<&[u8], Response<'_>>
     let (rest, _) = tag(b" ", rest)?;
     let (rest, status) = status(rest)?;
     let (rest, outcome) = spaced_outcome(alloc, rest)?;
-    let (rest, _) = tag(b"\r\n", rest)?;
+    let (rest, _) = made!(tag(b"\r\n", rest), outcome);
     let tag = RequestId(String::from_str(alloc, tag_text)?);
     Ok((
         rest,

@@ -1,5 +1,20 @@
 //! One map a type over its texts: copies, owned values and what spans name are instances of it.
 
+/// What a call made, or its error. What was made before it is dropped by a call each: where `?` drops large values in
+/// place, what is in them is proved there again, part by part, at each `?`.
+#[macro_export]
+macro_rules! made {
+    ($made:expr $(, $before:ident)*) => {
+        match $made {
+            Ok(made) => made,
+            Err(error) => {
+                $(drop($before);)*
+                return Err(error);
+            }
+        }
+    };
+}
+
 pub mod bodies;
 pub mod change;
 pub mod changes;

@@ -1,4 +1,7 @@
 //! The same values with all texts owned. They are consumed, and `Err` where there is no memory.
+//!
+//! Each is dropped by a call. Where it is dropped in place, at the end of the function, what is in it is proved there
+//! again, part by part, which takes three to five times as long.
 
 ghost use Rattle.std.specs.Prelude.{◌≡◌, IfOk};
 ghost use Rattle.imap_grammar.specs.Text.{text_of};
@@ -21,7 +24,9 @@ impl<'a> Address<'a> {
     pub fn into_owned(self, alloc: Global) -> Result<Address<'static>, AllocError>
         ensures { IfOk result (λ x. address_seen bytes_of x ≡ address_seen bytes_owned self.entry) }
     {
-        self.try_map(&Owning::new(alloc))
+        let owned = self.try_map(&Owning::new(alloc));
+        drop(self);
+        owned
     }
 }
 
@@ -30,7 +35,9 @@ impl<'a> Envelope<'a> {
     pub fn into_owned(self, alloc: Global) -> Result<Envelope<'static>, AllocError>
         ensures { IfOk result (λ x. envelope_seen bytes_of x ≡ envelope_seen bytes_owned self.entry) }
     {
-        self.try_map(alloc, &Owning::new(alloc))
+        let owned = self.try_map(alloc, &Owning::new(alloc));
+        drop(self);
+        owned
     }
 }
 
@@ -39,7 +46,9 @@ impl<'a> ContentEncoding<'a> {
     pub fn into_owned(self, alloc: Global) -> Result<ContentEncoding<'static>, AllocError>
         ensures { IfOk result (λ x. encoding_seen text_of x ≡ encoding_seen text_owned self.entry) }
     {
-        self.try_map(&Owning::new(alloc))
+        let owned = self.try_map(&Owning::new(alloc));
+        drop(self);
+        owned
     }
 }
 
@@ -48,7 +57,9 @@ impl<'a> BodyFields<'a> {
     pub fn into_owned(self, alloc: Global) -> Result<BodyFields<'static>, AllocError>
         ensures { IfOk result (λ x. fields_seen text_of x ≡ fields_seen text_owned self.entry) }
     {
-        self.try_map(alloc, &Owning::new(alloc))
+        let owned = self.try_map(alloc, &Owning::new(alloc));
+        drop(self);
+        owned
     }
 }
 
@@ -57,7 +68,9 @@ impl<'a> ContentDisposition<'a> {
     pub fn into_owned(self, alloc: Global) -> Result<ContentDisposition<'static>, AllocError>
         ensures { IfOk result (λ x. disposition_seen text_of x ≡ disposition_seen text_owned self.entry) }
     {
-        self.try_map(alloc, &Owning::new(alloc))
+        let owned = self.try_map(alloc, &Owning::new(alloc));
+        drop(self);
+        owned
     }
 }
 
@@ -66,7 +79,9 @@ impl<'a> BodyExtension<'a> {
     pub fn into_owned(self, alloc: Global) -> Result<BodyExtension<'static>, AllocError>
         ensures { IfOk result (λ x. extension_seen text_of x ≡ extension_seen text_owned self.entry) }
     {
-        self.try_map(alloc, &Owning::new(alloc))
+        let owned = self.try_map(alloc, &Owning::new(alloc));
+        drop(self);
+        owned
     }
 }
 
@@ -75,7 +90,9 @@ impl<'a> BodyExt1Part<'a> {
     pub fn into_owned(self, alloc: Global) -> Result<BodyExt1Part<'static>, AllocError>
         ensures { IfOk result (λ x. ext_1part_seen text_of x ≡ ext_1part_seen text_owned self.entry) }
     {
-        self.try_map(alloc, &Owning::new(alloc))
+        let owned = self.try_map(alloc, &Owning::new(alloc));
+        drop(self);
+        owned
     }
 }
 
@@ -84,7 +101,9 @@ impl<'a> BodyExtMPart<'a> {
     pub fn into_owned(self, alloc: Global) -> Result<BodyExtMPart<'static>, AllocError>
         ensures { IfOk result (λ x. ext_mpart_seen text_of x ≡ ext_mpart_seen text_owned self.entry) }
     {
-        self.try_map(alloc, &Owning::new(alloc))
+        let owned = self.try_map(alloc, &Owning::new(alloc));
+        drop(self);
+        owned
     }
 }
 
@@ -93,7 +112,9 @@ impl<'a> ContentType<'a> {
     pub fn into_owned(self, alloc: Global) -> Result<ContentType<'static>, AllocError>
         ensures { IfOk result (λ x. type_seen text_of x ≡ type_seen text_owned self.entry) }
     {
-        self.try_map(alloc, &Owning::new(alloc))
+        let owned = self.try_map(alloc, &Owning::new(alloc));
+        drop(self);
+        owned
     }
 }
 
@@ -102,7 +123,9 @@ impl<'a> BodyContentCommon<'a> {
     pub fn into_owned(self, alloc: Global) -> Result<BodyContentCommon<'static>, AllocError>
         ensures { IfOk result (λ x. common_seen text_of x ≡ common_seen text_owned self.entry) }
     {
-        self.try_map(alloc, &Owning::new(alloc))
+        let owned = self.try_map(alloc, &Owning::new(alloc));
+        drop(self);
+        owned
     }
 }
 
@@ -111,7 +134,9 @@ impl<'a> BodyContentSinglePart<'a> {
     pub fn into_owned(self, alloc: Global) -> Result<BodyContentSinglePart<'static>, AllocError>
         ensures { IfOk result (λ x. single_seen text_of x ≡ single_seen text_owned self.entry) }
     {
-        self.try_map(&Owning::new(alloc))
+        let owned = self.try_map(&Owning::new(alloc));
+        drop(self);
+        owned
     }
 }
 
@@ -121,7 +146,6 @@ impl<'a> BodyStructure<'a> {
         ensures { IfOk result (λ x. body_seen text_of bytes_of x ≡ body_seen text_owned bytes_owned self.entry) }
     {
         let owned = Owning::new(alloc).change_body(&self);
-        // By a call: where it is dropped in place, each of its kinds is proved here again, which takes five times as long.
         drop(self);
         owned
     }

@@ -18,13 +18,14 @@ use imap_bytes::at::tags::{cut0, cut1, maybe_space, tag, word};
 use imap_bytes::strings::as_utf8;
 use imap_bytes::{Err, Needed, first, maybe};
 use imap_items::at::{flag_list, gmail_label_list};
+use imap_structure::at::Reached;
 use imap_structure::at::bodies::body_structure;
 use imap_structure::at::envelopes::envelope;
 use imap_structure::at::texts::{byte_string, spaced_byte_string};
 use std::alloc::Global;
 
 #[tactic(auto, unfolding(crate::specs::Attributes::origin))]
-fn origin(m: &[u8], p: usize) -> Result<(usize, u32), Err>
+fn origin(m: &[u8], p: usize) -> Reached<u32>
     requires { p ≤ length m.now }
     ensures steps { ExactlyAt (λ x. x) m.now result (step rules.origin (drop p m.now)) }
     ensures ahead { Ahead m.now p result }
@@ -35,7 +36,7 @@ fn origin(m: &[u8], p: usize) -> Result<(usize, u32), Err>
     Ok((p, index))
 }
 
-fn maybe_origin(m: &[u8], p: usize) -> Result<(usize, Option<u32>), Err>
+fn maybe_origin(m: &[u8], p: usize) -> Reached<Option<u32>>
     requires { p ≤ length m.now }
     ensures steps { ExactlyAt (λ x. x) m.now result (step (opt rules.origin) (drop p m.now)) }
     ensures ahead { Ahead m.now p result }
@@ -44,7 +45,7 @@ fn maybe_origin(m: &[u8], p: usize) -> Result<(usize, Option<u32>), Err>
 }
 
 #[tactic(auto, unfolding(crate::specs::Attributes::section_contents))]
-fn section_contents(alloc: Global, m: &[u8], p: usize) -> Result<(usize, AttributeSpans), Err>
+fn section_contents(alloc: Global, m: &[u8], p: usize) -> Reached<AttributeSpans>
     requires { p ≤ length m.now }
     ensures steps { GivesAt (λ x. parts_in m.now x) m.now result (step rules.section_contents (drop p m.now)) }
     ensures ahead { Ahead m.now p result }
@@ -65,11 +66,7 @@ fn section_contents(alloc: Global, m: &[u8], p: usize) -> Result<(usize, Attribu
 
 /// A section of a message's body (RFC 3501, section 7.4.2: `BODY[<section>]<<origin octet>>`).
 #[tactic(auto, unfolding(crate::specs::Attributes::msg_att_body_section))]
-pub fn msg_att_body_section(
-    alloc: Global,
-    m: &[u8],
-    p: usize,
-) -> Result<(usize, AttributeSpans), Err>
+pub fn msg_att_body_section(alloc: Global, m: &[u8], p: usize) -> Reached<AttributeSpans>
     requires { p ≤ length m.now }
     ensures steps { GivesAt (λ x. parts_in m.now x) m.now result (step rules.msg_att_body_section (drop p m.now)) }
     ensures ahead { Ahead m.now p result }
@@ -80,7 +77,7 @@ pub fn msg_att_body_section(
 }
 
 #[tactic(auto, using(crate::proofs::Resting::structure_rests), unfolding(crate::specs::Attributes::structure))]
-fn structure(alloc: Global, m: &[u8], p: usize) -> Result<(usize, AttributeSpans), Err>
+fn structure(alloc: Global, m: &[u8], p: usize) -> Reached<AttributeSpans>
     requires { p ≤ length m.now }
     ensures steps { GivesAt (λ x. parts_in m.now x) m.now result (step rules.structure (drop p m.now)) }
     ensures ahead { Ahead m.now p result }
@@ -93,7 +90,7 @@ fn structure(alloc: Global, m: &[u8], p: usize) -> Result<(usize, AttributeSpans
 
 // `BODY` is read once, whether a section or `STRUCTURE` stands behind it.
 #[tactic(auto, unfolding(crate::specs::Attributes::body_attribute))]
-fn body_attribute(alloc: Global, m: &[u8], p: usize) -> Result<(usize, AttributeSpans), Err>
+fn body_attribute(alloc: Global, m: &[u8], p: usize) -> Reached<AttributeSpans>
     requires { p ≤ length m.now }
     ensures steps { GivesAt (λ x. parts_in m.now x) m.now result (step rules.body_attribute (drop p m.now)) }
     ensures ahead { Ahead m.now p result }
@@ -105,7 +102,7 @@ fn body_attribute(alloc: Global, m: &[u8], p: usize) -> Result<(usize, Attribute
 }
 
 #[tactic(auto, unfolding(crate::specs::Attributes::whole_message))]
-fn whole_message(m: &[u8], p: usize) -> Result<(usize, AttributeSpans), Err>
+fn whole_message(m: &[u8], p: usize) -> Reached<AttributeSpans>
     requires { p ≤ length m.now }
     ensures steps { ExactlyAt (λ x. parts_in m.now x) m.now result (step rules.whole_message (drop p m.now)) }
     ensures ahead { Ahead m.now p result }
@@ -117,7 +114,7 @@ fn whole_message(m: &[u8], p: usize) -> Result<(usize, AttributeSpans), Err>
 }
 
 #[tactic(auto, unfolding(crate::specs::Attributes::message_header))]
-fn message_header(m: &[u8], p: usize) -> Result<(usize, AttributeSpans), Err>
+fn message_header(m: &[u8], p: usize) -> Reached<AttributeSpans>
     requires { p ≤ length m.now }
     ensures steps { ExactlyAt (λ x. parts_in m.now x) m.now result (step rules.message_header (drop p m.now)) }
     ensures ahead { Ahead m.now p result }
@@ -130,7 +127,7 @@ fn message_header(m: &[u8], p: usize) -> Result<(usize, AttributeSpans), Err>
 }
 
 #[tactic(auto, unfolding(crate::specs::Attributes::message_size))]
-fn message_size(m: &[u8], p: usize) -> Result<(usize, AttributeSpans), Err>
+fn message_size(m: &[u8], p: usize) -> Reached<AttributeSpans>
     requires { p ≤ length m.now }
     ensures steps { ExactlyAt (λ x. parts_in m.now x) m.now result (step rules.message_size (drop p m.now)) }
     ensures ahead { Ahead m.now p result }
@@ -142,7 +139,7 @@ fn message_size(m: &[u8], p: usize) -> Result<(usize, AttributeSpans), Err>
 }
 
 #[tactic(auto, unfolding(crate::specs::Attributes::message_text))]
-fn message_text(m: &[u8], p: usize) -> Result<(usize, AttributeSpans), Err>
+fn message_text(m: &[u8], p: usize) -> Reached<AttributeSpans>
     requires { p ≤ length m.now }
     ensures steps { ExactlyAt (λ x. parts_in m.now x) m.now result (step rules.message_text (drop p m.now)) }
     ensures ahead { Ahead m.now p result }
@@ -154,7 +151,7 @@ fn message_text(m: &[u8], p: usize) -> Result<(usize, AttributeSpans), Err>
 }
 
 #[tactic(auto, unfolding(crate::specs::Attributes::message_part))]
-fn message_part(m: &[u8], p: usize) -> Result<(usize, AttributeSpans), Err>
+fn message_part(m: &[u8], p: usize) -> Reached<AttributeSpans>
     requires { p ≤ length m.now }
     ensures steps { ExactlyAt (λ x. parts_in m.now x) m.now result (step rules.message_part (drop p m.now)) }
     ensures ahead { Ahead m.now p result }
@@ -168,7 +165,7 @@ fn message_part(m: &[u8], p: usize) -> Result<(usize, AttributeSpans), Err>
 
 // `RFC822` is read once, whether the whole message or a part of it is meant.
 #[tactic(auto, unfolding(crate::specs::Attributes::message_attribute))]
-fn message_attribute(m: &[u8], p: usize) -> Result<(usize, AttributeSpans), Err>
+fn message_attribute(m: &[u8], p: usize) -> Reached<AttributeSpans>
     requires { p ≤ length m.now }
     ensures steps { ExactlyAt (λ x. parts_in m.now x) m.now result (step rules.message_attribute (drop p m.now)) }
     ensures ahead { Ahead m.now p result }
@@ -180,7 +177,7 @@ fn message_attribute(m: &[u8], p: usize) -> Result<(usize, AttributeSpans), Err>
 }
 
 #[tactic(auto, using(crate::proofs::Resting::envelope_rests), unfolding(crate::specs::Attributes::msg_att_envelope))]
-fn msg_att_envelope(alloc: Global, m: &[u8], p: usize) -> Result<(usize, AttributeSpans), Err>
+fn msg_att_envelope(alloc: Global, m: &[u8], p: usize) -> Reached<AttributeSpans>
     requires { p ≤ length m.now }
     ensures steps { GivesAt (λ x. parts_in m.now x) m.now result (step rules.msg_att_envelope (drop p m.now)) }
     ensures ahead { Ahead m.now p result }
@@ -192,7 +189,7 @@ fn msg_att_envelope(alloc: Global, m: &[u8], p: usize) -> Result<(usize, Attribu
 }
 
 #[tactic(auto, using(imap_items::proofs::Spanned::text_rests), unfolding(crate::specs::Attributes::date, imap_bytes::specs::Texts::string_utf8))]
-fn date(m: &[u8], p: usize) -> Result<(usize, Span), Err>
+fn date(m: &[u8], p: usize) -> Reached<Span>
     requires { p ≤ length m.now }
     ensures steps { ExactlyAt (λ x. text_in m.now x) m.now result (step rules.date (drop p m.now)) }
     ensures ahead { Ahead m.now p result }
@@ -203,7 +200,7 @@ fn date(m: &[u8], p: usize) -> Result<(usize, Span), Err>
 }
 
 #[tactic(auto, unfolding(crate::specs::Attributes::msg_att_internal_date))]
-fn msg_att_internal_date(m: &[u8], p: usize) -> Result<(usize, AttributeSpans), Err>
+fn msg_att_internal_date(m: &[u8], p: usize) -> Reached<AttributeSpans>
     requires { p ≤ length m.now }
     ensures steps { ExactlyAt (λ x. parts_in m.now x) m.now result (step rules.msg_att_internal_date (drop p m.now)) }
     ensures ahead { Ahead m.now p result }
@@ -215,7 +212,7 @@ fn msg_att_internal_date(m: &[u8], p: usize) -> Result<(usize, AttributeSpans), 
 }
 
 #[tactic(auto, unfolding(crate::specs::Attributes::msg_att_flags))]
-fn msg_att_flags(alloc: Global, m: &[u8], p: usize) -> Result<(usize, AttributeSpans), Err>
+fn msg_att_flags(alloc: Global, m: &[u8], p: usize) -> Reached<AttributeSpans>
     requires { p ≤ length m.now }
     ensures steps { GivesAt (λ x. parts_in m.now x) m.now result (step rules.msg_att_flags (drop p m.now)) }
     ensures ahead { Ahead m.now p result }
@@ -227,7 +224,7 @@ fn msg_att_flags(alloc: Global, m: &[u8], p: usize) -> Result<(usize, AttributeS
 }
 
 #[tactic(auto, unfolding(crate::specs::Attributes::msg_att_uid))]
-fn msg_att_uid(m: &[u8], p: usize) -> Result<(usize, AttributeSpans), Err>
+fn msg_att_uid(m: &[u8], p: usize) -> Reached<AttributeSpans>
     requires { p ≤ length m.now }
     ensures steps { ExactlyAt (λ x. parts_in m.now x) m.now result (step rules.msg_att_uid (drop p m.now)) }
     ensures ahead { Ahead m.now p result }
@@ -239,7 +236,7 @@ fn msg_att_uid(m: &[u8], p: usize) -> Result<(usize, AttributeSpans), Err>
 }
 
 #[tactic(auto, unfolding(crate::specs::Attributes::msg_att_mod_seq))]
-fn msg_att_mod_seq(m: &[u8], p: usize) -> Result<(usize, AttributeSpans), Err>
+fn msg_att_mod_seq(m: &[u8], p: usize) -> Reached<AttributeSpans>
     requires { p ≤ length m.now }
     ensures steps { ExactlyAt (λ x. parts_in m.now x) m.now result (step rules.msg_att_mod_seq (drop p m.now)) }
     ensures ahead { Ahead m.now p result }
@@ -253,7 +250,7 @@ fn msg_att_mod_seq(m: &[u8], p: usize) -> Result<(usize, AttributeSpans), Err>
 }
 
 #[tactic(auto, unfolding(crate::specs::Attributes::msg_att_gmail_labels))]
-fn msg_att_gmail_labels(alloc: Global, m: &[u8], p: usize) -> Result<(usize, AttributeSpans), Err>
+fn msg_att_gmail_labels(alloc: Global, m: &[u8], p: usize) -> Reached<AttributeSpans>
     requires { p ≤ length m.now }
     ensures steps { GivesAt (λ x. parts_in m.now x) m.now result (step rules.msg_att_gmail_labels (drop p m.now)) }
     ensures ahead { Ahead m.now p result }
@@ -264,7 +261,7 @@ fn msg_att_gmail_labels(alloc: Global, m: &[u8], p: usize) -> Result<(usize, Att
 }
 
 #[tactic(auto, unfolding(crate::specs::Attributes::msg_att_gmail_msgid, imap_items::specs::Gmail::gmail_msgid))]
-fn msg_att_gmail_msgid(m: &[u8], p: usize) -> Result<(usize, AttributeSpans), Err>
+fn msg_att_gmail_msgid(m: &[u8], p: usize) -> Reached<AttributeSpans>
     requires { p ≤ length m.now }
     ensures steps { ExactlyAt (λ x. parts_in m.now x) m.now result (step rules.msg_att_gmail_msgid (drop p m.now)) }
     ensures ahead { Ahead m.now p result }
@@ -276,7 +273,7 @@ fn msg_att_gmail_msgid(m: &[u8], p: usize) -> Result<(usize, AttributeSpans), Er
 }
 
 #[tactic(auto, unfolding(crate::specs::Attributes::msg_att_gmail_thrid, imap_items::specs::Gmail::gmail_thrid))]
-fn msg_att_gmail_thrid(m: &[u8], p: usize) -> Result<(usize, AttributeSpans), Err>
+fn msg_att_gmail_thrid(m: &[u8], p: usize) -> Reached<AttributeSpans>
     requires { p ≤ length m.now }
     ensures steps { ExactlyAt (λ x. parts_in m.now x) m.now result (step rules.msg_att_gmail_thrid (drop p m.now)) }
     ensures ahead { Ahead m.now p result }
@@ -288,7 +285,7 @@ fn msg_att_gmail_thrid(m: &[u8], p: usize) -> Result<(usize, AttributeSpans), Er
 }
 
 #[tactic(auto, using(imap_grammar::proofs::Positions::kept_self), unfolding(crate::specs::Attributes::id_bytes))]
-fn id_bytes(m: &[u8], p: usize) -> Result<(usize, Span), Err>
+fn id_bytes(m: &[u8], p: usize) -> Reached<Span>
     requires { p ≤ length m.now }
     ensures steps { ExactlyAt (λ x. named_in m.now x) m.now result (step rules.id_bytes (drop p m.now)) }
     ensures inside { Inside m.now p result }
@@ -301,7 +298,7 @@ fn id_bytes(m: &[u8], p: usize) -> Result<(usize, Span), Err>
 }
 
 #[tactic(auto, using(crate::proofs::Resting::id_decoded, imap_items::proofs::Spanned::text_rests), unfolding(crate::specs::Attributes::object_id))]
-fn object_id(m: &[u8], p: usize) -> Result<(usize, Span), Err>
+fn object_id(m: &[u8], p: usize) -> Reached<Span>
     requires { p ≤ length m.now }
     ensures steps { ExactlyAt (λ x. text_in m.now x) m.now result (step rules.object_id (drop p m.now)) }
     ensures ahead { Ahead m.now p result }
@@ -312,7 +309,7 @@ fn object_id(m: &[u8], p: usize) -> Result<(usize, Span), Err>
 }
 
 #[tactic(auto, unfolding(crate::specs::Attributes::bracketed_id))]
-fn bracketed_id(m: &[u8], p: usize) -> Result<(usize, Span), Err>
+fn bracketed_id(m: &[u8], p: usize) -> Reached<Span>
     requires { p ≤ length m.now }
     ensures steps { ExactlyAt (λ x. text_in m.now x) m.now result (step rules.bracketed_id (drop p m.now)) }
     ensures ahead { Ahead m.now p result }
@@ -325,7 +322,7 @@ fn bracketed_id(m: &[u8], p: usize) -> Result<(usize, Span), Err>
 }
 
 #[tactic(auto, unfolding(crate::specs::Attributes::msg_att_email_id))]
-fn msg_att_email_id(m: &[u8], p: usize) -> Result<(usize, AttributeSpans), Err>
+fn msg_att_email_id(m: &[u8], p: usize) -> Reached<AttributeSpans>
     requires { p ≤ length m.now }
     ensures steps { ExactlyAt (λ x. parts_in m.now x) m.now result (step rules.msg_att_email_id (drop p m.now)) }
     ensures ahead { Ahead m.now p result }
@@ -337,7 +334,7 @@ fn msg_att_email_id(m: &[u8], p: usize) -> Result<(usize, AttributeSpans), Err>
 }
 
 #[tactic(auto, unfolding(crate::specs::Attributes::msg_att_thread_id))]
-fn msg_att_thread_id(m: &[u8], p: usize) -> Result<(usize, AttributeSpans), Err>
+fn msg_att_thread_id(m: &[u8], p: usize) -> Reached<AttributeSpans>
     requires { p ≤ length m.now }
     ensures steps { ExactlyAt (λ x. parts_in m.now x) m.now result (step rules.msg_att_thread_id (drop p m.now)) }
     ensures ahead { Ahead m.now p result }
@@ -363,7 +360,7 @@ fn inside_end(i: &[u8]) -> Option<usize>
     i.iter().position(|c| !is_inside(*c))
 }
 
-fn inside(m: &[u8], p: usize) -> Result<(usize, Span), Err>
+fn inside(m: &[u8], p: usize) -> Reached<Span>
     requires { p ≤ length m.now }
     ensures steps { ExactlyAt (λ x. named_in m.now x) m.now result (step (run0 rules.is_inside) (drop p m.now)) }
     ensures inside { Inside m.now p result }
@@ -386,7 +383,7 @@ fn bare_end(i: &[u8]) -> Option<usize>
     i.iter().position(|c| !is_bare(*c))
 }
 
-fn bare(m: &[u8], p: usize) -> Result<(usize, Span), Err>
+fn bare(m: &[u8], p: usize) -> Reached<Span>
     requires { p ≤ length m.now }
     ensures steps { ExactlyAt (λ x. named_in m.now x) m.now result (step (run1 rules.is_bare) (drop p m.now)) }
     ensures inside { Inside m.now p result }
@@ -396,7 +393,7 @@ fn bare(m: &[u8], p: usize) -> Result<(usize, Span), Err>
 }
 
 #[tactic(auto, unfolding(crate::specs::Attributes::skipped_brackets))]
-fn skipped_brackets(m: &[u8], p: usize) -> Result<(usize, ()), Err>
+fn skipped_brackets(m: &[u8], p: usize) -> Reached<()>
     requires { p ≤ length m.now }
     ensures steps { ExactlyAt (λ x. tt) m.now result (step rules.skipped_brackets (drop p m.now)) }
     ensures ahead { Ahead m.now p result }
@@ -408,7 +405,7 @@ fn skipped_brackets(m: &[u8], p: usize) -> Result<(usize, ()), Err>
 }
 
 #[tactic(auto, unfolding(crate::specs::Attributes::skipped_nstring))]
-fn skipped_nstring(m: &[u8], p: usize) -> Result<(usize, ()), Err>
+fn skipped_nstring(m: &[u8], p: usize) -> Reached<()>
     requires { p ≤ length m.now }
     ensures steps { ExactlyAt (λ x. tt) m.now result (step rules.skipped_nstring (drop p m.now)) }
     ensures ahead { Ahead m.now p result }
@@ -419,7 +416,7 @@ fn skipped_nstring(m: &[u8], p: usize) -> Result<(usize, ()), Err>
 
 // A value that is skipped, whatever it holds.
 #[tactic(auto, unfolding(crate::specs::Attributes::skipped_value, crate::specs::Attributes::skipped_bare))]
-fn skipped_value(m: &[u8], p: usize) -> Result<(usize, ()), Err>
+fn skipped_value(m: &[u8], p: usize) -> Reached<()>
     requires { p ≤ length m.now }
     ensures steps { ExactlyAt (λ x. tt) m.now result (step rules.skipped_value (drop p m.now)) }
     ensures ahead { Ahead m.now p result }
@@ -432,7 +429,7 @@ fn skipped_value(m: &[u8], p: usize) -> Result<(usize, ()), Err>
 
 // Any other attribute: its name, and a value that is skipped.
 #[tactic(auto, unfolding(crate::specs::Attributes::msg_att_unknown))]
-fn msg_att_unknown(m: &[u8], p: usize) -> Result<(usize, AttributeSpans), Err>
+fn msg_att_unknown(m: &[u8], p: usize) -> Reached<AttributeSpans>
     requires { p ≤ length m.now }
     ensures steps { ExactlyAt (λ x. parts_in m.now x) m.now result (step rules.msg_att_unknown (drop p m.now)) }
     ensures ahead { Ahead m.now p result }
@@ -456,7 +453,7 @@ macro_rules! known {
 ///
 /// It takes memory for lists, envelopes and body structures.
 #[tactic(auto, using(crate::proofs::AttributeFirstBytes::attribute_none, crate::proofs::AttributeFirstBytes::attribute_is_of_b, crate::proofs::AttributeFirstBytes::attribute_is_of_e, crate::proofs::AttributeFirstBytes::attribute_is_of_f, crate::proofs::AttributeFirstBytes::attribute_is_of_i, crate::proofs::AttributeFirstBytes::attribute_is_of_m, crate::proofs::AttributeFirstBytes::attribute_is_of_r, crate::proofs::AttributeFirstBytes::attribute_is_of_t, crate::proofs::AttributeFirstBytes::attribute_is_of_u, crate::proofs::AttributeFirstBytes::attribute_is_of_x, crate::proofs::AttributeFirstBytes::attribute_other), unfolding(crate::specs::Attributes::attribute_of_b, crate::specs::Attributes::attribute_of_e, crate::specs::Attributes::attribute_of_f, crate::specs::Attributes::attribute_of_i, crate::specs::Attributes::attribute_of_m, crate::specs::Attributes::attribute_of_r, crate::specs::Attributes::attribute_of_t, crate::specs::Attributes::attribute_of_u, crate::specs::Attributes::attribute_of_x))]
-pub fn attribute(alloc: Global, m: &[u8], p: usize) -> Result<(usize, AttributeSpans), Err>
+pub fn attribute(alloc: Global, m: &[u8], p: usize) -> Reached<AttributeSpans>
     requires { p ≤ length m.now }
     ensures steps { GivesAt (λ x. parts_in m.now x) m.now result (step rules.attribute (drop p m.now)) }
     ensures ahead { Ahead m.now p result }

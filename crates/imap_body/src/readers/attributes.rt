@@ -23,7 +23,9 @@ pub fn msg_att_body_section(alloc: Global, i: &[u8]) -> IResult<&[u8], Attribute
     ensures answer { Answers rules.msg_att_body_section (λ x. attribute_value x) i.now result }
 {
     let (q, spans) = at::attributes::msg_att_body_section(alloc, i, 0)?;
-    Ok((rest(i, q), spans.value(alloc, i)?))
+    let value = spans.value(alloc, i);
+    drop(spans);
+    Ok((rest(i, q), value?))
 }
 
 /// An attribute of a message (RFC 3501, section 9: msg-att; RFC 7162, section 7; RFC 8474, section 7; Gmail's X-GM-EXT-1). Any other,
@@ -36,7 +38,9 @@ pub fn attribute(alloc: Global, i: &[u8]) -> IResult<&[u8], AttributeValue<'_>>
     ensures answer { Answers rules.attribute (λ x. attribute_value x) i.now result }
 {
     let (q, spans) = at::attributes::attribute(alloc, i, 0)?;
-    Ok((rest(i, q), spans.value(alloc, i)?))
+    let value = spans.value(alloc, i);
+    drop(spans);
+    Ok((rest(i, q), value?))
 }
 
 /// What the attributes name in a message.
@@ -63,5 +67,7 @@ pub fn attribute_list(alloc: Global, i: &[u8]) -> IResult<&[u8], Vec<AttributeVa
     ensures answer { Answers rules.attribute_list (λ x. map attribute_value x.items) i.now result }
 {
     let (q, spans) = attribute_list_at(alloc, i, 0)?;
-    Ok((rest(i, q), values(alloc, &spans, i)?))
+    let values = values(alloc, &spans, i);
+    drop(spans);
+    Ok((rest(i, q), values?))
 }

@@ -41,11 +41,15 @@ impl<S> BodyContentCommon<S> {
     ) -> Result<BodyContentCommon<C::To>, AllocError>
         ensures { IfOk result (λ x. common_seen C.after x ≡ common_seen (C.before c.now) self.now) }
     {
+        let ty = self.ty.try_map(alloc, c)?;
+        let disposition = made!(mapped_disposition(alloc, c, &self.disposition), ty);
+        let language = made!(mapped_texts(alloc, c, &self.language), disposition, ty);
+        let location = made!(mapped_text(c, &self.location), language, disposition, ty);
         Ok(BodyContentCommon {
-            ty: self.ty.try_map(alloc, c)?,
-            disposition: mapped_disposition(alloc, c, &self.disposition)?,
-            language: mapped_texts(alloc, c, &self.language)?,
-            location: mapped_text(c, &self.location)?,
+            ty,
+            disposition,
+            language,
+            location,
         })
     }
 }
@@ -118,16 +122,16 @@ fn mapped_body<S, B, C: Change<S>, D: Change<B>>(
     ensures { IfOk result (λ b. body_seen C.after D.after b ≡ body_seen (C.before c.now) (D.before d.now) body.now) }
 {
     let common = body.common().try_map(alloc, c)?;
-    let extension = mapped_extension(alloc, c, body.extension())?;
+    let extension = made!(mapped_extension(alloc, c, body.extension()), common);
     Ok(match body {
         BodyStructure::Basic { other, .. } => BodyStructure::Basic {
+            other: made!(other.try_map(c), extension, common),
             common,
-            other: other.try_map(c)?,
             extension,
         },
         BodyStructure::Text { other, lines, .. } => BodyStructure::Text {
+            other: made!(other.try_map(c), extension, common),
             common,
-            other: other.try_map(c)?,
             lines: *lines,
             extension,
         },
@@ -137,17 +141,27 @@ fn mapped_body<S, B, C: Change<S>, D: Change<B>>(
             body,
             lines,
             ..
-        } => BodyStructure::Message {
-            common,
-            other: other.try_map(c)?,
-            envelope: envelope.try_map(alloc, d)?,
-            body: mapped_inner(alloc, c, d, body)?,
-            lines: *lines,
-            extension,
-        },
+        } => {
+            let other = made!(other.try_map(c), extension, common);
+            let envelope = made!(envelope.try_map(alloc, d), other, extension, common);
+            BodyStructure::Message {
+                body: made!(
+                    mapped_inner(alloc, c, d, body),
+                    envelope,
+                    other,
+                    extension,
+                    common
+                ),
+                common,
+                other,
+                envelope,
+                lines: *lines,
+                extension,
+            }
+        }
         BodyStructure::Multipart { bodies, .. } => BodyStructure::Multipart {
+            bodies: made!(mapped_bodies(alloc, c, d, bodies), extension, common),
             common,
-            bodies: mapped_bodies(alloc, c, d, bodies)?,
             extension,
         },
     })

@@ -19,6 +19,7 @@ use crate::at::texts::{spaced_number, spaced_string_text, string_text};
 use crate::limits::MAX_BODY_DEPTH;
 use imap_bytes::at::tags::{tag, word};
 use imap_bytes::{Err, Needed, first, maybe};
+use imap_shapes::made;
 use imap_shapes::shapes::bodies::{
     BodyContentCommon, BodyContentSinglePart, BodyStructure, ContentType,
 };
@@ -40,8 +41,8 @@ fn body_type_text(alloc: Global, m: &[u8], p: usize) -> Reached<Box<Spanned>>
     let (p, _) = word(b"\"TEXT\"", m, p)?;
     let (p, subtype) = spaced_string_text(m, p)?;
     let (p, fields) = spaced_fields(alloc, m, p)?;
-    let (p, lines) = spaced_number(m, p)?;
-    let (p, ext) = body_ext_1part(alloc, m, p)?;
+    let (p, lines) = made!(spaced_number(m, p), fields);
+    let (p, ext) = made!(body_ext_1part(alloc, m, p), fields);
     let body = Box::new(
         alloc,
         BodyStructure::Text {
@@ -80,7 +81,7 @@ fn body_type_basic(alloc: Global, m: &[u8], p: usize) -> Reached<Box<Spanned>>
     let (p, ty) = string_text(m, p)?;
     let (p, subtype) = spaced_string_text(m, p)?;
     let (p, fields) = spaced_fields(alloc, m, p)?;
-    let (p, ext) = body_ext_1part(alloc, m, p)?;
+    let (p, ext) = made!(body_ext_1part(alloc, m, p), fields);
     let body = Box::new(
         alloc,
         BodyStructure::Basic {
@@ -197,10 +198,10 @@ fn body_type_msg(alloc: Global, level: u32, m: &[u8], p: usize) -> Reached<Box<S
 {
     let (p, _) = message_word(m, p)?;
     let (p, fields) = spaced_fields(alloc, m, p)?;
-    let (p, envelope) = spaced_envelope(alloc, m, p)?;
-    let (p, inner) = spaced_body(alloc, level, m, p)?;
-    let (p, lines) = spaced_number(m, p)?;
-    let (p, ext) = body_ext_1part(alloc, m, p)?;
+    let (p, envelope) = made!(spaced_envelope(alloc, m, p), fields);
+    let (p, inner) = made!(spaced_body(alloc, level, m, p), envelope, fields);
+    let (p, lines) = made!(spaced_number(m, p), inner, envelope, fields);
+    let (p, ext) = made!(body_ext_1part(alloc, m, p), inner, envelope, fields);
     let body = Box::new(
         alloc,
         BodyStructure::Message {
@@ -251,8 +252,8 @@ fn body_type_mpart(alloc: Global, level: u32, m: &[u8], p: usize) -> Reached<Box
     ensures rests { RestsOn boxed_in result }
 {
     let (p, bodies) = some_bodies(alloc, level, m, p)?;
-    let (p, subtype) = spaced_string_text(m, p)?;
-    let (p, ext) = body_ext_mpart(alloc, m, p)?;
+    let (p, subtype) = made!(spaced_string_text(m, p), bodies);
+    let (p, ext) = made!(body_ext_mpart(alloc, m, p), bodies);
     let body = Box::new(
         alloc,
         BodyStructure::Multipart {

@@ -36,5 +36,7 @@ pub fn body_structure(alloc: Global, i: &[u8]) -> IResult<&[u8], BodyStructure<'
     ensures answer { Answers bodies.body_structure (λ x. body_seen text_of bytes_of x) i.now result }
 {
     let (q, spans) = at::bodies::body_structure(alloc, i, 0)?;
-    Ok((rest(i, q), named(alloc, &spans, i)?))
+    let value = named(alloc, &spans, i);
+    drop(spans);
+    Ok((rest(i, q), value?))
 }

@@ -33,5 +33,7 @@ pub fn envelope(alloc: Global, i: &[u8]) -> IResult<&[u8], Envelope<'_>>
     ensures answer { Answers envelopes.envelope (λ x. envelope_seen bytes_of x) i.now result }
 {
     let (q, spans) = at::envelopes::envelope(alloc, i, 0)?;
-    Ok((rest(i, q), spans.value(alloc, i)?))
+    let value = spans.value(alloc, i);
+    drop(spans);
+    Ok((rest(i, q), value?))
 }

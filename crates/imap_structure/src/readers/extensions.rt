@@ -21,5 +21,7 @@ pub fn body_extension(alloc: Global, i: &[u8]) -> IResult<&[u8], BodyExtension<'
     ensures answer { Answers extensions.body_extension (λ x. extension_seen text_of x) i.now result }
 {
     let (q, spans) = at::extensions::body_extension(alloc, i, 0)?;
-    Ok((rest(i, q), spans.value(alloc, i)?))
+    let value = spans.value(alloc, i);
+    drop(spans);
+    Ok((rest(i, q), value?))
 }

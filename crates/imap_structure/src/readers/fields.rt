@@ -21,5 +21,7 @@ pub fn body_fields(alloc: Global, i: &[u8]) -> IResult<&[u8], BodyFields<'_>>
     ensures answer { Answers fields.body_fields (λ x. fields_seen text_of x) i.now result }
 {
     let (q, spans) = at::fields::body_fields(alloc, i, 0)?;
-    Ok((rest(i, q), spans.value(alloc, i)?))
+    let value = spans.value(alloc, i);
+    drop(spans);
+    Ok((rest(i, q), value?))
 }

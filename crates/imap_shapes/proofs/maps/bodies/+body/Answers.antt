@@ -6,7 +6,7 @@ use Rattle.imap_shapes.specs.BodyValues.{common_seen, single_seen, common_of, ex
 use Rattle.imap_shapes.proofs.Lists.{mapped_further, mapped_whole}
 use Rattle.imap_shapes.proofs.Trees.{basic_seen, text_seen, message_seen, multipart_seen, few_in_list, fewer_in_multipart, fewer_in_message}
 use Rattle.imap_shapes.proofs.maps.bodies.+body.Goals as goal
-use Rattle.imap_shapes.proofs.maps.bodies.+body.Goals.{mapped_body-in-Basic+in_ok-try_map-in-Basic, mapped_body-in-Text+in_ok-try_map-in-Text, mapped_body-in-Message+in_ok-try_map-in-Message+in_ok-try_map-in-Message-2+in_ok-mapped_inner-in-Message, mapped_body-in-Multipart+in_ok-mapped_bodies-in-Multipart}
+use Rattle.imap_shapes.proofs.maps.bodies.+body.Goals.{mapped_body-in-Basic+in-Ok-try_map, mapped_body-in-Text+in-Ok-try_map-2, mapped_body-in-Message+in-Ok-try_map-3+in-Ok-try_map-4+in-Ok-mapped_inner, mapped_body-in-Multipart+in-Ok-mapped_bodies}
 
 pub mapped_bodies-mapped_body-requires : goal.mapped_bodies-mapped_body-requires
 mapped_bodies-mapped_body-requires g t c κs within =
@@ -43,34 +43,34 @@ mapped_body-returns g t c =
     let old = body_seen f h in
     let new = body_seen g.C.Change.after g.D.Change.after in
     let common : common_seen g.C.Change.after c.in_ok-common.common ≡ common_of (old c.args.body.now) = c.in_ok-common.ensures ∙ sym (c.common.ensures f h) in
-    let last : option_map (extension_seen g.C.Change.after) c.in_ok-extension.extension ≡ extension_of (old c.args.body.now) = c.in_ok-extension.ensures ∙ sym (c.extension.ensures f h) in
+    let last : option_map (extension_seen g.C.Change.after) c.in-Ok.made ≡ extension_of (old c.args.body.now) = c.in-Ok.ensures ∙ sym (c.extension.ensures f h) in
     elim c.match-body.branch [
-      | mapped_body-in-Basic+in_ok-try_map-in-Basic w ↦
+      | mapped_body-in-Basic+in-Ok-try_map w ↦
           (let is = ap old w.in-Basic.is ∙ basic_seen f h w.in-Basic.common w.in-Basic.other w.in-Basic.extension in
           ap new w.result-is
           ∙ basic_seen g.C.Change.after g.D.Change.after _ _ _
-          ∙ (λ i. Basic (common i) (w.in_ok-try_map-in-Basic.ensures i) (last i))
+          ∙ (λ i. Basic (common i) (w.in-Ok-try_map.ensures i) (last i))
           ∙ ap (λ v. Basic (common_of v) (single_seen f w.in-Basic.other) (extension_of v)) is
           ∙ sym is)
-      | mapped_body-in-Text+in_ok-try_map-in-Text w ↦
+      | mapped_body-in-Text+in-Ok-try_map-2 w ↦
           (let is = ap old w.in-Text.is ∙ text_seen f h w.in-Text.common w.in-Text.other w.in-Text.lines w.in-Text.extension in
           ap new w.result-is
           ∙ text_seen g.C.Change.after g.D.Change.after _ _ _ _
-          ∙ (λ i. TextBody (common i) (w.in_ok-try_map-in-Text.ensures i) w.in-Text.lines (last i))
+          ∙ (λ i. TextBody (common i) (w.in-Ok-try_map-2.ensures i) w.in-Text.lines (last i))
           ∙ ap (λ v. TextBody (common_of v) (single_seen f w.in-Text.other) w.in-Text.lines (extension_of v)) is
           ∙ sym is)
-      | mapped_body-in-Message+in_ok-try_map-in-Message+in_ok-try_map-in-Message-2+in_ok-mapped_inner-in-Message w ↦
+      | mapped_body-in-Message+in-Ok-try_map-3+in-Ok-try_map-4+in-Ok-mapped_inner w ↦
           (let is = ap old w.in-Message.is ∙ message_seen f h w.in-Message.common w.in-Message.other w.in-Message.envelope w.in-Message.body w.in-Message.lines w.in-Message.extension in
           ap new w.result-is
           ∙ message_seen g.C.Change.after g.D.Change.after _ _ _ _ _ _
-          ∙ (λ i. Message (common i) (w.in_ok-try_map-in-Message.ensures i) (w.in_ok-try_map-in-Message-2.ensures i) (w.in_ok-mapped_inner-in-Message.ensures i) w.in-Message.lines (last i))
+          ∙ (λ i. Message (common i) (w.in-Ok-try_map-3.ensures i) (w.in-Ok-try_map-4.ensures i) (w.in-Ok-mapped_inner.ensures i) w.in-Message.lines (last i))
           ∙ ap (λ v. Message (common_of v) (single_seen f w.in-Message.other) (envelope_seen h w.in-Message.envelope) (old w.in-Message.body.value) w.in-Message.lines (extension_of v)) is
           ∙ sym is)
-      | mapped_body-in-Multipart+in_ok-mapped_bodies-in-Multipart w ↦
+      | mapped_body-in-Multipart+in-Ok-mapped_bodies w ↦
           (let is = ap old w.in-Multipart.is ∙ multipart_seen f h w.in-Multipart.common w.in-Multipart.bodies w.in-Multipart.extension in
           ap new w.result-is
           ∙ multipart_seen g.C.Change.after g.D.Change.after _ _ _
-          ∙ (λ i. Multipart (common i) (bodies_of (w.in_ok-mapped_bodies-in-Multipart.ensures i)) (last i))
+          ∙ (λ i. Multipart (common i) (bodies_of (w.in-Ok-mapped_bodies.ensures i)) (last i))
           ∙ ap (λ v. Multipart (common_of v) (bodies_of (map old w.in-Multipart.bodies.items)) (extension_of v)) is
           ∙ sym is)
     ]

@@ -21,28 +21,28 @@ body-returns-clause-steps t c =
 pub bracketed_body-returns-clause-rests : goal.bracketed_body-returns-clause-rests
 bracketed_body-returns-clause-rests t c = rests_more _ (omega (arith, c.in_ok-p-3.ensures.inside)) c.in_ok-p-2.ensures.rests
 
-pub body_type_mpart-returns-clause-rests : goal.body_type_mpart-returns-clause-rests
-body_type_mpart-returns-clause-rests t c =
-    let q = c.in_ok-p-3.p in
-    let e2 : c.in_ok-p-2.p ≤ q = omega (arith, c.in_ok-p-3.ensures.ahead) in
-    let e1 : c.in_ok-p.p ≤ q = omega (arith, e2, c.in_ok-p-2.ensures.ahead) in
-    boxed_rests q _ _ c.in_ok-body.ensures.ok (multipart_rests q _ _ _ (rests_more q e1 c.in_ok-p.ensures.rests) (rests_more q e2 c.in_ok-p-2.ensures.rests) c.in_ok-p-3.ensures.rests)
+pub body_type_mpart-returns-3-clause-rests : goal.body_type_mpart-returns-3-clause-rests
+body_type_mpart-returns-3-clause-rests t c =
+    let q = c.in-Ok-made-2.field-0.0 in
+    let e2 : c.in-Ok-made.field-0.0 ≤ q = omega (arith, c.in-Ok-made-2.ensures.ahead) in
+    let e1 : c.in_ok-p.p ≤ q = omega (arith, e2, c.in-Ok-made.ensures.ahead) in
+    boxed_rests q _ _ c.in_ok-body.ensures.ok (multipart_rests q _ _ _ (rests_more q e1 c.in_ok-p.ensures.rests) (rests_more q e2 c.in-Ok-made.ensures.rests) c.in-Ok-made-2.ensures.rests)
 
-pub body_type_msg-returns-clause-rests : goal.body_type_msg-returns-clause-rests
-body_type_msg-returns-clause-rests t c =
-    let q = c.in_ok-p-6.p in
-    let e5 : c.in_ok-p-5.p ≤ q = omega (arith, c.in_ok-p-6.ensures.ahead) in
-    let e4 : c.in_ok-p-4.p ≤ q = omega (arith, e5, c.in_ok-p-5.ensures.ahead) in
-    let e3 : c.in_ok-p-3.p ≤ q = omega (arith, e4, c.in_ok-p-4.ensures.ahead) in
-    let e2 : c.in_ok-p-2.p ≤ q = omega (arith, e3, c.in_ok-p-3.ensures.ahead) in
-    boxed_rests q _ _ c.in_ok-body.ensures.ok (message_rests q _ _ _ _ _ (rests_more q e2 c.in_ok-p-2.ensures.rests) (rests_more q e3 c.in_ok-p-3.ensures.rests) (unboxed_rests q _ (rests_more q e4 c.in_ok-p-4.ensures.rests)) c.in_ok-p-6.ensures.rests)
+pub body_type_msg-returns-5-clause-rests : goal.body_type_msg-returns-5-clause-rests
+body_type_msg-returns-5-clause-rests t c =
+    let q = c.in-Ok-made-4.field-0.0 in
+    let e5 : c.in-Ok-made-3.field-0.0 ≤ q = omega (arith, c.in-Ok-made-4.ensures.ahead) in
+    let e4 : c.in-Ok-made-2.field-0.0 ≤ q = omega (arith, e5, c.in-Ok-made-3.ensures.ahead) in
+    let e3 : c.in-Ok-made.field-0.0 ≤ q = omega (arith, e4, c.in-Ok-made-2.ensures.ahead) in
+    let e2 : c.in_ok-p-2.p ≤ q = omega (arith, e3, c.in-Ok-made.ensures.ahead) in
+    boxed_rests q _ _ c.in_ok-body.ensures.ok (message_rests q _ _ _ _ _ (rests_more q e2 c.in_ok-p-2.ensures.rests) (rests_more q e3 c.in-Ok-made.ensures.rests) (unboxed_rests q _ (rests_more q e4 c.in-Ok-made-2.ensures.rests)) c.in-Ok-made-4.ensures.rests)
 
-pub body_type_msg-returns-clause-steps : goal.body_type_msg-returns-clause-steps
-body_type_msg-returns-clause-steps t c =
-    rw c.in_ok-body.ensures.ok (message_reads c.args.level _ _ _ _ _ _ _ _ _ _ _ c.in_ok-p-4.inner.value c.in_ok-p-4.inner _ _ refl c.in_ok-p.ensures.steps c.in_ok-p-2.ensures.steps c.in_ok-p-3.ensures.steps c.in_ok-p-4.ensures.steps c.in_ok-p-5.ensures.steps c.in_ok-p-6.ensures.steps)
+pub body_type_msg-returns-5-clause-steps : goal.body_type_msg-returns-5-clause-steps
+body_type_msg-returns-5-clause-steps t c =
+    rw c.in_ok-body.ensures.ok (message_reads c.args.level _ _ _ _ _ _ _ _ _ _ _ c.in-Ok-made-2.field-0.1.value c.in-Ok-made-2.field-0.1 _ _ refl c.in_ok-p.ensures.steps c.in_ok-p-2.ensures.steps c.in-Ok-made.ensures.steps c.in-Ok-made-2.ensures.steps c.in-Ok-made-3.ensures.steps c.in-Ok-made-4.ensures.steps)
 
-pub body_type_mpart-returns-clause-steps : goal.body_type_mpart-returns-clause-steps
-body_type_mpart-returns-clause-steps t c = rw c.in_ok-body.ensures.ok (multipart_reads c.args.level _ _ _ _ _ _ _ _ c.in_ok-p.ensures.steps c.in_ok-p-2.ensures.steps c.in_ok-p-3.ensures.steps)
+pub body_type_mpart-returns-3-clause-steps : goal.body_type_mpart-returns-3-clause-steps
+body_type_mpart-returns-3-clause-steps t c = rw c.in_ok-body.ensures.ok (multipart_reads c.args.level _ _ _ _ _ _ _ _ c.in_ok-p.ensures.steps c.in-Ok-made.ensures.steps c.in-Ok-made-2.ensures.steps)
 
 pub next_body-returns-in-Ok-maybe-clause-rests : goal.next_body-returns-in-Ok-maybe-clause-rests
 next_body-returns-in-Ok-maybe-clause-rests t c = something_rests boxed_in _ _ c.in-Ok-maybe.ensures.rests

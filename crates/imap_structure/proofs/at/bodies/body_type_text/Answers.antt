@@ -3,13 +3,13 @@ use Rattle.imap_grammar.proofs.Positions.{rests_more}
 use Rattle.imap_structure.proofs.Reading.{text_rests, text_reads, boxed_rests}
 use Rattle.imap_structure.proofs.at.bodies.body_type_text.Goals as goal
 
-pub returns-clause-rests : goal.returns-clause-rests
-returns-clause-rests c =
-    let q = c.in_ok-p-5.p in
-    let e4 : c.in_ok-p-4.p ≤ q = omega (arith, c.in_ok-p-5.ensures.ahead) in
-    let e3 : c.in_ok-p-3.p ≤ q = omega (arith, e4, c.in_ok-p-4.ensures.ahead) in
+pub returns-3-clause-rests : goal.returns-3-clause-rests
+returns-3-clause-rests c =
+    let q = c.in-Ok-made-2.field-0.0 in
+    let e4 : c.in-Ok-made.field-0.0 ≤ q = omega (arith, c.in-Ok-made-2.ensures.ahead) in
+    let e3 : c.in_ok-p-3.p ≤ q = omega (arith, e4, c.in-Ok-made.ensures.ahead) in
     let e2 : c.in_ok-p-2.p ≤ q = omega (arith, e3, c.in_ok-p-3.ensures.ahead) in
-    boxed_rests q _ _ c.in_ok-body.ensures.ok (text_rests q _ _ _ _ (rests_more q e2 c.in_ok-p-2.ensures.rests) (rests_more q e3 c.in_ok-p-3.ensures.rests) c.in_ok-p-5.ensures.rests)
+    boxed_rests q _ _ c.in_ok-body.ensures.ok (text_rests q _ _ _ _ (rests_more q e2 c.in_ok-p-2.ensures.rests) (rests_more q e3 c.in_ok-p-3.ensures.rests) c.in-Ok-made-2.ensures.rests)
 
-pub returns-clause-steps : goal.returns-clause-steps
-returns-clause-steps c = rw c.in_ok-body.ensures.ok (text_reads _ _ _ _ _ _ _ _ _ _ _ _ c.in_ok-p.ensures.steps c.in_ok-p-2.ensures.steps c.in_ok-p-3.ensures.steps c.in_ok-p-4.ensures.steps c.in_ok-p-5.ensures.steps)
+pub returns-3-clause-steps : goal.returns-3-clause-steps
+returns-3-clause-steps c = rw c.in_ok-body.ensures.ok (text_reads _ _ _ _ _ _ _ _ _ _ _ _ c.in_ok-p.ensures.steps c.in_ok-p-2.ensures.steps c.in_ok-p-3.ensures.steps c.in-Ok-made.ensures.steps c.in-Ok-made-2.ensures.steps)
