@@ -9,27 +9,49 @@ use imap_proto::Response;
 use imap_proto::imap_core::Err;
 use imap_proto::kept::KeptFetch;
 use std::alloc::{AllocError, Global};
+use std::fmt;
 use std::test::*;
 
-// The attributes of a kept fetch, each asked for by its place.
-fn attributes(alloc: Global, kept: &KeptFetch) -> Result<Vec<AttributeValue<'_>>, AllocError> {
-    let mut values = Vec::new(alloc);
-    for k in 0..kept.len() {
-        values.push(kept.attribute(k)?)?;
+// What an attribute says, in its place.
+#[derive(Drop)]
+struct Told(String);
+
+impl fmt::Debug for Told {
+    fn fmt<W: fmt::Write>(&self, f: &mut fmt::Formatter<W>) -> fmt::Result {
+        fmt::Display::fmt(&self.0, f)
     }
-    Ok(values)
+}
+
+// Puts what an attribute says behind what the others say.
+fn tell_one(
+    alloc: Global,
+    value: AttributeValue<'_>,
+    attributes: &mut Vec<Told>,
+) -> Result<(), AllocError> {
+    let text = format!(in alloc; "{value:?}");
+    drop(value);
+    attributes.push(Told(text?))?;
+    Ok(())
 }
 
 // A fetch as a response is told.
 #[derive(Debug, Drop)]
-struct Fetch<'a>(u32, Vec<AttributeValue<'a>>);
+struct Fetch(u32, Vec<Told>);
+
+// What is kept, each attribute asked for by its place.
+fn told_fetch(alloc: Global, kept: &KeptFetch) -> Result<Fetch, AllocError> {
+    let mut attributes = Vec::new(alloc);
+    for k in 0..kept.len() {
+        tell_one(alloc, kept.attribute(k)?, &mut attributes)?;
+    }
+    Ok(Fetch(kept.number(), attributes))
+}
 
 // Whether a kept fetch is told so as a response, with what is left of the line behind its bytes.
 fn tells(alloc: Global, kept: &KeptFetch, line: &[u8], want: &str) -> bool {
     let front = kept.bytes();
-    match (line.get(front.len()..), attributes(alloc, kept)) {
-        (Some(rest), Ok(values)) => {
-            let fetch = Fetch(kept.number(), values);
+    match (line.get(front.len()..), told_fetch(alloc, kept)) {
+        (Some(rest), Ok(fetch)) => {
             line.starts_with(front) && says(alloc, Ok((rest, fetch)), want)
         }
         _ => false,
@@ -199,14 +221,14 @@ fn spans(alloc: Global, attributes: &[SpannedAttribute]) -> Result<Vec<Span>, Al
 }
 
 // What the attributes name in a message.
-fn values<'a>(
+fn told_values(
     alloc: Global,
     attributes: &[SpannedAttribute],
-    m: &'a [u8],
-) -> Result<Vec<AttributeValue<'a>>, AllocError> {
+    m: &[u8],
+) -> Result<Vec<Told>, AllocError> {
     let mut values = Vec::new(alloc);
     for attribute in attributes {
-        values.push(attribute.value(alloc, m)?)?;
+        tell_one(alloc, attribute.value(alloc, m)?, &mut values)?;
     }
     Ok(values)
 }
@@ -215,7 +237,7 @@ const NOTHING: &[u8] = b"";
 
 // Whether the attributes name these values in a message.
 fn name(alloc: Global, attributes: &[SpannedAttribute], m: &[u8], want: &str) -> bool {
-    match values(alloc, attributes, m) {
+    match told_values(alloc, attributes, m) {
         Ok(values) => says(alloc, Ok((NOTHING, values)), want),
         Err(_) => false,
     }

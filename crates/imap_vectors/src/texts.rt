@@ -106,16 +106,9 @@ trait Telling {
     fn texts(&self, alloc: Global) -> Result<Vec<Marked<'_>>, AllocError>;
 }
 
-impl<'a> Telling for Response<'a> {
-    fn texts(&self, alloc: Global) -> Result<Vec<Marked<'_>>, AllocError> {
-        texts(alloc, self)
-    }
-}
-
-/// The texts of a response, each with its mark: the information of a status line, the pairs of an identity, the
-/// mailbox and the entries of annotations, or what the attributes of a message have.
-fn texts<'a>(alloc: Global, response: &'a Response<'_>) -> Result<Vec<Marked<'a>>, AllocError> {
-    let mut texts = Vec::new(alloc);
+// Adds the texts of a response: the information of a status line, the pairs of an identity, the mailbox and the entries
+// of annotations, or what the attributes of a message have.
+fn add_all<'a>(texts: &mut Vec<Marked<'a>>, response: &'a Response<'_>) -> Result<(), AllocError> {
     match response {
         Response::Data { outcome, .. } => {
             if let Some(text) = &outcome.information {
@@ -139,12 +132,20 @@ fn texts<'a>(alloc: Global, response: &'a Response<'_>) -> Result<Vec<Marked<'a>
         }
         Response::Fetch(_, attributes) => {
             for attribute in attributes {
-                add_texts(&mut texts, attribute)?;
+                add_texts(texts, attribute)?;
             }
         }
         _ => {}
     }
-    Ok(texts)
+    Ok(())
+}
+
+impl<'a> Telling for Response<'a> {
+    fn texts(&self, alloc: Global) -> Result<Vec<Marked<'_>>, AllocError> {
+        let mut texts = Vec::new(alloc);
+        add_all(&mut texts, self)?;
+        Ok(texts)
+    }
 }
 
 const MARKED_LINES: Rows = &[
