@@ -1,7 +1,7 @@
 //! The same values with all texts owned. They are consumed, and `Err` where there is no memory.
 //!
-//! Each is dropped by a call. Where it is dropped in place, at the end of the function, what is in it is proved there
-//! again, part by part, which takes three to five times as long.
+//! What is consumed is dropped by a call. Where it is dropped in place, at the end of the function, what is in it is
+//! proved there again, part by part, which takes three to five times as long.
 
 ghost use Rattle.std.specs.Prelude.{◌≡◌, IfOk};
 ghost use Rattle.imap_grammar.specs.Text.{text_of};
