@@ -1,3 +1,4 @@
+use Rattle.std.proofs.lemmas.Grind.{common_steps}
 use Rattle.std.proofs.Common.{◌≡◌, ◌≤◌, ◌+◌, ◌*◌, ◌-◌, take, ap, ◌∙◌, arith}
 use Rattle.std.specs.Str.Parse.{digits_value}
 use Rattle.imap_bytes.proofs.Digits.{one_more, is_a_digit, below_next, eleven_digits_fit}
@@ -20,3 +21,6 @@ loop-count-preserved c =
       below = below;
       fits = eleven_digits_fit (c.loop-count.count + 1) _ few below;
     }
+
+pub returns-then-digit-gt9-clause-at : goal.returns-then-digit-gt9-clause-at
+returns-then-digit-gt9-clause-at c = grind (arith, common_steps)

@@ -1,6 +1,8 @@
 use Rattle.std.proofs.Common.{rules}
 use Rattle.imap_grammar.specs.Tags.{word}
 use Rattle.imap_grammar.proofs.Memory.{part_failed, holds_already, begins_word}
+use Rattle.imap_items.specs.Capabilities.{capability_data}
+use Rattle.imap_items.proofs.Capabilities.{any_of_values}
 use Rattle.imap_items.proofs.readers.capabilities.with_revision.Goals as goal
 
 pub returns-in_err-rest-clause-memory : goal.returns-in_err-rest-clause-memory
@@ -8,3 +10,7 @@ returns-in_err-rest-clause-memory c = part_failed _ (word "CAPABILITY") _ c.in_e
 
 pub returns-in_err-rest-2-clause-memory : goal.returns-in_err-rest-2-clause-memory
 returns-in_err-rest-2-clause-memory c = holds_already _ c.from_residual-in_err-rest-2.result (begins_word "CAPABILITY" _ _ _ c.in_ok-rest.ensures.steps)
+
+pub returns-clause-steps : goal.returns-clause-steps
+unfolding capability_data
+returns-clause-steps c = search (rules, any_of_values) depth 3

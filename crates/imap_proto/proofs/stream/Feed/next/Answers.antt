@@ -1,8 +1,8 @@
-use Rattle.std.proofs.Common.{◌≡◌, ◌-◌, length, arith, sym, ap, subst, ◌∙◌, drop}
+use Rattle.std.proofs.Common.{◌≡◌, ◌-◌, length, arith, sym, ap, subst, ◌∙◌, drop, rules}
 use Rattle.imap_grammar.specs.Meaning.{Denies}
 use Rattle.imap_grammar.specs.Rule.{meaning}
-use Rattle.imap_grammar.proofs.Agreement.{agrees}
 use Rattle.imap_grammar.specs.declared.answer.Err.TheVariants.{Error}
+use Rattle.imap_grammar.proofs.Agreement.{agrees}
 use Rattle.imap_proto.specs.Lines.{response}
 use Rattle.imap_proto.specs.Streams.{Waiting}
 use Rattle.imap_proto.specs.Feeds.{WaitsFor}
@@ -44,3 +44,6 @@ returns-in-Err-Error-clause-denied c = subst (Denies (meaning response)) c.held.
 
 pub returns-in-Ok-clause-fewer : goal.returns-in-Ok-clause-fewer
 returns-in-Ok-clause-fewer c = let gave = returns-in-Ok-clause-gives c in shorter _ _ gave.0 gave.1
+
+pub returns-in-Err-Error-clause-kept : goal.returns-in-Err-Error-clause-kept
+returns-in-Err-Error-clause-kept c = search rules depth 2

@@ -1,6 +1,7 @@
-use Rattle.std.proofs.Common.{refl, arith, ◌≤◌}
+use Rattle.std.proofs.Common.{refl, arith, ◌≤◌, rules}
 use Rattle.imap_grammar.proofs.Positions.{rests_more}
 use Rattle.imap_shapes.specs.EnvelopeValues.{envelope_seen}
+use Rattle.imap_structure.specs.Envelopes.{envelope}
 use Rattle.imap_structure.proofs.at.envelopes.envelope.Goals as goal
 
 pub returns-clause-rests : goal.returns-clause-rests
@@ -28,3 +29,7 @@ returns-clause-rests c =
     let in_reply_to = rests_more q e10 c.in_ok-p-10.ensures.rests in
     let message_id = rests_more q e11 c.in_ok-p-11.ensures.rests in
     record { same = λ m. rw (date.same m, subject.same m, from.same m, sender.same m, reply_to.same m, to.same m, copies.same m, bcc.same m, in_reply_to.same m, message_id.same m) refl }
+
+pub returns-clause-steps : goal.returns-clause-steps
+unfolding envelope envelope_seen
+returns-clause-steps c = search rules depth 2

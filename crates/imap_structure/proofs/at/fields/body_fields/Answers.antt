@@ -1,6 +1,7 @@
-use Rattle.std.proofs.Common.{refl, arith, ◌≤◌}
+use Rattle.std.proofs.Common.{refl, arith, ◌≤◌, rules}
 use Rattle.imap_grammar.proofs.Positions.{rests_more}
 use Rattle.imap_shapes.specs.FieldValues.{fields_seen}
+use Rattle.imap_structure.specs.Fields.{body_fields}
 use Rattle.imap_structure.proofs.at.fields.body_fields.Goals as goal
 
 pub returns-clause-rests : goal.returns-clause-rests
@@ -16,3 +17,7 @@ returns-clause-rests c =
     let description = rests_more q e3 c.in_ok-p-3.ensures.rests in
     let transfer_encoding = rests_more q e4 c.in_ok-p-4.ensures.rests in
     record { same = λ m. rw (param.same m, id.same m, description.same m, transfer_encoding.same m) refl }
+
+pub returns-clause-steps : goal.returns-clause-steps
+unfolding body_fields fields_seen
+returns-clause-steps c = search rules depth 2

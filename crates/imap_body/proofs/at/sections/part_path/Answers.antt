@@ -1,0 +1,7 @@
+use Rattle.std.proofs.Common.{rules}
+use Rattle.imap_body.specs.Sections.{part_path}
+use Rattle.imap_body.proofs.at.sections.part_path.Goals as goal
+
+pub returns-clause-steps : goal.returns-clause-steps
+unfolding part_path
+returns-clause-steps c = search rules depth 2
