@@ -57,8 +57,9 @@ fn next_turn(alloc: Global, feed: &mut Feed) -> Result<Turn, AllocError>
     let before = feed.held().len();
     match feed.next() {
         Ok(Some(response)) => {
-            let text = line_of(alloc, name(&response), before - feed.held().len())?;
-            Ok(Turn::Line(text))
+            let text = line_of(alloc, name(&response), before - feed.held().len());
+            drop(response);
+            Ok(Turn::Line(text?))
         }
         Ok(None) => Ok(Turn::Stop(End::Waits)),
         Err(FeedError::Denied) => Ok(Turn::Stop(End::Denied)),
