@@ -19,6 +19,7 @@ use crate::at::texts::{spaced_number, spaced_string_text, string_text};
 use crate::limits::MAX_BODY_DEPTH;
 use imap_bytes::at::tags::{tag, word};
 use imap_bytes::{Err, Needed, first, maybe};
+use imap_shapes::boxes::boxed;
 use imap_shapes::made;
 use imap_shapes::shapes::bodies::{
     BodyContentCommon, BodyContentSinglePart, BodyStructure, ContentType,
@@ -43,7 +44,7 @@ fn body_type_text(alloc: Global, m: &[u8], p: usize) -> Reached<Box<Spanned>>
     let (p, fields) = spaced_fields(alloc, m, p)?;
     let (p, lines) = made!(spaced_number(m, p), fields);
     let (p, ext) = made!(body_ext_1part(alloc, m, p), fields);
-    let body = Box::new(
+    let body = boxed(
         alloc,
         BodyStructure::Text {
             common: BodyContentCommon {
@@ -82,7 +83,7 @@ fn body_type_basic(alloc: Global, m: &[u8], p: usize) -> Reached<Box<Spanned>>
     let (p, subtype) = spaced_string_text(m, p)?;
     let (p, fields) = spaced_fields(alloc, m, p)?;
     let (p, ext) = made!(body_ext_1part(alloc, m, p), fields);
-    let body = Box::new(
+    let body = boxed(
         alloc,
         BodyStructure::Basic {
             common: BodyContentCommon {
@@ -202,7 +203,7 @@ fn body_type_msg(alloc: Global, level: u32, m: &[u8], p: usize) -> Reached<Box<S
     let (p, inner) = made!(spaced_body(alloc, level, m, p), envelope, fields);
     let (p, lines) = made!(spaced_number(m, p), inner, envelope, fields);
     let (p, ext) = made!(body_ext_1part(alloc, m, p), inner, envelope, fields);
-    let body = Box::new(
+    let body = boxed(
         alloc,
         BodyStructure::Message {
             common: BodyContentCommon {
@@ -254,7 +255,7 @@ fn body_type_mpart(alloc: Global, level: u32, m: &[u8], p: usize) -> Reached<Box
     let (p, bodies) = some_bodies(alloc, level, m, p)?;
     let (p, subtype) = made!(spaced_string_text(m, p), bodies);
     let (p, ext) = made!(body_ext_mpart(alloc, m, p), bodies);
-    let body = Box::new(
+    let body = boxed(
         alloc,
         BodyStructure::Multipart {
             common: BodyContentCommon {
@@ -289,7 +290,9 @@ fn some_bodies(alloc: Global, level: u32, m: &[u8], p: usize) -> Reached<Vec<Spa
         match next {
             None => return Ok((q, items)),
             Some(body) => {
-                items.push(Box::into_inner(body))?;
+                // Room first: `push` would give a body back where there is none, and clear a place for it.
+                items.reserve(1)?;
+                items.push_reserved(Box::into_inner(body));
                 q = after;
             }
         }

@@ -9,6 +9,7 @@ pub fn list_of_one<T: Drop>(alloc: Global, first: T) -> Result<Vec<T>, AllocErro
     ensures { IfOk result (λ v. v.items ≡ first ∷ []) }
 {
     let mut items = Vec::new(alloc);
-    items.push(first)?;
+    items.reserve(1)?;
+    items.push_reserved(first);
     Ok(items)
 }

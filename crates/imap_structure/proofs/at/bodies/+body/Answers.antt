@@ -26,7 +26,7 @@ body_type_mpart-returns-3-clause-rests t c =
     let q = c.in-Ok-made-2.field-0.0 in
     let e2 : c.in-Ok-made.field-0.0 ≤ q = omega (arith, c.in-Ok-made-2.ensures.ahead) in
     let e1 : c.in_ok-p.p ≤ q = omega (arith, e2, c.in-Ok-made.ensures.ahead) in
-    boxed_rests q _ _ c.in_ok-body.ensures.ok (multipart_rests q _ _ _ (rests_more q e1 c.in_ok-p.ensures.rests) (rests_more q e2 c.in-Ok-made.ensures.rests) c.in-Ok-made-2.ensures.rests)
+    boxed_rests q _ _ c.in_ok-body.ensures (multipart_rests q _ _ _ (rests_more q e1 c.in_ok-p.ensures.rests) (rests_more q e2 c.in-Ok-made.ensures.rests) c.in-Ok-made-2.ensures.rests)
 
 pub body_type_msg-returns-5-clause-rests : goal.body_type_msg-returns-5-clause-rests
 body_type_msg-returns-5-clause-rests t c =
@@ -35,14 +35,14 @@ body_type_msg-returns-5-clause-rests t c =
     let e4 : c.in-Ok-made-2.field-0.0 ≤ q = omega (arith, e5, c.in-Ok-made-3.ensures.ahead) in
     let e3 : c.in-Ok-made.field-0.0 ≤ q = omega (arith, e4, c.in-Ok-made-2.ensures.ahead) in
     let e2 : c.in_ok-p-2.p ≤ q = omega (arith, e3, c.in-Ok-made.ensures.ahead) in
-    boxed_rests q _ _ c.in_ok-body.ensures.ok (message_rests q _ _ _ _ _ (rests_more q e2 c.in_ok-p-2.ensures.rests) (rests_more q e3 c.in-Ok-made.ensures.rests) (unboxed_rests q _ (rests_more q e4 c.in-Ok-made-2.ensures.rests)) c.in-Ok-made-4.ensures.rests)
+    boxed_rests q _ _ c.in_ok-body.ensures (message_rests q _ _ _ _ _ (rests_more q e2 c.in_ok-p-2.ensures.rests) (rests_more q e3 c.in-Ok-made.ensures.rests) (unboxed_rests q _ (rests_more q e4 c.in-Ok-made-2.ensures.rests)) c.in-Ok-made-4.ensures.rests)
 
 pub body_type_msg-returns-5-clause-steps : goal.body_type_msg-returns-5-clause-steps
 body_type_msg-returns-5-clause-steps t c =
-    rw c.in_ok-body.ensures.ok (message_reads c.args.level _ _ _ _ _ _ _ _ _ _ _ c.in-Ok-made-2.field-0.1.value c.in-Ok-made-2.field-0.1 _ _ refl c.in_ok-p.ensures.steps c.in_ok-p-2.ensures.steps c.in-Ok-made.ensures.steps c.in-Ok-made-2.ensures.steps c.in-Ok-made-3.ensures.steps c.in-Ok-made-4.ensures.steps)
+    rw c.in_ok-body.ensures (message_reads c.args.level _ _ _ _ _ _ _ _ _ _ _ c.in-Ok-made-2.field-0.1.value c.in-Ok-made-2.field-0.1 _ _ refl c.in_ok-p.ensures.steps c.in_ok-p-2.ensures.steps c.in-Ok-made.ensures.steps c.in-Ok-made-2.ensures.steps c.in-Ok-made-3.ensures.steps c.in-Ok-made-4.ensures.steps)
 
 pub body_type_mpart-returns-3-clause-steps : goal.body_type_mpart-returns-3-clause-steps
-body_type_mpart-returns-3-clause-steps t c = rw c.in_ok-body.ensures.ok (multipart_reads c.args.level _ _ _ _ _ _ _ _ c.in_ok-p.ensures.steps c.in-Ok-made.ensures.steps c.in-Ok-made-2.ensures.steps)
+body_type_mpart-returns-3-clause-steps t c = rw c.in_ok-body.ensures (multipart_reads c.args.level _ _ _ _ _ _ _ _ c.in_ok-p.ensures.steps c.in-Ok-made.ensures.steps c.in-Ok-made-2.ensures.steps)
 
 pub next_body-returns-in-Ok-maybe-clause-rests : goal.next_body-returns-in-Ok-maybe-clause-rests
 next_body-returns-in-Ok-maybe-clause-rests t c = something_rests boxed_in _ _ c.in-Ok-maybe.ensures.rests
@@ -64,8 +64,8 @@ some_bodies-bodies-smaller t c =
 pub some_bodies-bodies-preserved : goal.some_bodies-bodies-preserved
 some_bodies-bodies-preserved t c =
     record {
-      gathered = rw c.in_ok-push-in-Some.ensures.items (rw c.into_inner-in-Some.ensures (next (body_in c.args.m.now) _ (body c.args.level) _ _ _ c.in-Some.body.value c.bodies.invariant.gathered (rw c.in-Some.is at c.in_ok-after.ensures.steps) (body_takes c.args.level)));
-      rests = rw c.in_ok-push-in-Some.ensures.items (rw c.into_inner-in-Some.ensures (together body_in _ _ _ _ (c.in_ok-after.ensures.ahead.0) c.bodies.invariant.rests (unboxed_rests _ _ (itself_rests boxed_in _ _ (rw c.in-Some.is at c.in_ok-after.ensures.rests)))));
+      gathered = rw c.push_reserved.ensures.items (rw c.in_ok-reserve-in-Some.ensures.items (rw c.into_inner-in-Some.ensures (next (body_in c.args.m.now) _ (body c.args.level) _ _ _ c.in-Some.body.value c.bodies.invariant.gathered (rw c.in-Some.is at c.in_ok-after.ensures.steps) (body_takes c.args.level))));
+      rests = rw c.push_reserved.ensures.items (rw c.in_ok-reserve-in-Some.ensures.items (rw c.into_inner-in-Some.ensures (together body_in _ _ _ _ (c.in_ok-after.ensures.ahead.0) c.bodies.invariant.rests (unboxed_rests _ _ (itself_rests boxed_in _ _ (rw c.in-Some.is at c.in_ok-after.ensures.rests))))));
       ahead = omega (arith, c.bodies.invariant.ahead, c.in_ok-after.ensures.ahead);
       within = c.in_ok-after.ensures.ahead.1;
     }

@@ -9,7 +9,7 @@ returns-2-clause-rests c =
     let e3 : c.in_ok-p-3.p ≤ q = omega (arith, c.in-Ok-made.ensures.ahead) in
     let e2 : c.in_ok-p-2.p ≤ q = omega (arith, e3, c.in_ok-p-3.ensures.ahead) in
     let e1 : c.in_ok-p.p ≤ q = omega (arith, e2, c.in_ok-p-2.ensures.ahead) in
-    boxed_rests q _ _ c.in_ok-body.ensures.ok (basic_rests q _ _ _ _ (rests_more q e1 c.in_ok-p.ensures.rests) (rests_more q e2 c.in_ok-p-2.ensures.rests) (rests_more q e3 c.in_ok-p-3.ensures.rests) c.in-Ok-made.ensures.rests)
+    boxed_rests q _ _ c.in_ok-body.ensures (basic_rests q _ _ _ _ (rests_more q e1 c.in_ok-p.ensures.rests) (rests_more q e2 c.in_ok-p-2.ensures.rests) (rests_more q e3 c.in_ok-p-3.ensures.rests) c.in-Ok-made.ensures.rests)
 
 pub returns-2-clause-steps : goal.returns-2-clause-steps
-returns-2-clause-steps c = rw c.in_ok-body.ensures.ok (basic_reads _ _ _ _ _ _ _ _ _ _ c.in_ok-p.ensures.steps c.in_ok-p-2.ensures.steps c.in_ok-p-3.ensures.steps c.in-Ok-made.ensures.steps)
+returns-2-clause-steps c = rw c.in_ok-body.ensures (basic_reads _ _ _ _ _ _ _ _ _ _ c.in_ok-p.ensures.steps c.in_ok-p-2.ensures.steps c.in_ok-p-3.ensures.steps c.in-Ok-made.ensures.steps)

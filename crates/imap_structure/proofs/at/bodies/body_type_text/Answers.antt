@@ -9,7 +9,7 @@ returns-3-clause-rests c =
     let e4 : c.in-Ok-made.field-0.0 ≤ q = omega (arith, c.in-Ok-made-2.ensures.ahead) in
     let e3 : c.in_ok-p-3.p ≤ q = omega (arith, e4, c.in-Ok-made.ensures.ahead) in
     let e2 : c.in_ok-p-2.p ≤ q = omega (arith, e3, c.in_ok-p-3.ensures.ahead) in
-    boxed_rests q _ _ c.in_ok-body.ensures.ok (text_rests q _ _ _ _ (rests_more q e2 c.in_ok-p-2.ensures.rests) (rests_more q e3 c.in_ok-p-3.ensures.rests) c.in-Ok-made-2.ensures.rests)
+    boxed_rests q _ _ c.in_ok-body.ensures (text_rests q _ _ _ _ (rests_more q e2 c.in_ok-p-2.ensures.rests) (rests_more q e3 c.in_ok-p-3.ensures.rests) c.in-Ok-made-2.ensures.rests)
 
 pub returns-3-clause-steps : goal.returns-3-clause-steps
-returns-3-clause-steps c = rw c.in_ok-body.ensures.ok (text_reads _ _ _ _ _ _ _ _ _ _ _ _ c.in_ok-p.ensures.steps c.in_ok-p-2.ensures.steps c.in_ok-p-3.ensures.steps c.in-Ok-made.ensures.steps c.in-Ok-made-2.ensures.steps)
+returns-3-clause-steps c = rw c.in_ok-body.ensures (text_reads _ _ _ _ _ _ _ _ _ _ _ _ c.in_ok-p.ensures.steps c.in_ok-p-2.ensures.steps c.in_ok-p-3.ensures.steps c.in-Ok-made.ensures.steps c.in-Ok-made-2.ensures.steps)
