@@ -1,7 +1,6 @@
 //! What bodies of messages are made of: types generic in their texts, one map a type over them, and part search.
 #![tactic(auto)]
 
-pub mod boxes;
 pub mod laws;
 pub mod maps;
 mod owned;

@@ -18,7 +18,6 @@ use imap_bytes::at::tags::{cut0, cut1, maybe_space, tag, word};
 use imap_bytes::strings::as_utf8;
 use imap_bytes::{Err, Needed, first, maybe};
 use imap_items::at::{flag_list, gmail_label_list};
-use imap_shapes::boxes::boxed;
 use imap_structure::at::Reached;
 use imap_structure::at::bodies::body_structure;
 use imap_structure::at::envelopes::envelope;
@@ -178,6 +177,7 @@ fn message_attribute(m: &[u8], p: usize) -> Reached<AttributeSpans>
 }
 
 #[tactic(auto, using(crate::proofs::Resting::envelope_rests), unfolding(crate::specs::Attributes::msg_att_envelope))]
+#[inline(never)] // Its slots are large.
 fn msg_att_envelope(alloc: Global, m: &[u8], p: usize) -> Reached<AttributeSpans>
     requires { p ≤ length m.now }
     ensures steps { GivesAt (λ x. parts_in m.now x) m.now result (step rules.msg_att_envelope (drop p m.now)) }
@@ -186,7 +186,7 @@ fn msg_att_envelope(alloc: Global, m: &[u8], p: usize) -> Reached<AttributeSpans
 {
     let (p, _) = word(b"ENVELOPE ", m, p)?;
     let (p, envelope) = envelope(alloc, m, p)?;
-    Ok((p, AttributeParts::Envelope(boxed(alloc, envelope)?)))
+    Ok((p, AttributeParts::Envelope(Box::new(alloc, envelope)?)))
 }
 
 #[tactic(auto, using(imap_items::proofs::Spanned::text_rests), unfolding(crate::specs::Attributes::date, imap_bytes::specs::Texts::string_utf8))]

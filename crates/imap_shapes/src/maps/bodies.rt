@@ -10,7 +10,6 @@ use super::change::Change;
 use super::extensions::{mapped_disposition, mapped_extension};
 use super::fields::mapped_params;
 use super::parts::{mapped_text, mapped_texts};
-use crate::boxes::boxed;
 use crate::shapes::bodies::{BodyContentCommon, BodyContentSinglePart, BodyStructure, ContentType};
 use crate::shapes::extensions::BodyExtension;
 use std::alloc::{AllocError, Global};
@@ -180,7 +179,7 @@ fn mapped_inner<S, B, C: Change<S>, D: Change<B>>(
     ensures { IfOk result (λ b. body_seen C.after D.after b.value ≡ body_seen (C.before c.now) (D.before d.now) inner.now.value) }
 {
     let mapped = mapped_body(alloc, c, d, inner)?;
-    boxed(alloc, mapped)
+    Ok(Box::new(alloc, mapped)?)
 }
 
 #[cycle(body)]

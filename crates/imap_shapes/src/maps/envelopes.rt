@@ -5,7 +5,6 @@ ghost use Rattle.imap_shapes.specs.EnvelopeValues.{address_seen, addresses_seen,
 
 use super::change::Change;
 use super::parts::mapped_text;
-use crate::boxes::boxed;
 use crate::shapes::envelopes::{Address, Envelope};
 use std::alloc::{AllocError, Global};
 
@@ -51,8 +50,7 @@ fn mapped_addresses<B, C: Change<B>>(
 }
 
 impl<B> Envelope<B> {
-    /// The same envelope with each text changed. A call of its own: inlined, each field is moved one by one three times.
-    #[inline(never)]
+    /// The same envelope with each text changed.
     #[tactic(auto, unfolding(crate::specs::EnvelopeValues::envelope_seen))]
     pub fn try_map<C: Change<B>>(&self, alloc: Global, c: &C) -> Result<Envelope<C::To>, AllocError>
         ensures { IfOk result (λ e. envelope_seen C.after e ≡ envelope_seen (C.before c.now) self.now) }
@@ -72,7 +70,8 @@ impl<B> Envelope<B> {
     }
 }
 
-/// The same envelope with each text changed.
+/// The same envelope with each text changed. A call of its own, since its slots are large.
+#[inline(never)]
 pub fn mapped_envelope<B, D: Change<B>>(
     alloc: Global,
     d: &D,
@@ -81,5 +80,5 @@ pub fn mapped_envelope<B, D: Change<B>>(
     ensures { IfOk result (λ e. envelope_seen D.after e.value ≡ envelope_seen (D.before d.now) envelope.now.value) }
 {
     let mapped = envelope.try_map(alloc, d)?;
-    boxed(alloc, mapped)
+    Ok(Box::new(alloc, mapped)?)
 }

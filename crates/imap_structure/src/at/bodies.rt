@@ -1,6 +1,6 @@
 //! Structures of bodies at a position.
 
-ghost use Rattle.std.specs.Prelude.{◌≤◌, length, drop, map};
+ghost use Rattle.std.specs.Prelude.{◌≡◌, ◌≤◌, IfOk, length, drop, map};
 ghost use Rattle.std.specs.Option.{option_map};
 ghost use Rattle.imap_grammar.specs.Positions.{ExactlyAt, GivesAt, Ahead, RestsOn, named_in};
 ghost use Rattle.imap_grammar.specs.Step.{step};
@@ -19,17 +19,25 @@ use crate::at::texts::{spaced_number, spaced_string_text, string_text};
 use crate::limits::MAX_BODY_DEPTH;
 use imap_bytes::at::tags::{tag, word};
 use imap_bytes::{Err, Needed, first, maybe};
-use imap_shapes::boxes::boxed;
 use imap_shapes::made;
 use imap_shapes::shapes::bodies::{
     BodyContentCommon, BodyContentSinglePart, BodyStructure, ContentType,
 };
 use imap_shapes::shapes::envelopes::Envelope;
 use imap_shapes::spans::{Span, SpannedText};
-use std::alloc::Global;
+use std::alloc::{AllocError, Global};
 
 /// A structure whose texts are spans. Its readers box it where it is made: it is large, and handed on through several calls.
 pub type Spanned = BodyStructure<SpannedText, Span>;
+
+// A call of its own: `Box::new` gives its value back where there is no memory, and the room that it clears for that
+// would be cleared by each reader that has such a call in it, also where it denies.
+#[inline(never)]
+fn boxed(alloc: Global, body: Spanned) -> Result<Box<Spanned>, AllocError>
+    ensures { IfOk result (λ b. b.value ≡ body) }
+{
+    Ok(Box::new(alloc, body)?)
+}
 
 /// A text (RFC 3501, section 9: body-type-text).
 #[tactic(auto, unfolding(crate::specs::Bodies::body_type_text))]
