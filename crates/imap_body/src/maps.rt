@@ -10,15 +10,15 @@ ghost use Rattle.imap_structure.specs.Spanned.{body_in};
 ghost use Rattle.imap_body.specs.SectionValues.{path_value};
 ghost use Rattle.imap_body.specs.AttributeValues.{attribute_seen, BodyStructure};
 
-use crate::types::attributes::AttributeParts;
+use crate::types::attributes::AttributeParts as Parts;
 use crate::types::sections::SectionPath;
 use imap_bytes::texts::decode;
-use imap_shapes::BodyStructure;
 use imap_shapes::maps::change::{BodyChange, Change};
 use imap_shapes::maps::envelopes::mapped_envelope;
 use imap_shapes::maps::parts::{mapped_list, mapped_text};
 use imap_shapes::shapes::bodies;
 use imap_shapes::spans::{Span, SpannedText};
+use imap_shapes::{BodyStructure, made};
 use std::alloc::{AllocError, Global};
 use std::borrow::CowStr;
 
@@ -72,7 +72,7 @@ fn copied_section(
     }
 }
 
-impl<S, B, Y> AttributeParts<S, B, Y> {
+impl<S, B, Y> Parts<S, B, Y> {
     /// Puts the same attribute behind the others, with each text changed by c, each byte string by d, and a body structure by e.
     ///
     /// It is put where it stays, not answered: an answer has room for a body structure, and is copied whole.
@@ -82,45 +82,48 @@ impl<S, B, Y> AttributeParts<S, B, Y> {
         c: &C,
         d: &D,
         e: &E,
-        attributes: &mut Vec<AttributeParts<C::To, D::To, E::To>>,
+        others: &mut Vec<Parts<C::To, D::To, E::To>>,
     ) -> Result<(), AllocError>
-        ensures { OnOk result (map (attribute_seen C.after D.after E.after) attributes.new.items ≡ map (attribute_seen C.after D.after E.after) attributes.old.items ++ attribute_seen (C.before c.now) (D.before d.now) (E.before e.now) self.now ∷ []) }
+        ensures { OnOk result (map (attribute_seen C.after D.after E.after) others.new.items ≡ map (attribute_seen C.after D.after E.after) others.old.items ++ attribute_seen (C.before c.now) (D.before d.now) (E.before e.now) self.now ∷ []) }
     {
-        attributes.reserve(1)?;
-        let value = match self {
-            AttributeParts::BodySection {
+        others.reserve(1)?;
+        match self {
+            Parts::BodySection {
                 section,
                 index,
                 contents,
-            } => AttributeParts::BodySection {
+            } => others.push_reserved(Parts::BodySection {
                 section: copied_section(alloc, section)?,
                 index: *index,
                 contents: mapped_text(d, contents)?,
-            },
-            AttributeParts::BodyStructure(body) => return push_body(e, body, attributes),
-            AttributeParts::Envelope(envelope) => AttributeParts::Envelope(mapped_envelope(
+            }),
+            Parts::BodyStructure(body) => return push_body(e, body, others),
+            Parts::Envelope(envelope) => others.push_reserved(Parts::Envelope(mapped_envelope(
                 alloc, d, envelope,
-            )?),
-            AttributeParts::Flags(flags) => AttributeParts::Flags(mapped_list(alloc, c, flags)?),
-            AttributeParts::InternalDate(date) => AttributeParts::InternalDate(c.change(date)?),
-            AttributeParts::ModSeq(n) => AttributeParts::ModSeq(*n),
-            AttributeParts::Rfc822(message) => AttributeParts::Rfc822(mapped_text(d, message)?),
-            AttributeParts::Rfc822Header(header) => AttributeParts::Rfc822Header(mapped_text(
+            )?)),
+            Parts::Flags(flags) => others.push_reserved(Parts::Flags(mapped_list(
+                alloc, c, flags,
+            )?)),
+            Parts::InternalDate(date) => others.push_reserved(Parts::InternalDate(c.change(date)?)),
+            Parts::ModSeq(n) => others.push_reserved(Parts::ModSeq(*n)),
+            Parts::Rfc822(message) => others.push_reserved(Parts::Rfc822(mapped_text(d, message)?)),
+            Parts::Rfc822Header(header) => others.push_reserved(Parts::Rfc822Header(mapped_text(
                 d, header,
-            )?),
-            AttributeParts::Rfc822Size(n) => AttributeParts::Rfc822Size(*n),
-            AttributeParts::Rfc822Text(text) => AttributeParts::Rfc822Text(mapped_text(d, text)?),
-            AttributeParts::Uid(n) => AttributeParts::Uid(*n),
-            AttributeParts::GmailLabels(labels) => AttributeParts::GmailLabels(mapped_list(
+            )?)),
+            Parts::Rfc822Size(n) => others.push_reserved(Parts::Rfc822Size(*n)),
+            Parts::Rfc822Text(text) => others.push_reserved(Parts::Rfc822Text(mapped_text(
+                d, text,
+            )?)),
+            Parts::Uid(n) => others.push_reserved(Parts::Uid(*n)),
+            Parts::GmailLabels(labels) => others.push_reserved(Parts::GmailLabels(mapped_list(
                 alloc, c, labels,
-            )?),
-            AttributeParts::GmailMsgId(n) => AttributeParts::GmailMsgId(*n),
-            AttributeParts::GmailThrId(n) => AttributeParts::GmailThrId(*n),
-            AttributeParts::EmailId(id) => AttributeParts::EmailId(c.change(id)?),
-            AttributeParts::ThreadId(id) => AttributeParts::ThreadId(mapped_text(c, id)?),
-            AttributeParts::Unknown => AttributeParts::Unknown,
-        };
-        attributes.push_reserved(value);
+            )?)),
+            Parts::GmailMsgId(n) => others.push_reserved(Parts::GmailMsgId(*n)),
+            Parts::GmailThrId(n) => others.push_reserved(Parts::GmailThrId(*n)),
+            Parts::EmailId(id) => others.push_reserved(Parts::EmailId(c.change(id)?)),
+            Parts::ThreadId(id) => others.push_reserved(Parts::ThreadId(mapped_text(c, id)?)),
+            Parts::Unknown => others.push_reserved(Parts::Unknown),
+        }
         Ok(())
     }
 
@@ -131,15 +134,12 @@ impl<S, B, Y> AttributeParts<S, B, Y> {
         c: &C,
         d: &D,
         e: &E,
-    ) -> Result<AttributeParts<C::To, D::To, E::To>, AllocError>
+    ) -> Result<Parts<C::To, D::To, E::To>, AllocError>
         ensures { IfOk result (λ x. attribute_seen C.after D.after E.after x ≡ attribute_seen (C.before c.now) (D.before d.now) (E.before e.now) self.now) }
     {
         let mut mapped = Vec::with_capacity(alloc, 1)?;
         self.push_mapped(alloc, c, d, e, &mut mapped)?;
-        match mapped.pop() {
-            Some(attribute) => Ok(attribute),
-            None => Err(AllocError),
-        }
+        mapped.pop().ok_or(AllocError)
     }
 }
 
@@ -148,16 +148,11 @@ impl<S, B, Y> AttributeParts<S, B, Y> {
 fn push_body<S: Drop, B: Drop, Y, E: BodyChange<Y>>(
     e: &E,
     body: &Y,
-    attributes: &mut Vec<AttributeParts<S, B, E::To>>,
+    others: &mut Vec<Parts<S, B, E::To>>,
 ) -> Result<(), AllocError>
-    ensures { (f : S → Text) (h : B → Text) → OnOk result (map (attribute_seen f h E.after) attributes.new.items ≡ map (attribute_seen f h E.after) attributes.old.items ++ BodyStructure (E.before e.now body.now) ∷ []) }
+    ensures { (f : S → Text) (h : B → Text) → OnOk result (map (attribute_seen f h E.after) others.new.items ≡ map (attribute_seen f h E.after) others.old.items ++ BodyStructure (E.before e.now body.now) ∷ []) }
 {
-    attributes.reserve(1)?;
-    match e.change_body(body) {
-        Ok(body) => {
-            attributes.push_reserved(AttributeParts::BodyStructure(body));
-            Ok(())
-        }
-        Err(e) => Err(e),
-    }
+    others.reserve(1)?;
+    others.push_reserved(Parts::BodyStructure(made!(e.change_body(body))));
+    Ok(())
 }

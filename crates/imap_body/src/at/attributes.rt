@@ -18,6 +18,7 @@ use imap_bytes::at::tags::{cut0, cut1, maybe_space, tag, word};
 use imap_bytes::strings::as_utf8;
 use imap_bytes::{Err, Needed, first, maybe};
 use imap_items::at::{flag_list, gmail_label_list};
+use imap_shapes::made;
 use imap_structure::at::Reached;
 use imap_structure::at::bodies::body_structure;
 use imap_structure::at::envelopes::envelope;
@@ -185,7 +186,7 @@ fn msg_att_envelope(alloc: Global, m: &[u8], p: usize) -> Reached<AttributeSpans
     ensures rests { RestsOn parts_in result }
 {
     let (p, _) = word(b"ENVELOPE ", m, p)?;
-    let (p, envelope) = envelope(alloc, m, p)?;
+    let (p, envelope) = made!(envelope(alloc, m, p));
     Ok((p, AttributeParts::Envelope(Box::new(alloc, envelope)?)))
 }
 

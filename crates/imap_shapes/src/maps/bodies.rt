@@ -41,7 +41,7 @@ impl<S> BodyContentCommon<S> {
     ) -> Result<BodyContentCommon<C::To>, AllocError>
         ensures { IfOk result (λ x. common_seen C.after x ≡ common_seen (C.before c.now) self.now) }
     {
-        let ty = self.ty.try_map(alloc, c)?;
+        let ty = made!(self.ty.try_map(alloc, c));
         let disposition = made!(mapped_disposition(alloc, c, &self.disposition), ty);
         let language = made!(mapped_texts(alloc, c, &self.language), disposition, ty);
         let location = made!(mapped_text(c, &self.location), language, disposition, ty);
@@ -178,7 +178,7 @@ fn mapped_inner<S, B, C: Change<S>, D: Change<B>>(
 ) -> Result<Box<BodyStructure<C::To, D::To>>, AllocError>
     ensures { IfOk result (λ b. body_seen C.after D.after b.value ≡ body_seen (C.before c.now) (D.before d.now) inner.now.value) }
 {
-    let mapped = mapped_body(alloc, c, d, inner)?;
+    let mapped = made!(mapped_body(alloc, c, d, inner));
     Ok(Box::new(alloc, mapped)?)
 }
 

@@ -31,7 +31,8 @@ fn mapped_list<B, C: Change<B>>(
 {
     let mut mapped = Vec::with_capacity(alloc, addresses.len())?;
     for address in addresses {
-        mapped.push(address.try_map(c)?)?;
+        mapped.reserve(1)?;
+        mapped.push_reserved(made!(address.try_map(c)));
     }
     Ok(mapped)
 }
@@ -79,6 +80,6 @@ pub fn mapped_envelope<B, D: Change<B>>(
 ) -> Result<Box<Envelope<D::To>>, AllocError>
     ensures { IfOk result (λ e. envelope_seen D.after e.value ≡ envelope_seen (D.before d.now) envelope.now.value) }
 {
-    let mapped = envelope.try_map(alloc, d)?;
+    let mapped = made!(envelope.try_map(alloc, d));
     Ok(Box::new(alloc, mapped)?)
 }

@@ -17,7 +17,8 @@ fn mapped_pairs<S, C: Change<S>>(
 {
     let mut mapped = Vec::with_capacity(alloc, params.len())?;
     for (name, value) in params {
-        mapped.push((c.change(name)?, c.change(value)?))?;
+        mapped.reserve(1)?;
+        mapped.push_reserved((c.change(name)?, c.change(value)?));
     }
     Ok(mapped)
 }

@@ -27,7 +27,8 @@ pub fn mapped_list<X, C: Change<X>>(
 {
     let mut mapped = Vec::with_capacity(alloc, texts.len())?;
     for text in texts {
-        mapped.push(c.change(text)?)?;
+        mapped.reserve(1)?;
+        mapped.push_reserved(c.change(text)?);
     }
     Ok(mapped)
 }

@@ -4,12 +4,14 @@ ghost use Rattle.std.specs.Prelude.{◌≡◌, ◌∷◌, [], IfOk};
 
 use std::alloc::{AllocError, Global};
 
+// How many elements it gets room for, so that a list of a few does not grow.
+const ROOM: usize = 4;
+
 /// A list of one. It takes memory; `Err` where there is none.
 pub fn list_of_one<T: Drop>(alloc: Global, first: T) -> Result<Vec<T>, AllocError>
     ensures { IfOk result (λ v. v.items ≡ first ∷ []) }
 {
-    let mut items = Vec::new(alloc);
-    items.reserve(1)?;
+    let mut items = Vec::with_capacity(alloc, ROOM)?;
     items.push_reserved(first);
     Ok(items)
 }

@@ -1,4 +1,4 @@
-use Rattle.std.proofs.Common.{◌≡◌, map, ◌∙◌, ap}
+use Rattle.std.proofs.Common.{◌≡◌, ◌++◌, ◌∷◌, [], map, ◌∙◌, ap}
 use Rattle.imap_shapes.specs.FieldValues.{pair_seen}
 use Rattle.imap_shapes.proofs.Lists.{mapped_further, mapped_whole}
 use Rattle.imap_shapes.proofs.maps.fields.mapped_pairs.Goals as goal
@@ -8,7 +8,7 @@ loop-name-preserved g c =
     let old = pair_seen (g.C.Change.before c.args.c.now) in
     let new = pair_seen g.C.Change.after in
     let now : new (c.in_ok-change.field-0, c.in_ok-change-2.field-0) ≡ old c.loop-name-item.result = (λ i. (c.in_ok-change.ensures i, c.in_ok-change-2.ensures i)) in
-    ap (map new) c.in_ok-push.ensures.items ∙ mapped_further new old c.loop-name.mapped.items c.deref-name-items.result.now c.loop-name.name-index _ _ c.loop-name-test.true c.loop-name.invariant (now ∙ ap old c.loop-name-item.is)
+    ap (map new) c.push_reserved.ensures.items ∙ ap (λ l. map new (l ++ ((c.in_ok-change.field-0, c.in_ok-change-2.field-0) ∷ []))) c.in_ok-reserve.ensures.items ∙ mapped_further new old c.loop-name.mapped.items c.deref-name-items.result.now c.loop-name.name-index _ _ c.loop-name-test.true c.loop-name.invariant (now ∙ ap old c.loop-name-item.is)
 
 pub returns : goal.returns
 returns g c =
