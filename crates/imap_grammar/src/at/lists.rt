@@ -101,7 +101,7 @@ pub fn repeated_once<O: Drop, F: Fn(usize) -> Result<(usize, O), Err>>(
 {
     let (mut q, first) = f(p)?;
     let mut items = Vec::with_capacity(alloc, ROOM)?;
-    items.push(first)?;
+    items.push_reserved(first);
     while let Some((next, item)) = tried(one_item(&f, m, q))? {
         items.push(item)?;
         q = next;
@@ -127,7 +127,7 @@ pub fn separated<O: Drop, F: Fn(usize) -> Result<(usize, O), Err>>(
 {
     let (mut q, first) = f(p)?;
     let mut items = Vec::with_capacity(alloc, ROOM)?;
-    items.push(first)?;
+    items.push_reserved(first);
     while let Some((next, item)) = tried(next_item(between, &f, m, q))? {
         items.push(item)?;
         q = next;

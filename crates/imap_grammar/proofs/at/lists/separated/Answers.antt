@@ -19,7 +19,7 @@ loop-items-preserved g c =
     let is = tried_some _ _ _ (sym c.tried.ensures ∙ c.in_ok-next.was) c.in-Some.is in
     let far = (rw is at c.next_item.ensures.onward) in
     record {
-      begun = rw c.in_ok-push-2.ensures.items (begun_more _ _ _ _ _ _ _ c.loop-items.invariant.begun (found_at _ c.next_item.ensures.follows is));
+      begun = rw c.in_ok-push.ensures.items (begun_more _ _ _ _ _ _ _ c.loop-items.invariant.begun (found_at _ c.next_item.ensures.follows is));
       ahead = omega (arith, far, c.loop-items.invariant.ahead);
       within = far.1;
     }
