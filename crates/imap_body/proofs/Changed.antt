@@ -10,7 +10,7 @@ use Rattle.imap_shapes.specs.Spans.{bytes_of, owned}
 use Rattle.imap_shapes.specs.declared.shapes.bodies.BodyStructure.{BodyStructure as Structure}
 use Rattle.imap_shapes.proofs.Changed.{envelope_changed, body_changed}
 use Rattle.imap_body.specs.AttributeValues.{BodySection, BodyStructure, Envelope, Flags, Rfc822, Rfc822Header, Rfc822Text, GmailLabels, ThreadId, attribute_seen, attribute_value, attribute_owned}
-use Rattle.imap_body.specs.SectionValues.{path_value}
+use Rattle.imap_sections.specs.SectionValues.{path_value}
 use Rattle.std.specs.Option.{option_map}
 use Rattle.imap_body.specs.Changed.{changed_attribute, owned_attribute}
 use Rattle.imap_body.specs.declared.types.attributes.AttributeParts.{AttributeParts}

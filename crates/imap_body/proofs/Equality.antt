@@ -1,4 +1,4 @@
--- What `==` tells of sections and of attributes.
+-- What `==` tells of attributes.
 use Rattle.std.proofs.Common.{rules, ◌≡◌, refl, ap, Bool, true, map, nat_eq, ℕ, List, [], ◌∷◌, get_or, Option, None, Some, Vec, Global}
 use Rattle.std.specs.Cow.{cow_slice_items}
 use Rattle.std.specs.Option.{option_map, option_eq}
@@ -21,13 +21,12 @@ use Rattle.imap_shapes.specs.contracts.spans.SpannedTextPartialEq.TheImpl as tex
 use Rattle.imap_shapes.specs.BodyValues.{BodyValue}
 use Rattle.imap_shapes.specs.Lent.{lent_ntext, lent_body}
 use Rattle.imap_shapes.proofs.Equality.{field, named_tell, envelope_tells}
-use Rattle.imap_body.specs.SectionValues.{path_value}
+use Rattle.imap_sections.specs.SectionValues.{path_value}
+use Rattle.imap_sections.proofs.Equality.{paths_tell}
 use Rattle.imap_body.specs.AttributeValues.{AttributeValue, BodySection, BodyStructure, Envelope, Flags, InternalDate, ModSeq, Rfc822, Rfc822Header, Rfc822Size, Rfc822Text, Uid, GmailLabels, GmailMsgId, GmailThrId, EmailId, ThreadId, attribute_seen, lent_attribute}
 use Rattle.imap_body.specs.SpannedAttributes.{place_of, place_of_text}
 use Rattle.imap_body.specs.declared.types.attributes.AttributeParts.{AttributeParts}
 use Rattle.imap_body.specs.declared.types.attributes.AttributeParts.TheVariants as parts
-use Rattle.imap_body.specs.contracts.types.sections.MessageSectionPartialEq.TheImpl as section_eq
-use Rattle.imap_body.specs.contracts.types.sections.SectionPathPartialEq.TheImpl as path_eq
 use Rattle.imap_body.specs.contracts.types.attributes.AttributePartsPartialEq.TheImpl as parts_eq
 
 pub slices_tell : Tells (λ (x y : CowSlice ℕ Global). pointwise nat_eq (cow_slice_items x) (cow_slice_items y)) (λ x. lent_text (bytes_of x))
@@ -36,12 +35,6 @@ slices_tell = retold (λ x. as_text (cow_slice_items x)) (λ x. lent_text (bytes
     same : (x : CowSlice ℕ Global) → as_text (cow_slice_items x) ≡ lent_text (bytes_of x)
     same (slice.Borrowed s) = refl
     same (slice.Owned v) = refl
-
-pub sections_tell : Tells (section_eq.eq-value).it (λ x. x)
-sections_tell = search rules
-
-pub paths_tell : Tells (path_eq.eq-value).it path_value
-paths_tell = search rules
 
 -- ---- positions: a span's two numbers, and the texts that are no spans, are had again from what they are seen as
 

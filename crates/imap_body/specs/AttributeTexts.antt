@@ -10,7 +10,7 @@ use Rattle.imap_items.specs.FlagTexts.{canonical_flag_list, spells_flag_list}
 use Rattle.imap_items.specs.GmailTexts.{canonical_label_list, canonical_msgid, canonical_thrid, spells_label_list, spells_msgid, spells_thrid}
 use Rattle.imap_structure.specs.EnvelopeTexts.{canonical_envelope, behind_space, spells_bytes, spells_envelope}
 use Rattle.imap_structure.specs.BodyTexts.{canonical_body, spells_body}
-use Rattle.imap_body.specs.SectionTexts.{canonical_section, spells_section}
+use Rattle.imap_sections.specs.SectionTexts.{canonical_section, spells_section}
 use Rattle.imap_body.specs.Attributes.{is_inside, is_bare}
 use Rattle.imap_body.specs.AttributeValues.{AttributeValue, BodySection, BodyStructure, Envelope, Flags, InternalDate, ModSeq, Rfc822, Rfc822Header, Rfc822Size, Rfc822Text, Uid, GmailLabels, GmailMsgId, GmailThrId, EmailId, ThreadId, Unknown}
 

@@ -8,7 +8,7 @@ use Rattle.std.specs.declared.boxed.Box.{Box}
 use Rattle.imap_grammar.specs.Text.{Bytes, Text, text_of, lent_text}
 use Rattle.imap_grammar.specs.declared.at.span.Span.{Span}
 use Rattle.imap_items.specs.Spanned.{text_in}
-use Rattle.imap_body.specs.SectionValues.{PathValue, path_value}
+use Rattle.imap_sections.specs.SectionValues.{PathValue, path_value}
 use Rattle.imap_shapes.specs.Lent.{lent_ntext, lent_envelope, lent_body}
 use Rattle.imap_shapes.specs.EnvelopeValues.{EnvelopeValue, envelope_seen}
 use Rattle.imap_shapes.specs.BodyValues.{BodyValue, body_seen}

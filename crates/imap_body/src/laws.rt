@@ -1,4 +1,4 @@
-//! Laws of the rules of this crate and of `imap_structure`, as contracts of functions that do nothing.
+//! Laws of the rules of this crate, of `imap_structure` and of `imap_sections`, as contracts of functions that do nothing.
 
 ghost use Rattle.imap_grammar.specs.Text.{Text, text_of, lent_text};
 ghost use Rattle.imap_grammar.specs.Equality.{Tells};
@@ -8,9 +8,9 @@ ghost use Rattle.imap_shapes.specs.EnvelopeValues.{address_seen, envelope_seen};
 ghost use Rattle.imap_shapes.specs.FieldValues.{params_seen, encoding_seen};
 ghost use Rattle.imap_shapes.specs.ExtensionValues.{disposition_seen, extension_seen};
 ghost use Rattle.imap_shapes.specs.BodyValues.{BodyValue, type_seen, common_seen, single_seen, body_seen};
-ghost use Rattle.imap_body.specs.SectionValues.{path_value};
+ghost use Rattle.imap_sections.specs.SectionValues.{path_value};
 ghost use Rattle.imap_grammar.specs.Stable.{Stable};
-ghost use Rattle.imap_body.specs.Sections as sections;
+ghost use Rattle.imap_sections.specs.Sections as sections;
 ghost use Rattle.imap_body.specs.Attributes as attributes;
 ghost use Rattle.imap_structure.specs.Envelopes as envelopes;
 ghost use Rattle.imap_structure.specs.Fields as fields;
@@ -20,7 +20,7 @@ ghost use Rattle.std.specs.Option.{option_map};
 ghost use Rattle.std.specs.Prelude.{ℕ, map};
 ghost use Rattle.imap_grammar.specs.ReadBack.{Keeps, Closes, EndsItem, as_is};
 ghost use Rattle.imap_shapes.specs.Lent.{lent_address, lent_addresses, lent_envelope, lent_params, lent_encoding, lent_fields, lent_disposition, lent_languages, lent_extension, lent_ext_1part, lent_ext_mpart, lent_type, lent_common, lent_single, lent_body};
-ghost use Rattle.imap_body.specs.SectionTexts.{canonical_text, canonical_part, canonical_path, canonical_section, spells_message_text, spells_text, spells_part, spells_path, spells_section};
+ghost use Rattle.imap_sections.specs.SectionTexts.{canonical_text, canonical_part, canonical_path, canonical_section, spells_message_text, spells_text, spells_part, spells_path, spells_section};
 ghost use Rattle.imap_body.specs.AttributeValues.{attribute_seen, attribute_value, lent_attribute};
 ghost use Rattle.imap_body.specs.SpannedAttributes.{places_of_body, places_of, spanned_value};
 ghost use Rattle.imap_body.specs.AttributeTexts.{canonical_attribute, canonical_attributes, spells_attribute, spells_attributes};
@@ -31,7 +31,7 @@ ghost use Rattle.imap_structure.specs.BodyTexts.{canonical_body, spells_body};
 
 use crate::spanned::SpannedAttribute;
 use crate::types::attributes::{AttributeParts, AttributeSpans, AttributeValue};
-use crate::types::sections::{MessageSection, SectionPath};
+use imap_sections::{MessageSection, SectionPath};
 use imap_shapes::shapes::bodies::BodyStructure as Structure;
 use imap_shapes::spans::{Span, SpannedText};
 use imap_shapes::{
@@ -87,7 +87,7 @@ pub fn stable()
 
 /// What each rule takes spells the value that it yields. And a value that it yields on some bytes, it yields again on the value's canonical text, with all texts borrowed,
 /// and leaves exactly what follows: any bytes that begin with `)` or CR, and behind an attribute also with a space. A text too long for its length to be told as a literal is excepted.
-#[tactic(auto, using(crate::proofs::SectionTexts::keeps_section_msgtext, crate::proofs::SectionTexts::keeps_section_text, crate::proofs::SectionTexts::keeps_section_part, crate::proofs::SectionTexts::keeps_section_spec, crate::proofs::SectionTexts::keeps_section, imap_structure::proofs::EnvelopeTexts::keeps_address, imap_structure::proofs::EnvelopeTexts::keeps_addresses, imap_structure::proofs::EnvelopeTexts::keeps_envelope, imap_structure::proofs::FieldTexts::keeps_params, imap_structure::proofs::FieldTexts::keeps_encoding, imap_structure::proofs::FieldTexts::keeps_fields, imap_structure::proofs::ExtensionTexts::keeps_disposition, imap_structure::proofs::ExtensionTexts::keeps_language, imap_structure::proofs::ExtensionTexts::keeps_body_extension, imap_structure::proofs::ExtensionTexts::keeps_ext_1part, imap_structure::proofs::ExtensionTexts::keeps_ext_mpart, imap_structure::proofs::BodyTexts::keeps_body_structure, crate::proofs::AttributeTexts::keeps_body_section, crate::proofs::AttributeTexts::keeps_body_structure, crate::proofs::AttributeTexts::keeps_envelope, crate::proofs::AttributeTexts::keeps_internal_date, crate::proofs::AttributeTexts::keeps_flags, crate::proofs::AttributeTexts::keeps_mod_seq, crate::proofs::AttributeTexts::keeps_rfc822, crate::proofs::AttributeTexts::keeps_rfc822_header, crate::proofs::AttributeTexts::keeps_rfc822_size, crate::proofs::AttributeTexts::keeps_rfc822_text, crate::proofs::AttributeTexts::keeps_uid, crate::proofs::AttributeTexts::keeps_gmail_labels, crate::proofs::AttributeTexts::keeps_gmail_msgid, crate::proofs::AttributeTexts::keeps_gmail_thrid, crate::proofs::AttributeTexts::keeps_email_id, crate::proofs::AttributeTexts::keeps_thread_id, crate::proofs::AttributeTexts::keeps_unknown, crate::proofs::AttributeTexts::keeps_attribute, crate::proofs::AttributeTexts::keeps_attribute_list))]
+#[tactic(auto, using(imap_sections::proofs::SectionTexts::keeps_section_msgtext, imap_sections::proofs::SectionTexts::keeps_section_text, imap_sections::proofs::SectionTexts::keeps_section_part, imap_sections::proofs::SectionTexts::keeps_section_spec, imap_sections::proofs::SectionTexts::keeps_section, imap_structure::proofs::EnvelopeTexts::keeps_address, imap_structure::proofs::EnvelopeTexts::keeps_addresses, imap_structure::proofs::EnvelopeTexts::keeps_envelope, imap_structure::proofs::FieldTexts::keeps_params, imap_structure::proofs::FieldTexts::keeps_encoding, imap_structure::proofs::FieldTexts::keeps_fields, imap_structure::proofs::ExtensionTexts::keeps_disposition, imap_structure::proofs::ExtensionTexts::keeps_language, imap_structure::proofs::ExtensionTexts::keeps_body_extension, imap_structure::proofs::ExtensionTexts::keeps_ext_1part, imap_structure::proofs::ExtensionTexts::keeps_ext_mpart, imap_structure::proofs::BodyTexts::keeps_body_structure, crate::proofs::AttributeTexts::keeps_body_section, crate::proofs::AttributeTexts::keeps_body_structure, crate::proofs::AttributeTexts::keeps_envelope, crate::proofs::AttributeTexts::keeps_internal_date, crate::proofs::AttributeTexts::keeps_flags, crate::proofs::AttributeTexts::keeps_mod_seq, crate::proofs::AttributeTexts::keeps_rfc822, crate::proofs::AttributeTexts::keeps_rfc822_header, crate::proofs::AttributeTexts::keeps_rfc822_size, crate::proofs::AttributeTexts::keeps_rfc822_text, crate::proofs::AttributeTexts::keeps_uid, crate::proofs::AttributeTexts::keeps_gmail_labels, crate::proofs::AttributeTexts::keeps_gmail_msgid, crate::proofs::AttributeTexts::keeps_gmail_thrid, crate::proofs::AttributeTexts::keeps_email_id, crate::proofs::AttributeTexts::keeps_thread_id, crate::proofs::AttributeTexts::keeps_unknown, crate::proofs::AttributeTexts::keeps_attribute, crate::proofs::AttributeTexts::keeps_attribute_list))]
 pub fn read_back()
     ensures section_msgtext { Keeps sections.section_msgtext as_is canonical_text spells_message_text Closes }
     ensures section_text { Keeps sections.section_text as_is canonical_text spells_text Closes }

@@ -1,4 +1,4 @@
-//! What a server tells of a message: attributes and sections; re-exports envelopes, body structures and part search.
+//! What a server tells of a message: its attributes; re-exports sections, envelopes, body structures and part search.
 #![tactic(auto)]
 
 pub mod at;
@@ -9,6 +9,7 @@ pub mod readers;
 pub mod spanned;
 mod types;
 
+pub use imap_sections::{MessageSection, SectionPath, section, section_msgtext, section_part};
 pub use imap_shapes::{
     Address, BodyContentCommon, BodyContentSinglePart, BodyExt1Part, BodyExtMPart, BodyExtension,
     BodyFields, BodyParams, BodyStructParser, BodyStructure, ContentDisposition, ContentEncoding,
@@ -16,6 +17,4 @@ pub use imap_shapes::{
 };
 pub use imap_structure::{MAX_BODY_DEPTH, MAX_EXTENSION_DEPTH};
 pub use readers::attributes::msg_att_body_section;
-pub use readers::sections::{section, section_msgtext, section_part};
 pub use types::attributes::AttributeValue;
-pub use types::sections::{MessageSection, SectionPath};

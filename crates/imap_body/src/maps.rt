@@ -7,12 +7,12 @@ ghost use Rattle.imap_items.specs.Spanned.{text_in};
 ghost use Rattle.imap_shapes.specs.Spans.{bytes_of};
 ghost use Rattle.imap_shapes.specs.BodyValues.{body_seen};
 ghost use Rattle.imap_structure.specs.Spanned.{body_in};
-ghost use Rattle.imap_body.specs.SectionValues.{path_value};
+ghost use Rattle.imap_sections.specs.SectionValues.{path_value};
 ghost use Rattle.imap_body.specs.AttributeValues.{attribute_seen, BodyStructure};
 
 use crate::types::attributes::AttributeParts as Parts;
-use crate::types::sections::SectionPath;
 use imap_bytes::texts::decode;
+use imap_sections::SectionPath;
 use imap_shapes::maps::change::{BodyChange, Change};
 use imap_shapes::maps::envelopes::mapped_envelope;
 use imap_shapes::maps::parts::{mapped_list, mapped_text};

@@ -1,9 +1,9 @@
 //! Readers of slices, each of the rule of its name.
 
 pub mod attributes;
-pub mod sections;
 
 pub use attributes::{attribute, attribute_list};
+pub use imap_sections::readers::sections;
 pub use imap_structure::readers::{
     address, bodies, body_extension, body_fields, body_structure, envelope, envelopes, extensions,
     fields,

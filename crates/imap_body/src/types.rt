@@ -1,4 +1,3 @@
-//! The public types of attributes and sections.
+//! The public types of attributes.
 
 pub mod attributes;
-pub mod sections;

@@ -9,7 +9,6 @@ ghost use Rattle.imap_items.specs.Spanned.{text_in};
 ghost use Rattle.imap_body.specs.AttributeValues.{parts_in};
 ghost use Rattle.imap_body.specs.Attributes as rules;
 
-use crate::at::sections::section;
 use crate::types::attributes::{AttributeParts, AttributeSpans};
 use imap_bytes::at::numbers::{number, number_64};
 use imap_bytes::at::span::Span;
@@ -18,6 +17,7 @@ use imap_bytes::at::tags::{cut0, cut1, maybe_space, tag, word};
 use imap_bytes::strings::as_utf8;
 use imap_bytes::{Err, Needed, first, maybe};
 use imap_items::at::{flag_list, gmail_label_list};
+use imap_sections::at::sections::section;
 use imap_shapes::made;
 use imap_structure::at::Reached;
 use imap_structure::at::bodies::body_structure;

@@ -1,6 +1,6 @@
 //! What a server tells of a message.
 
-use crate::types::sections::SectionPath;
+use imap_sections::SectionPath;
 use imap_shapes::BodyStructure;
 use imap_shapes::shapes::bodies;
 use imap_shapes::shapes::envelopes::Envelope;

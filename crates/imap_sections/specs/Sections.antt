@@ -5,9 +5,9 @@ use Rattle.imap_grammar.specs.Rule.{Rule, gives, nothing, opt, otherwise, droppe
 use Rattle.imap_grammar.specs.Tags.{tag, word, names, sp}
 use Rattle.imap_bytes.specs.Numbers.{number}
 use Rattle.imap_bytes.specs.Strings.{astring}
-use Rattle.imap_body.specs.declared.types.sections.MessageSection.{MessageSection}
-use Rattle.imap_body.specs.declared.types.sections.MessageSection.TheVariants.{Header, Mime, Text}
-use Rattle.imap_body.specs.SectionValues.{PathValue, Full, Part}
+use Rattle.imap_sections.specs.declared.types.sections.MessageSection.{MessageSection}
+use Rattle.imap_sections.specs.declared.types.sections.MessageSection.TheVariants.{Header, Mime, Text}
+use Rattle.imap_sections.specs.SectionValues.{PathValue, Full, Part}
 
 -- header-fld-name *(SP header-fld-name), each an astring: they are read and dropped
 unfoldable pub header_names : Rule (Unit {0})

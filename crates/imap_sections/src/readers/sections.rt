@@ -4,8 +4,8 @@ ghost use Rattle.std.specs.Option.{option_map};
 ghost use Rattle.imap_grammar.specs.Answer.{Answers, Exactly, Gives};
 ghost use Rattle.imap_grammar.specs.Memory.{NeverFails};
 ghost use Rattle.imap_grammar.specs.Step.{step};
-ghost use Rattle.imap_body.specs.Sections as sections;
-ghost use Rattle.imap_body.specs.SectionValues.{path_value};
+ghost use Rattle.imap_sections.specs.Sections as sections;
+ghost use Rattle.imap_sections.specs.SectionValues.{path_value};
 
 use crate::at;
 use crate::types::sections::{MessageSection, SectionPath};

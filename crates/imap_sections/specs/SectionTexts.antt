@@ -4,9 +4,9 @@ use Rattle.imap_grammar.specs.Text.{Bytes}
 use Rattle.imap_grammar.specs.Pieces.{Pieces, ◌then◌, words, number_text, separated}
 use Rattle.imap_grammar.specs.ReadBack.{Texts}
 use Rattle.imap_grammar.specs.Spelling.{this, exactly, in_any_case, ◌and◌, maybe, with_between, spells_number, spells_astring}
-use Rattle.imap_body.specs.declared.types.sections.MessageSection.{MessageSection}
-use Rattle.imap_body.specs.declared.types.sections.MessageSection.TheVariants.{Header, Mime, Text}
-use Rattle.imap_body.specs.SectionValues.{PathValue, Full, Part}
+use Rattle.imap_sections.specs.declared.types.sections.MessageSection.{MessageSection}
+use Rattle.imap_sections.specs.declared.types.sections.MessageSection.TheVariants.{Header, Mime, Text}
+use Rattle.imap_sections.specs.SectionValues.{PathValue, Full, Part}
 
 -- a header is told by one word, whichever of its fields were named
 abbrev pub canonical_text : MessageSection → Pieces

@@ -1,6 +1,6 @@
 use Rattle.std.proofs.Common.{rules}
-use Rattle.imap_body.specs.Sections.{body_text}
-use Rattle.imap_body.proofs.at.sections.body_text.Goals as goal
+use Rattle.imap_sections.specs.Sections.{body_text}
+use Rattle.imap_sections.proofs.at.sections.body_text.Goals as goal
 
 pub returns-clause-steps : goal.returns-clause-steps
 unfolding body_text

@@ -6,7 +6,7 @@ use Rattle.imap_grammar.specs.declared.answer.Needed.TheVariants.{Unknown}
 use Rattle.imap_grammar.specs.Rule.{never}
 use Rattle.imap_grammar.specs.Step.{step}
 use Rattle.imap_grammar.proofs.Starts.{AtAny, AtOther, waits_without, by_any, by_other}
-use Rattle.imap_body.specs.Sections.{section_msgtext, header_fields, fields_word, header_text, body_text}
+use Rattle.imap_sections.specs.Sections.{section_msgtext, header_fields, fields_word, header_text, body_text}
 
 pub msgtext_none : (m : List ℕ) → slice_get m 0 ≡ None → step section_msgtext m ≡ Err (Incomplete Unknown)
 unfolding section_msgtext header_fields fields_word

@@ -18,11 +18,11 @@ use Rattle.imap_bytes.specs.Numbers.{digits, number}
 use Rattle.imap_bytes.proofs.ReadingTexts.{not_digit, reads-number}
 use Rattle.imap_bytes.proofs.ReadingCounts.{number_starts, numbers_yield, denies-number, denies-word_at_digit}
 use Rattle.imap_bytes.proofs.SpellingTexts.{spells-number, spells-astring}
-use Rattle.imap_body.specs.declared.types.sections.MessageSection.{MessageSection}
-use Rattle.imap_body.specs.declared.types.sections.MessageSection.TheVariants.{Header, Mime, Text}
-use Rattle.imap_body.specs.SectionValues.{PathValue, Full, Part}
-use Rattle.imap_body.specs.Sections.{header_names, header_list, fields_word, not_word, header_fields, section_msgtext, section_text, section_part, part_text, part_path, section_spec, section}
-use Rattle.imap_body.specs.SectionTexts.{canonical_text, canonical_part, canonical_text_behind, canonical_path, canonical_spec, canonical_section, spells_header_names, spells_header_list, spells_message_text, spells_text, spells_part, spells_path, spells_section}
+use Rattle.imap_sections.specs.declared.types.sections.MessageSection.{MessageSection}
+use Rattle.imap_sections.specs.declared.types.sections.MessageSection.TheVariants.{Header, Mime, Text}
+use Rattle.imap_sections.specs.SectionValues.{PathValue, Full, Part}
+use Rattle.imap_sections.specs.Sections.{header_names, header_list, fields_word, not_word, header_fields, section_msgtext, section_text, section_part, part_text, part_path, section_spec, section}
+use Rattle.imap_sections.specs.SectionTexts.{canonical_text, canonical_part, canonical_text_behind, canonical_path, canonical_spec, canonical_section, spells_header_names, spells_header_list, spells_message_text, spells_text, spells_part, spells_path, spells_section}
 
 -- what ends a section's text: `]`, and what ends any text
 abbrev pub ends_section : ℕ → Bool

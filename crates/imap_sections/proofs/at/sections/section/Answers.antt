@@ -1,6 +1,6 @@
 use Rattle.std.proofs.Common.{rules}
-use Rattle.imap_body.specs.Sections.{section}
-use Rattle.imap_body.proofs.at.sections.section.Goals as goal
+use Rattle.imap_sections.specs.Sections.{section}
+use Rattle.imap_sections.proofs.at.sections.section.Goals as goal
 
 pub returns-clause-steps : goal.returns-clause-steps
 unfolding section

@@ -1,6 +1,6 @@
 use Rattle.std.proofs.Common.{rules}
-use Rattle.imap_body.specs.Sections.{part_path}
-use Rattle.imap_body.proofs.at.sections.part_path.Goals as goal
+use Rattle.imap_sections.specs.Sections.{part_path}
+use Rattle.imap_sections.proofs.at.sections.part_path.Goals as goal
 
 pub returns-clause-steps : goal.returns-clause-steps
 unfolding part_path

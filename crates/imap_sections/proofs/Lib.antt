@@ -1,0 +1,3 @@
+pub mod SectionFirstBytes
+pub mod SectionTexts
+pub mod Equality

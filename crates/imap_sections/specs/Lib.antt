@@ -1,0 +1,3 @@
+pub mod SectionValues
+pub mod Sections
+pub mod SectionTexts

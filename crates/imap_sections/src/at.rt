@@ -1,0 +1,3 @@
+//! Readers that walk positions in one message.
+
+pub mod sections;

@@ -1,0 +1,3 @@
+//! Readers of slices, each of the rule of its name.
+
+pub mod sections;

@@ -1,0 +1,3 @@
+//! The public types.
+
+pub mod sections;
