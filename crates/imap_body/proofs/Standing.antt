@@ -1,29 +1,24 @@
 -- Attributes in a message: what one names, and how those of a list stand one behind another.
-use Rattle.std.proofs.Common.{◌≡◌, ℕ, ◌+◌, ◌≤◌, List, [], ◌∷◌, ◌++◌, length, take, drop, Result, IfOk, Ok, Err, sym, ap, subst, ◌∙◌, arith, codes}
-use Rattle.std.proofs.lemmas.List.{drop-drop, length-drop, length-append}
+use Rattle.std.proofs.Common.{◌≡◌, ℕ, ◌==◌, ◌+◌, ◌≤◌, List, [], ◌∷◌, ◌++◌, length, take, drop, map, Ok, Err, IfOk, refl, sym, ap, subst, ◌∙◌, arith}
+use Rattle.std.proofs.lemmas.List.{drop-drop, length-drop}
 use Rattle.std.specs.Global.{Vec}
-use Rattle.imap_grammar.specs.Meaning.{Cuts}
-use Rattle.imap_grammar.specs.Rule.{meaning, ◌⨾◌}
-use Rattle.imap_grammar.specs.Step.{step}
-use Rattle.imap_grammar.specs.Tags.{tag, sp, blanks0}
-use Rattle.imap_grammar.specs.Lists.{behind_means, nonempty_list_means, or_memory}
-use Rattle.imap_grammar.specs.Positions.{Reached, Rests, between}
-use Rattle.imap_grammar.specs.declared.answer.Err.{Err as Fault}
-use Rattle.imap_grammar.specs.PositionLists.{called_at, FollowsAt}
+use Rattle.imap_grammar.specs.Rule.{meaning, tag_by}
+use Rattle.imap_grammar.specs.Step.{Step, step}
+use Rattle.imap_grammar.specs.Positions.{Reached, Rests, RestsOn, GivesAt, between}
 use Rattle.imap_grammar.specs.Text.{Bytes}
-use Rattle.imap_grammar.proofs.Agreement.{agrees, shrinks}
+use Rattle.imap_grammar.proofs.Agreement.{agrees}
 use Rattle.imap_grammar.proofs.Positions.{stepped}
 use Rattle.imap_grammar.proofs.ReadingWords.{exact}
 use Rattle.imap_items.proofs.Spanned.{named_rests}
 use Rattle.imap_body.specs.declared.spanned.SpannedAttribute.{SpannedAttribute}
 use Rattle.imap_body.specs.AttributeValues.{AttributeSpans, AttributeValue, parts_in}
 use Rattle.imap_body.specs.Attributes.{attribute}
-use Rattle.imap_body.specs.SpannedAttributes.{attribute_in, StandsAt, InTurn}
+use Rattle.imap_body.specs.SpannedAttributes.{attribute_in, StandsAt, EndsAt, InTurn, KeepsAt}
 
 -- ---- one attribute
 
-abbrev read : Bytes → AttributeValue → Result (Bytes × AttributeValue) Fault
-read rest v = Ok (rest, v)
+abbrev answered : {V : Type 0} → Bytes → V → Step V
+answered rest v = Ok (rest, v)
 
 -- what was read from the start of what is behind p
 pub attribute_named : (m from : Bytes) (p size : ℕ) (parts : AttributeSpans) → from ≡ drop p m → step attribute from ≡ Ok (drop size from, parts_in from parts) → Rests parts_in size parts
@@ -33,19 +28,23 @@ attribute_named m from p size parts is reads rests =
     let front : take size from ≡ between m p (p + size) = ap (take size) is ∙ s.1 in
     let left : drop size from ≡ drop (p + size) m = ap (drop size) is ∙ s.0 in
     let named : parts_in from parts ≡ parts_in (between m p (p + size)) parts = sym (rests.same from) ∙ ap (λ n. parts_in n parts) front in
-    ap (step attribute) (sym is) ∙ reads ∙ ap (λ k. read k (parts_in from parts)) left ∙ ap (read (drop (p + size) m)) named
+    ap (step attribute) (sym is) ∙ reads ∙ ap (λ k. answered k (parts_in from parts)) left ∙ ap (answered (drop (p + size) m)) named
 
-pub attribute_rests : (s : SpannedAttribute) (q : ℕ) → s.span.start ≤ s.span.end → s.span.end ≤ q → Rests attribute_in q s
+-- what one names rests on the bytes before any place that it ends by
+attribute_rests : (s : SpannedAttribute) (q : ℕ) → s.span.start ≤ s.span.end → s.span.end ≤ q → Rests attribute_in q s
 attribute_rests s q ordered le = record { same = λ m. ap (λ n. parts_in n s.parts) (named_rests s.span q m ordered le) }
 
--- ---- a list of them
+-- one that was read at k up to q stands there
+pub ends_there : (m : Bytes) (k q : ℕ) (s : SpannedAttribute) → step attribute (drop k m) ≡ Ok (drop q m, attribute_in m s) → k ≤ q → s.span.start ≡ k → s.span.end ≡ q → EndsAt m k q s
+ends_there m k q s steps ahead start end =
+    let there = (agrees attribute (drop k m)).yielded (attribute_in m s) (drop q m) steps in
+    (record { start = start; ordered = omega (arith, ahead, end); within = omega (arith, end); is = subst (λ n. (meaning attribute).yields (drop k m) (attribute_in m s) (drop n m)) (sym end) there }, end)
 
-abbrev Answers : Type 1
-Answers = ℕ → Reached SpannedAttribute → Type 0
+-- a place further on allows as much
+ends_later : (m : Bytes) (p q r : ℕ) (s : SpannedAttribute) → StandsAt m p q s → q ≤ r → StandsAt m p r s
+ends_later m p q r s h le = record { start = h.start; ordered = h.ordered; within = omega (arith, h.within, le); is = h.is }
 
--- each answer at a place of m is an attribute that stands there
-abbrev pub EachStands : Bytes → Answers → Type 0
-EachStands m answers = (k q : ℕ) (s : SpannedAttribute) → k ≤ length m → answers k (Ok (q, s)) → StandsAt m k q s × (s.span.end ≡ q) × (q ≤ length m)
+-- ---- a byte in front
 
 -- places that leave the same are the same
 same_place : (m : Bytes) (p q : ℕ) → drop p m ≡ drop q m → p ≤ length m → q ≤ length m → p ≡ q
@@ -55,55 +54,63 @@ same_place m p q e le within = omega (arith, ap length e, length-drop p m, lengt
 one_further : (m rest : Bytes) (b p : ℕ) → drop p m ≡ b ∷ rest → (rest ≡ drop (p + 1) m) × (p + 1 ≤ length m)
 one_further m rest b p e = (sym (ap (drop 1) e) ∙ drop-drop 1 p m, omega (arith, ap length e, length-drop p m))
 
--- a place further on allows as much
-ends_later : (m : Bytes) (p q r : ℕ) (s : SpannedAttribute) → StandsAt m p q s → q ≤ r → StandsAt m p r s
-ends_later m p q r s h le = record { start = h.start; ordered = h.ordered; within = omega (arith, h.within, le); is = h.is }
-
--- one that was read at k, and leaves what is behind q
-stood : (m : Bytes) (answers : Answers) → EachStands m answers → (k : ℕ) (i rest : Bytes) (s : SpannedAttribute) → i ≡ drop k m → k ≤ length m → (called_at m answers).yields i s rest → StandsAt m k s.span.end s × (rest ≡ drop s.span.end m) × (s.span.end ≤ length m)
-stood m answers each k i rest s is le y =
-    let place : k ≡ y.0 = same_place m k y.0 (sym is ∙ y.2) le y.3 in
-    let h = each y.0 y.1 s y.3 y.5 in
-    (subst (λ n. StandsAt m n s.span.end s) (sym place) (subst (λ n. StandsAt m y.0 n s) (sym h.1) h.0), y.4 ∙ ap (λ n. drop n m) (sym h.1), omega (arith, h.1, h.2))
-
--- those behind spaces
-turns : (m : Bytes) (answers : Answers) → EachStands m answers → (vs : List SpannedAttribute) (k : ℕ) (i rest : Bytes) (q : ℕ) → i ≡ drop k m → k ≤ length m → length m ≤ q + length rest → Cuts (behind_means (meaning sp) (called_at m answers)) i vs rest
-    → (k + length rest ≤ length m) × InTurn m (k + 1) q vs
+-- behind a word of one byte is the next place
+pub behind_byte : (b : ℕ) (m v : Bytes) (p q : ℕ) → step (tag_by ◌==◌ (b ∷ [])) (drop p m) ≡ Ok (drop q m, v) → q ≤ length m → q ≡ p + 1
 unfolding meaning
-turns m answers each [] k i rest q is le reached c = (omega (arith, ap length c, ap length is, length-drop k m, le), tt)
-turns m answers each (s ∷ vs) k i rest q is le reached c =
-    let y = c.1 in
-    let space : 32 ∷ [] ≡ y.0.0 = exact (codes " ") y.0.0 y.1.1.1 in
-    let front : drop k m ≡ 32 ∷ y.1.0 = sym is ∙ y.1.1.0 ∙ ap (λ v. v ++ y.1.0) (sym space) in
-    let here = one_further m y.1.0 32 k front in
-    let one = stood m answers each (k + 1) y.1.0 c.0 y.0.1 here.0 here.1 y.1.2 in
-    let named = y.2 in
-    let more = turns m answers each vs y.0.1.span.end c.0 rest q one.1 one.2 reached c.2 in
-    let bound : y.0.1.span.end ≤ q = omega (arith, more.0, reached) in
-    let all : InTurn m (k + 1) q (y.0.1 ∷ vs) = (ends_later m (k + 1) y.0.1.span.end q y.0.1 one.0 bound, more.1) in
-    (omega (arith, more.0, one.0.ordered), subst (λ x. InTurn m (k + 1) q (x ∷ vs)) named all)
+behind_byte b m v p q reads within =
+    let y = (agrees (tag_by ◌==◌ (b ∷ [])) (drop p m)).yielded v (drop q m) reads in
+    let byte : b ∷ [] ≡ v = exact (b ∷ []) v y.1 in
+    let here = one_further m (drop q m) b p (y.0 ∙ ap (λ w. w ++ drop q m) (sym byte)) in
+    same_place m q (p + 1) here.0 within here.1
 
--- a list in parentheses
-pub listed_in_turn : {answers : Answers} {m : Bytes} {p : ℕ} (result : Reached (Vec SpannedAttribute)) → FollowsAt (λ a. or_memory (nonempty_list_means a)) answers (λ y. y.items) m p result → EachStands m answers
-    → IfOk result (λ x. InTurn m (p + 1) x.0 x.1.items)
-unfolding meaning
-listed_in_turn (Err e) h each = tt
-listed_in_turn {answers} {m} {p} (Ok x) h each =
-    let y = h.met in
-    let opened : 40 ∷ [] ≡ y.0.0 = exact (codes "(") y.0.0 y.1.1.1 in
-    let front : drop p m ≡ 40 ∷ y.1.0 = y.1.1.0 ∙ ap (λ v. v ++ y.1.0) (sym opened) in
-    let here = one_further m y.1.0 40 p front in
-    let inside = y.1.2 in
-    let list = inside.1.1 in
-    let closed = shrinks (blanks0 ⨾ tag ")") inside.1.0 inside.0.1 (drop x.0 m) inside.1.2 in
-    let reached : length m ≤ x.0 + length inside.1.0 = omega (arith, ap length closed.1, length-append closed.0 (drop x.0 m), length-drop x.0 m) in
-    let one = stood m answers each (p + 1) y.1.0 list.1.0 list.0.0 here.0 here.1 list.1.1 in
-    let more = turns m answers each list.0.1 list.0.0.span.end list.1.0 inside.1.0 x.0 one.1 one.2 reached list.1.2.0 in
-    let bound : list.0.0.span.end ≤ x.0 = omega (arith, more.0, reached) in
-    let all : InTurn m (p + 1) x.0 (list.0.0 ∷ list.0.1) = (ends_later m (p + 1) list.0.0.span.end x.0 list.0.0 one.0 bound, more.1) in
-    subst (InTurn m (p + 1) x.0) (list.2 ∙ inside.2 ∙ y.2) all
+-- ---- a list of them
 
-pub stands_there : (m : Bytes) (k q : ℕ) (s : SpannedAttribute) → step attribute (drop k m) ≡ Ok (drop q m, attribute_in m s) → (k ≤ q) × (q ≤ length m) → s.span.start ≡ k → s.span.end ≡ q → StandsAt m k q s × (s.span.end ≡ q) × (q ≤ length m)
-stands_there m k q s steps ahead start end =
-    let there = (agrees attribute (drop k m)).yielded (attribute_in m s) (drop q m) steps in
-    (record { start = start; ordered = omega (arith, ahead.0, end); within = omega (arith, end); is = subst (λ n. (meaning attribute).yields (drop k m) (attribute_in m s) (drop n m)) (sym end) there }, end, ahead.1)
+-- they stand one behind another with a byte between, the first from p on, and the last ends at q
+abbrev pub UpTo : Bytes → ℕ → ℕ → List SpannedAttribute → Type 0
+UpTo m p q [] = p ≡ q + 1
+UpTo m p q (s ∷ rest) = StandsAt m p s.span.end s × UpTo m (s.span.end + 1) q rest
+
+pub up_to_one : (m : Bytes) (p q : ℕ) (s : SpannedAttribute) → EndsAt m p q s → UpTo m p q (s ∷ [])
+up_to_one m p q s h = (subst (λ k. StandsAt m p k s) (sym h.1) h.0, ap (λ k. k + 1) h.1)
+
+pub up_to_more : (m : Bytes) (p q r : ℕ) (read : List SpannedAttribute) (s : SpannedAttribute) → UpTo m p q read → EndsAt m (q + 1) r s → UpTo m p r (read ++ s ∷ [])
+up_to_more m p q r [] s h here = up_to_one m p r s (subst (λ k. EndsAt m k r s) (sym h) here)
+up_to_more m p q r (x ∷ read) s h here = (h.0, up_to_more m (x.span.end + 1) q r read s h.1 here)
+
+begins_before : (m : Bytes) (p q : ℕ) (read : List SpannedAttribute) → UpTo m p q read → p ≤ q + 1
+begins_before m p q [] h = omega (arith, h)
+begins_before m p q (s ∷ read) h = omega (arith, h.0.ordered, begins_before m (s.span.end + 1) q read h.1)
+
+pub in_turn : (m : Bytes) (p q r : ℕ) (read : List SpannedAttribute) → UpTo m p q read → q ≤ r → InTurn m p r read
+in_turn m p q r [] h le = tt
+in_turn m p q r (s ∷ read) h le = (ends_later m p s.span.end r s h.0 (omega (arith, begins_before m (s.span.end + 1) q read h.1, le)), in_turn m (s.span.end + 1) q r read h.1 le)
+
+pub in_turn_later : (m : Bytes) (p q r : ℕ) (read : List SpannedAttribute) → InTurn m p q read → q ≤ r → InTurn m p r read
+in_turn_later m p q r [] h le = tt
+in_turn_later m p q r (s ∷ read) h le = (ends_later m p q r s h.0 le, in_turn_later m (s.span.end + 1) q r read h.1 le)
+
+-- what those in turn name rests on the bytes before the place that they end by
+pub in_turn_rests : (m : Bytes) (p q : ℕ) (read : List SpannedAttribute) → InTurn m p q read → Rests (λ n xs. map (attribute_in n) xs) q read
+in_turn_rests m p q [] h = record { same = λ n. refl }
+in_turn_rests m p q (s ∷ read) h =
+    let one = attribute_rests s q (omega (arith, h.0.start, h.0.ordered)) h.0.within in
+    let more = in_turn_rests m (s.span.end + 1) q read h.1 in
+    record { same = λ n. ap (λ x. x ∷ map (attribute_in (take q n)) read) (one.same n) ∙ ap (λ xs. attribute_in n s ∷ xs) (more.same n) }
+
+-- ---- what is kept of them
+
+-- where the attributes themselves are kept
+abbrev KeptAt : Bytes → ℕ → Reached (Vec SpannedAttribute) → Step (List AttributeValue) → Type 0
+KeptAt m p result s = KeepsAt (λ read kept. kept ≡ read) m p result s
+
+pub kept_named : (m : Bytes) (p : ℕ) (result : Reached (Vec SpannedAttribute)) (s : Step (List AttributeValue)) → KeptAt m p result s → GivesAt (λ x. map (attribute_in m) x.items) m result s
+kept_named m p (Ok x) s h = h.2 ∙ ap (λ read. answered (drop x.0 m) (map (attribute_in m) read)) (sym h.1)
+kept_named m p (Err e) s h = h
+
+pub kept_in_turn : (m : Bytes) (p : ℕ) (result : Reached (Vec SpannedAttribute)) (s : Step (List AttributeValue)) → KeptAt m p result s → IfOk result (λ x. InTurn m p x.0 x.1.items)
+kept_in_turn m p (Ok x) s h = subst (InTurn m p x.0) (sym h.1) h.3
+kept_in_turn m p (Err e) s h = tt
+
+pub kept_rest : (m : Bytes) (p : ℕ) (result : Reached (Vec SpannedAttribute)) (s : Step (List AttributeValue)) → KeptAt m p result s → RestsOn (λ n x. map (attribute_in n) x.items) result
+kept_rest m p (Ok x) s h = record { same = λ n. (in_turn_rests m p x.0 x.1.items (kept_in_turn m p (Ok x) s h)).same n }
+kept_rest m p (Err e) s h = tt

@@ -1,8 +1,12 @@
 -- Attributes that are kept as positions of a message: what they name in one, and how they stand in it.
-use Rattle.std.specs.Prelude.{◌≡◌, ℕ, ◌+◌, ◌≤◌, List, [], ◌∷◌, drop, codes}
+use Rattle.std.specs.Prelude.{◌≡◌, ℕ, ◌+◌, ◌≤◌, List, [], ◌∷◌, drop, map, codes, Ok, Err}
+use Rattle.std.specs.declared.alloc.Global.{Global}
+use Rattle.std.specs.declared.vec.Vec.{Vec}
 use Rattle.imap_grammar.specs.Text.{Bytes, Text, as_text}
 use Rattle.imap_grammar.specs.declared.at.span.Span.{Span}
-use Rattle.imap_grammar.specs.Positions.{named_in}
+use Rattle.imap_grammar.specs.Answer.{Stops}
+use Rattle.imap_grammar.specs.Positions.{Reached, named_in}
+use Rattle.imap_grammar.specs.Step.{Step}
 use Rattle.imap_grammar.specs.Rule.{meaning}
 use Rattle.imap_body.specs.declared.spanned.SpannedAttribute.{SpannedAttribute}
 use Rattle.imap_shapes.specs.BodyValues.{BodyValue, body_seen}
@@ -27,6 +31,15 @@ pub record StandsAt (m : Bytes) (p q : ℕ) (s : SpannedAttribute) : Type 0 wher
 abbrev pub InTurn : Bytes → ℕ → ℕ → List SpannedAttribute → Type 0
 InTurn m p q [] = Unit {0}
 InTurn m p q (s ∷ rest) = StandsAt m p q s × InTurn m (s.span.end + 1) q rest
+
+-- It stands there, and ends at q.
+abbrev pub EndsAt : Bytes → ℕ → ℕ → SpannedAttribute → Type 0
+EndsAt m p q s = StandsAt m p q s × (s.span.end ≡ q)
+
+-- What a reader keeps of the attributes that it read from p on, of which s is the rule's answer: they stand in turn, and end by the position that was reached.
+abbrev pub KeepsAt : {K : Type 0} → (List SpannedAttribute → List K → Type 0) → Bytes → ℕ → Reached (Vec K Global) → Step (List AttributeValue) → Type 0
+KeepsAt keeps m p (Ok x) s = (read : List SpannedAttribute) × keeps read x.1.items × (s ≡ Ok (drop x.0 m, map (attribute_in m) read)) × InTurn m p x.0 read
+KeepsAt keeps m p (Err e) s = Stops e s
 
 -- ---- the positions themselves, whatever message they are of: a span is seen as a text of its two numbers
 

@@ -2,6 +2,7 @@
 #![tactic(auto)]
 
 pub mod at;
+mod keeping;
 pub mod laws;
 mod maps;
 mod owned;

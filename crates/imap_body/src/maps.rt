@@ -2,59 +2,17 @@
 
 ghost use Rattle.std.specs.Prelude.{◌≡◌, ◌++◌, ◌∷◌, [], IfOk, OnOk, map};
 ghost use Rattle.std.specs.Option.{option_map};
-ghost use Rattle.imap_grammar.specs.Text.{Text, text_of};
-ghost use Rattle.imap_items.specs.Spanned.{text_in};
-ghost use Rattle.imap_shapes.specs.Spans.{bytes_of};
-ghost use Rattle.imap_shapes.specs.BodyValues.{body_seen};
-ghost use Rattle.imap_structure.specs.Spanned.{body_in};
+ghost use Rattle.imap_grammar.specs.Text.{Text};
 ghost use Rattle.imap_sections.specs.SectionValues.{path_value};
 ghost use Rattle.imap_body.specs.AttributeValues.{attribute_seen, BodyStructure};
 
 use crate::types::attributes::AttributeParts as Parts;
-use imap_bytes::texts::decode;
 use imap_sections::SectionPath;
+use imap_shapes::made;
 use imap_shapes::maps::change::{BodyChange, Change};
 use imap_shapes::maps::envelopes::mapped_envelope;
 use imap_shapes::maps::parts::{mapped_list, mapped_text};
-use imap_shapes::shapes::bodies;
-use imap_shapes::spans::{Span, SpannedText};
-use imap_shapes::{BodyStructure, made};
 use std::alloc::{AllocError, Global};
-use std::borrow::CowStr;
-
-/// What spans of texts name in a message, decoded, and what the body structures of such texts name.
-#[derive(Drop)]
-pub(crate) struct Decoding<'a> {
-    pub(crate) alloc: Global,
-    pub(crate) m: &'a [u8],
-}
-
-impl<'a> Change<Span> for Decoding<'a> {
-    type To = CowStr<'a>;
-
-    ghost before = { λ c s. text_in c.m.now s };
-
-    ghost after = { text_of };
-
-    fn change(&self, x: &Span) -> Result<CowStr<'a>, AllocError> {
-        decode(self.alloc, x.part(self.m))
-    }
-}
-
-impl<'a> BodyChange<Box<bodies::BodyStructure<SpannedText, Span>>> for Decoding<'a> {
-    type To = BodyStructure<'a>;
-
-    ghost before = { λ c b. body_in c.m.now b.value };
-
-    ghost after = { body_seen text_of bytes_of };
-
-    fn change_body(
-        &self,
-        body: &Box<bodies::BodyStructure<SpannedText, Span>>,
-    ) -> Result<BodyStructure<'a>, AllocError> {
-        body.value(self.alloc, self.m)
-    }
-}
 
 fn copied_section(
     alloc: Global,

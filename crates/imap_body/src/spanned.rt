@@ -4,14 +4,13 @@ ghost use Rattle.std.specs.Prelude.{◌≡◌, ◌≤◌, ◌+◌, ◌++◌, ◌
 ghost use Rattle.imap_grammar.specs.Positions.{AnswersAt, GivesAt, Ahead, RestsOn};
 ghost use Rattle.imap_grammar.specs.Step.{step};
 ghost use Rattle.imap_body.specs.AttributeValues.{attribute_value, parts_in};
-ghost use Rattle.imap_body.specs.SpannedAttributes.{attribute_in, InTurn};
+ghost use Rattle.imap_body.specs.SpannedAttributes.{attribute_in, EndsAt, InTurn};
 ghost use Rattle.imap_body.specs.Attributes as rules;
 
 use crate::at::attributes::attribute;
-use crate::maps::Decoding;
+use crate::keeping::{Positions, kept_list};
 use crate::types::attributes::{AttributeSpans, AttributeValue};
-use imap_bytes::at::parenthesized_nonempty_list;
-use imap_shapes::maps::changes::NamedBytes;
+use imap_shapes::maps::changes::{NamedBytes, NamedTexts};
 use imap_shapes::spans::Span;
 use imap_structure::at::Reached;
 use std::alloc::{AllocError, Global};
@@ -51,7 +50,7 @@ impl SpannedAttribute {
         ensures { OnOk result (map attribute_value values.new.items ≡ map attribute_value values.old.items ++ attribute_in m.now self.now ∷ []) }
     {
         let part = self.span.part(m);
-        let texts = Decoding { alloc, m: part };
+        let texts = NamedTexts { alloc, m: part };
         self.parts
             .push_mapped(alloc, &texts, &NamedBytes { m: part }, &texts, values)
     }
@@ -66,20 +65,18 @@ impl AttributeSpans {
     ) -> Result<AttributeValue<'a>, AllocError>
         ensures { IfOk result (λ v. attribute_value v ≡ parts_in m.now self.now) }
     {
-        let texts = Decoding { alloc, m };
+        let texts = NamedTexts { alloc, m };
         self.try_map(alloc, &texts, &NamedBytes { m }, &texts)
     }
 }
 
-// The attribute at p, with its span.
-#[tactic(auto, using(crate::proofs::Standing::attribute_named, crate::proofs::Standing::attribute_rests))]
-fn spanned_attribute(alloc: Global, m: &[u8], p: usize) -> Reached<SpannedAttribute>
+/// The attribute at p, with its span.
+#[tactic(auto, using(crate::proofs::Standing::attribute_named))]
+pub(crate) fn spanned_attribute(alloc: Global, m: &[u8], p: usize) -> Reached<SpannedAttribute>
     requires { p ≤ length m.now }
     ensures steps { GivesAt (λ x. attribute_in m.now x) m.now result (step rules.attribute (drop p m.now)) }
     ensures ahead { Ahead m.now p result }
-    ensures rests { RestsOn attribute_in result }
-    ensures start { IfOk result (λ x. x.1.span.start ≡ p) }
-    ensures end { IfOk result (λ x. x.1.span.end ≡ x.0) }
+    ensures stands { IfOk result (λ x. EndsAt m.now p x.0 x.1) }
 {
     let (_, from) = m.split_at(p);
     let (size, parts) = attribute(alloc, from, 0)?;
@@ -99,13 +96,5 @@ pub fn attribute_list_at(alloc: Global, m: &[u8], p: usize) -> Reached<Vec<Spann
     ensures rests { RestsOn (λ n x. map (attribute_in n) x.items) result }
     ensures spans { IfOk result (λ x. InTurn m.now (p + 1) x.0 x.1.items) }
 {
-    let item = |k: usize|
-        requires { k ≤ length m.now }
-        ensures steps { GivesAt (λ x. attribute_in m.entry.now x) m.entry.now result (step rules.attribute (drop k m.entry.now)) }
-        ensures ahead { Ahead m.entry.now k result }
-        ensures rests { RestsOn attribute_in result }
-        ensures start { IfOk result (λ x. x.1.span.start ≡ k) }
-        ensures end { IfOk result (λ x. x.1.span.end ≡ x.0) }
-    { spanned_attribute(alloc, m, k) };
-    parenthesized_nonempty_list(alloc, item, m, p)
+    kept_list(&Positions { alloc }, alloc, m, p)
 }

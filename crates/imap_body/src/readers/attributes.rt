@@ -1,18 +1,17 @@
 //! Attributes of a message.
 
-ghost use Rattle.std.specs.Prelude.{◌≡◌, IfOk, map};
+ghost use Rattle.std.specs.Prelude.{map};
 ghost use Rattle.imap_grammar.specs.Answer.{Answers, Gives};
 ghost use Rattle.imap_grammar.specs.Step.{step};
 ghost use Rattle.imap_body.specs.AttributeValues.{attribute_value};
-ghost use Rattle.imap_body.specs.SpannedAttributes.{attribute_in};
 ghost use Rattle.imap_body.specs.Attributes as rules;
 
 use crate::at;
-use crate::spanned::{SpannedAttribute, attribute_list_at};
+use crate::keeping::{Values, kept_list};
 use crate::types::attributes::AttributeValue;
 use imap_bytes::IResult;
 use imap_bytes::at::span::rest;
-use std::alloc::{AllocError, Global};
+use std::alloc::Global;
 
 /// A section of a message's body, maybe from an index on, and its contents (RFC 3501, section 7.4.2: `BODY[<section>]<<origin octet>>`).
 ///
@@ -43,21 +42,6 @@ pub fn attribute(alloc: Global, i: &[u8]) -> IResult<&[u8], AttributeValue<'_>>
     Ok((rest(i, q), value?))
 }
 
-/// What the attributes name in a message.
-pub fn values<'a>(
-    alloc: Global,
-    attributes: &Vec<SpannedAttribute>,
-    m: &'a [u8],
-) -> Result<Vec<AttributeValue<'a>>, AllocError>
-    ensures { IfOk result (λ v. map attribute_value v.items ≡ map (attribute_in m.now) attributes.now.items) }
-{
-    let mut values = Vec::with_capacity(alloc, attributes.len())?;
-    for attribute in attributes {
-        attribute.push_value(alloc, m, &mut values)?;
-    }
-    Ok(values)
-}
-
 /// The attributes of a message in parentheses, one or more, by one space (RFC 3501, section 9: msg-att).
 ///
 /// It takes memory for the lists, for envelopes and body structures, and for texts that are no UTF-8.
@@ -66,8 +50,6 @@ pub fn attribute_list(alloc: Global, i: &[u8]) -> IResult<&[u8], Vec<AttributeVa
     ensures steps { Gives (λ x. map attribute_value x.items) result (step rules.attribute_list i.now) }
     ensures answer { Answers rules.attribute_list (λ x. map attribute_value x.items) i.now result }
 {
-    let (q, spans) = attribute_list_at(alloc, i, 0)?;
-    let values = values(alloc, &spans, i);
-    drop(spans);
-    Ok((rest(i, q), values?))
+    let (q, values) = kept_list(&Values { alloc, m: i }, alloc, i, 0)?;
+    Ok((rest(i, q), values))
 }

@@ -1,13 +1,14 @@
 //! The changes of texts: all of them owned, and what spans name in a message.
 
 ghost use Rattle.std.specs.Prelude.{◌≡◌, IfOk, false};
-ghost use Rattle.imap_grammar.specs.Text.{text_of};
+ghost use Rattle.imap_grammar.specs.Positions.{named_in};
+ghost use Rattle.imap_grammar.specs.Text.{decoded, text_of};
 ghost use Rattle.imap_shapes.specs.Spans.{bytes_of, bytes_owned, text_owned, bytes_in, text_in};
 ghost use Rattle.imap_shapes.specs.BodyValues.{body_seen};
 
 use super::change::{BodyChange, Change};
-use crate::BodyStructure;
 use crate::spans::{Span, SpannedText};
+use crate::{BodyStructure, shapes};
 use imap_bytes::texts::decode;
 use std::alloc::{AllocError, Global};
 use std::borrow::{CowSlice, CowStr};
@@ -93,11 +94,23 @@ impl<'a> Change<Span> for NamedBytes<'a> {
     }
 }
 
-/// The texts that spans name in a message, decoded, and those that rules fix.
+/// The texts that spans name in a message, decoded, those that rules fix, and the body structures of such texts.
 #[derive(Drop)]
-pub(crate) struct NamedTexts<'a> {
-    pub(crate) alloc: Global,
-    pub(crate) m: &'a [u8],
+pub struct NamedTexts<'a> {
+    pub alloc: Global,
+    pub m: &'a [u8],
+}
+
+impl<'a> Change<Span> for NamedTexts<'a> {
+    type To = CowStr<'a>;
+
+    ghost before = { λ c s. decoded (named_in c.m.now s) };
+
+    ghost after = { text_of };
+
+    fn change(&self, x: &Span) -> Result<CowStr<'a>, AllocError> {
+        decode(self.alloc, x.part(self.m))
+    }
 }
 
 impl<'a> Change<SpannedText> for NamedTexts<'a> {
@@ -115,5 +128,20 @@ impl<'a> Change<SpannedText> for NamedTexts<'a> {
             SpannedText::Rfc822 => Ok(CowStr::Borrowed("RFC822")),
             SpannedText::Multipart => Ok(CowStr::Borrowed("MULTIPART")),
         }
+    }
+}
+
+impl<'a> BodyChange<Box<shapes::bodies::BodyStructure<SpannedText, Span>>> for NamedTexts<'a> {
+    type To = BodyStructure<'a>;
+
+    ghost before = { λ c b. body_seen (text_in c.m.now) (bytes_in c.m.now) b.value };
+
+    ghost after = { body_seen text_of bytes_of };
+
+    fn change_body(
+        &self,
+        body: &Box<shapes::bodies::BodyStructure<SpannedText, Span>>,
+    ) -> Result<BodyStructure<'a>, AllocError> {
+        body.value(self.alloc, self.m)
     }
 }
