@@ -2,7 +2,7 @@
 //!
 //! However the bytes are cut into pieces, the same responses come of them: `laws::streams`.
 
-ghost use Rattle.std.specs.Prelude.{◌≡◌, ◌≤◌, ◌<◌, ◌++◌, [], List, ℕ, length, map, drop, IfOk, IfErr, IfSome, OnOk, OnErr};
+ghost use Rattle.std.specs.Prelude.{◌≡◌, ◌≤◌, ◌<◌, ◌+◌, ◌++◌, [], List, ℕ, length, map, drop, IfOk, IfErr, IfSome, OnOk, OnErr};
 ghost use Rattle.imap_proto.specs.declared.stream.FeedError.TheVariants.{OutOfMemory};
 ghost use Rattle.imap_proto.specs.Streams.{joined};
 ghost use Rattle.imap_proto.specs.Feeds.{Gave, IsOwnedFront, WaitsFor, RefusesAs, Takes, IsWhole};
@@ -63,14 +63,15 @@ impl Model for Feed {
 
     ghost view = { λ f. drop f.start f.bytes.items };
 
-    ghost invariant = { λ f. (f.start ≤ length f.bytes.items) × WaitsFor (drop f.start f.bytes.items) f.wanted };
+    ghost invariant = { λ f. (f.start + f.start ≤ length f.bytes.items) × WaitsFor (drop f.start f.bytes.items) f.wanted };
 }
 
-// Drops the bytes in front of the start, where they are more than half of all, and tells the new start. What is moved is less than what is dropped.
+// Drops the bytes in front of the start, where they are more than half of all, and tells the new start. Where it moves bytes, these are fewer than it drops.
 fn compacted(bytes: &mut Vec<u8>, start: usize) -> usize
     requires { start ≤ length bytes.old.items }
-    ensures within { result ≤ length bytes.new.items }
+    ensures half { result + result ≤ length bytes.new.items }
     ensures same { drop result bytes.new.items ≡ drop start bytes.old.items }
+    ensures moves { ¬ (bytes.new.items ≡ bytes.old.items) → length bytes.new.items < start }
 {
     let held = bytes.len() - start;
     if start <= held {
