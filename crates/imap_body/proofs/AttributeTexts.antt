@@ -21,9 +21,9 @@ use Rattle.imap_bytes.specs.Strings.{atom, string, nstring}
 use Rattle.imap_items.proofs.FlagTexts.{reads_flag_list, flag_list_spells}
 use Rattle.imap_items.proofs.GmailTexts.{keeps_label_list, keeps_msgid, keeps_thrid}
 use Rattle.imap_items.specs.Gmail.{gmail_label_list, gmail_msgid, gmail_thrid}
-use Rattle.imap_structure.specs.Envelopes.{byte_string}
+use Rattle.imap_envelopes.specs.Envelopes.{byte_string}
 use Rattle.imap_structure.specs.Bodies.{body_structure}
-use Rattle.imap_structure.proofs.EnvelopeTexts.{reads_spaced, spaced_spells, reads_byte_string, byte_string_spells, reads_envelope, envelope_spells}
+use Rattle.imap_envelopes.proofs.EnvelopeTexts.{reads_spaced, spaced_spells, reads_byte_string, byte_string_spells, reads_envelope, envelope_spells}
 use Rattle.imap_structure.proofs.BodyTexts.{reads_body, body_spells}
 use Rattle.imap_shapes.specs.BodyValues.{BodyValue}
 use Rattle.imap_shapes.specs.Lent.{lent_ntext, lent_body}

@@ -4,24 +4,23 @@ use Rattle.std.specs.Str.{is_utf8}
 use Rattle.imap_grammar.specs.Classes.{is_astring_char}
 use Rattle.imap_grammar.specs.Rule.{run1, gives}
 use Rattle.imap_grammar.specs.Step.{step}
-use Rattle.imap_grammar.specs.Text.{Bytes, as_text, decoded}
+use Rattle.imap_grammar.specs.Text.{Bytes, Text, as_text, decoded}
 use Rattle.imap_grammar.proofs.Reading.{test-has}
 use Rattle.imap_items.proofs.Spanned.{utf8_decoded}
-use Rattle.imap_grammar.specs.declared.at.span.Span.{Span}
 use Rattle.imap_grammar.specs.Positions.{Rests}
-use Rattle.imap_shapes.specs.declared.shapes.envelopes.Envelope.{Envelope as Spans}
+use Rattle.imap_shapes.specs.declared.shapes.envelopes.Envelope.{Envelope as Kept}
 use Rattle.imap_shapes.specs.declared.shapes.bodies.BodyStructure.{BodyStructure as Structure}
-use Rattle.imap_shapes.specs.declared.spans.SpannedText.{SpannedText}
-use Rattle.imap_structure.specs.Spanned.{boxed_in, envelope_in}
+use Rattle.imap_shapes.specs.EnvelopeValues.{envelope_seen}
+use Rattle.imap_structure.specs.Kept.{boxed_seen}
 use Rattle.imap_body.specs.declared.types.attributes.AttributeParts.TheVariants as parts
-use Rattle.imap_body.specs.AttributeValues.{BodyStructure, Envelope, parts_in}
+use Rattle.imap_body.specs.AttributeValues.{BodyStructure, Envelope, parts_said}
 use Rattle.imap_body.specs.Attributes.{id_bytes}
 
-pub structure_rests : (q : ℕ) (b : Box (Structure SpannedText Span) Global) → Rests boxed_in q b → Rests parts_in q (parts.BodyStructure b)
-structure_rests q b h = record { same = λ m. ap (λ v. BodyStructure v) (h.same m) }
+pub structure_rests : {S B : Type 0} (text : Bytes → S → Text) (said : Bytes → B → Text) (q : ℕ) (b : Box (Structure S B) Global) → Rests (λ n x. boxed_seen (text n) (said n) x) q b → Rests (λ n x. parts_said text said n x) q (parts.BodyStructure b)
+structure_rests text said q b h = record { same = λ m. ap (λ v. BodyStructure v) (h.same m) }
 
-pub envelope_rests : (q : ℕ) (b : Box (Spans Span) Global) (x : Spans Span) → b.value ≡ x → Rests envelope_in q x → Rests parts_in q (parts.Envelope b)
-envelope_rests q b x is h = record { same = λ m. rw is (ap (λ v. Envelope v) (h.same m)) }
+pub envelope_rests : {S B : Type 0} (text : Bytes → S → Text) (said : Bytes → B → Text) (q : ℕ) (b : Box (Kept B) Global) (x : Kept B) → b.value ≡ x → Rests (λ n e. envelope_seen (said n) e) q x → Rests (λ n e. parts_said text said n e) q (parts.Envelope b)
+envelope_rests text said q b x is h = record { same = λ m. rw is (ap (λ v. Envelope v) (h.same m)) }
 
 -- ---- the id of an object is UTF-8, so decoding changes nothing
 

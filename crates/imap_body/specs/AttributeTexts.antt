@@ -8,7 +8,7 @@ use Rattle.imap_grammar.specs.ReadBack.{Texts}
 use Rattle.imap_grammar.specs.Spelling.{this, exactly, in_any_case, ◌and◌, all_of, maybe, nil_or, spells_number, spells_nstring, spells_string_text, spells_some_list}
 use Rattle.imap_items.specs.FlagTexts.{canonical_flag_list, spells_flag_list}
 use Rattle.imap_items.specs.GmailTexts.{canonical_label_list, canonical_msgid, canonical_thrid, spells_label_list, spells_msgid, spells_thrid}
-use Rattle.imap_structure.specs.EnvelopeTexts.{canonical_envelope, behind_space, spells_bytes, spells_envelope}
+use Rattle.imap_envelopes.specs.EnvelopeTexts.{canonical_envelope, behind_space, spells_bytes, spells_envelope}
 use Rattle.imap_structure.specs.BodyTexts.{canonical_body, spells_body}
 use Rattle.imap_sections.specs.SectionTexts.{canonical_section, spells_section}
 use Rattle.imap_body.specs.Attributes.{is_inside, is_bare}

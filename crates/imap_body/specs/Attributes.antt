@@ -13,7 +13,7 @@ use Rattle.imap_items.specs.Flags.{flag_list}
 use Rattle.imap_items.specs.Gmail.{gmail_label_list, gmail_msgid, gmail_thrid}
 use Rattle.imap_sections.specs.Sections.{section}
 use Rattle.imap_sections.specs.SectionValues.{PathValue}
-use Rattle.imap_structure.specs.Envelopes.{spaced, byte_string, envelope}
+use Rattle.imap_envelopes.specs.Envelopes.{spaced, byte_string, envelope}
 use Rattle.imap_structure.specs.Bodies.{body_structure}
 use Rattle.imap_body.specs.AttributeValues.{AttributeValue, BodySection, BodyStructure, Envelope, Flags, InternalDate, ModSeq, Rfc822, Rfc822Header, Rfc822Size, Rfc822Text, Uid, GmailLabels, GmailMsgId, GmailThrId, EmailId, ThreadId, Unknown}
 

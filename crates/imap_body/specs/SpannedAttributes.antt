@@ -10,36 +10,45 @@ use Rattle.imap_grammar.specs.Step.{Step}
 use Rattle.imap_grammar.specs.Rule.{meaning}
 use Rattle.imap_body.specs.declared.spanned.SpannedAttribute.{SpannedAttribute}
 use Rattle.imap_shapes.specs.BodyValues.{BodyValue, body_seen}
+use Rattle.imap_shapes.specs.Spans.{bytes_in, text_in}
 use Rattle.imap_shapes.specs.declared.shapes.bodies.BodyStructure.{BodyStructure as Structure}
 use Rattle.imap_shapes.specs.declared.spans.SpannedText.{SpannedText}
 use Rattle.imap_shapes.specs.declared.spans.SpannedText.TheVariants as spanned
-use Rattle.imap_body.specs.AttributeValues.{AttributeValue, AttributeSpans, attribute_seen, parts_in, lent_attribute}
+use Rattle.imap_body.specs.AttributeValues.{AttributeValue, AttributeSpans, attribute_seen, parts_said, lent_attribute}
 use Rattle.imap_body.specs.Attributes.{attribute}
 
--- What it names in m: its positions count from where its span starts, and name bytes of the span alone.
-abbrev pub attribute_in : Bytes → SpannedAttribute → AttributeValue
-attribute_in m s = parts_in (named_in m s.span) s.parts
+-- What it says in m, its texts and its byte strings being said so: its positions count from where its span starts, and name bytes of the span alone.
+abbrev pub attribute_said : {S B : Type 0} → (Bytes → S → Text) → (Bytes → B → Text) → Bytes → SpannedAttribute S B → AttributeValue
+attribute_said text said m s = parts_said text said (named_in m s.span) s.parts
 
--- It stands in m from p on and ends by q: what is read from p on is what it names, and leaves what is behind its span.
-pub record StandsAt (m : Bytes) (p q : ℕ) (s : SpannedAttribute) : Type 0 where
+-- What it names in m.
+abbrev pub attribute_in : Bytes → SpannedAttribute SpannedText Span → AttributeValue
+attribute_in m s = attribute_said text_in bytes_in m s
+
+-- It stands in m from p on and ends by q: what is read from p on is what it says, and leaves what is behind its span.
+pub record StandsAt {S B : Type 0} (text : Bytes → S → Text) (said : Bytes → B → Text) (m : Bytes) (p q : ℕ) (s : SpannedAttribute S B) : Type 0 where
   pub start : s.span.start ≡ p
   pub ordered : p ≤ s.span.end
   pub within : s.span.end ≤ q
-  pub is : (meaning attribute).yields (drop p m) (attribute_in m s) (drop s.span.end m)
+  pub is : (meaning attribute).yields (drop p m) (attribute_said text said m s) (drop s.span.end m)
 
 -- They stand one behind another with a byte between, the first from p on, and end by q.
-abbrev pub InTurn : Bytes → ℕ → ℕ → List SpannedAttribute → Type 0
-InTurn m p q [] = Unit {0}
-InTurn m p q (s ∷ rest) = StandsAt m p q s × InTurn m (s.span.end + 1) q rest
+abbrev pub TurnsAt : {S B : Type 0} → (Bytes → S → Text) → (Bytes → B → Text) → Bytes → ℕ → ℕ → List (SpannedAttribute S B) → Type 0
+TurnsAt text said m p q [] = Unit {0}
+TurnsAt text said m p q (s ∷ rest) = StandsAt text said m p q s × TurnsAt text said m (s.span.end + 1) q rest
+
+-- The same of spans.
+abbrev pub InTurn : Bytes → ℕ → ℕ → List (SpannedAttribute SpannedText Span) → Type 0
+InTurn m p q xs = TurnsAt text_in bytes_in m p q xs
 
 -- It stands there, and ends at q.
-abbrev pub EndsAt : Bytes → ℕ → ℕ → SpannedAttribute → Type 0
-EndsAt m p q s = StandsAt m p q s × (s.span.end ≡ q)
+abbrev pub EndsAt : {S B : Type 0} → (Bytes → S → Text) → (Bytes → B → Text) → Bytes → ℕ → ℕ → SpannedAttribute S B → Type 0
+EndsAt text said m p q s = StandsAt text said m p q s × (s.span.end ≡ q)
 
 -- What a reader keeps of the attributes that it read from p on, of which s is the rule's answer: they stand in turn, and end by the position that was reached.
-abbrev pub KeepsAt : {K : Type 0} → (List SpannedAttribute → List K → Type 0) → Bytes → ℕ → Reached (Vec K Global) → Step (List AttributeValue) → Type 0
-KeepsAt keeps m p (Ok x) s = (read : List SpannedAttribute) × keeps read x.1.items × (s ≡ Ok (drop x.0 m, map (attribute_in m) read)) × InTurn m p x.0 read
-KeepsAt keeps m p (Err e) s = Stops e s
+abbrev pub KeepsAt : {S B K : Type 0} → (Bytes → S → Text) → (Bytes → B → Text) → (List (SpannedAttribute S B) → List K → Type 0) → Bytes → ℕ → Reached (Vec K Global) → Step (List AttributeValue) → Type 0
+KeepsAt {S} {B} text said keeps m p (Ok x) s = (read : List (SpannedAttribute S B)) × keeps read x.1.items × (s ≡ Ok (drop x.0 m, map (attribute_said text said m) read)) × TurnsAt text said m p x.0 read
+KeepsAt text said keeps m p (Err e) s = Stops e s
 
 -- ---- the positions themselves, whatever message they are of: a span is seen as a text of its two numbers
 
@@ -61,5 +70,5 @@ abbrev pub places_of : AttributeSpans → AttributeValue
 places_of x = attribute_seen place_of place_of (λ b. places_of_body b.value) x
 
 -- where it stands, and the places in it
-abbrev pub spanned_value : SpannedAttribute → Span × AttributeValue
+abbrev pub spanned_value : SpannedAttribute SpannedText Span → Span × AttributeValue
 spanned_value s = (s.span, lent_attribute (places_of s.parts))

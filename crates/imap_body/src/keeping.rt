@@ -6,125 +6,166 @@ ghost use Rattle.imap_grammar.specs.Positions.{GivesAt, Ahead};
 ghost use Rattle.imap_grammar.specs.Rule.{list1, opt, ◌▹◌};
 ghost use Rattle.imap_grammar.specs.Step.{step};
 ghost use Rattle.imap_grammar.specs.Tags.{sp};
+ghost use Rattle.imap_grammar.specs.declared.at.span.Span.{Span};
+ghost use Rattle.imap_shapes.specs.declared.spans.SpannedText.{SpannedText};
 ghost use Rattle.imap_body.specs.declared.spanned.SpannedAttribute.{SpannedAttribute};
 ghost use Rattle.imap_body.specs.AttributeValues.{attribute_value};
-ghost use Rattle.imap_body.specs.SpannedAttributes.{attribute_in, EndsAt, KeepsAt};
+ghost use Rattle.imap_grammar.specs.Text.{text_of};
+ghost use Rattle.imap_shapes.specs.Spans.{bytes_of};
+ghost use Rattle.imap_body.specs.SpannedAttributes.{attribute_said, EndsAt, KeepsAt};
 ghost use Rattle.imap_body.specs.Attributes as rules;
 
 use crate::spanned::{SpannedAttribute, spanned_attribute};
 use crate::types::attributes::AttributeValue;
 use imap_bytes::at::tags::{blanks0, tag};
 use imap_bytes::maybe;
-use imap_structure::at::Reached;
-use imap_structure::at::lists::list_of_one;
+use imap_envelopes::at::Reached;
+use imap_envelopes::{Keep, Named, Positions};
+use imap_shapes::made;
 use std::alloc::{AllocError, Global};
+use std::borrow::{CowSlice, CowStr};
 
 // How many attributes a list of values gets room for: their values are large, and most lists have one or two.
 const ROOM: usize = 2;
 
+// The same of positions, which are small.
+const ROOM_FOR_POSITIONS: usize = 4;
+
 /// What a list keeps of each attribute that is read.
-pub(crate) trait Keep {
-    type Kept: Drop;
+pub(crate) trait KeepAttribute: Keep + Drop {
+    type Attribute: Drop;
 
     /// These are kept of the attributes that were read.
-    ghost keeps: { Self → List SpannedAttribute → List Self.Kept → Type 0 };
+    ghost keeps: { Self → List (SpannedAttribute Self.Text Self.Bytes) → List Self.Attribute → Type 0 };
 
-    /// A list of what is kept of this one.
-    fn first(&self, attribute: SpannedAttribute) -> Result<Vec<Self::Kept>, AllocError>
-        ensures { IfOk result (λ kept. keeps self.now (attribute ∷ []) kept.items) };
+    /// The same for what stands behind p in its message. No memory.
+    fn behind(&self, m: &[u8], p: usize) -> Self
+        requires inside { p ≤ length m.now }
+        requires serves { Self.serves self.now m.now }
+        ensures { Self.serves result (drop p m.now) };
+
+    /// A list with room for what is kept of a few.
+    fn start(&self, alloc: Global) -> Result<Vec<Self::Attribute>, AllocError>
+        ensures { IfOk result (λ kept. keeps self.now [] kept.items) };
 
     /// Puts what is kept of it behind others.
-    fn add(&self, attribute: SpannedAttribute, kept: &mut Vec<Self::Kept>) -> Result<(), AllocError>
-        ensures { (read : List SpannedAttribute) → keeps self.now read kept.old.items → OnOk result (keeps self.now (read ++ attribute ∷ []) kept.new.items) };
+    fn add(
+        &self,
+        alloc: Global,
+        attribute: SpannedAttribute<Self::Text, Self::Bytes>,
+        kept: &mut Vec<Self::Attribute>,
+    ) -> Result<(), AllocError>
+        ensures { (read : List (SpannedAttribute Self.Text Self.Bytes)) → keeps self.now read kept.old.items → OnOk result (keeps self.now (read ++ attribute ∷ []) kept.new.items) };
 }
 
-/// Its positions.
-#[derive(Drop)]
-pub(crate) struct Positions {
-    pub(crate) alloc: Global,
-}
-
-impl Keep for Positions {
-    type Kept = SpannedAttribute;
+impl KeepAttribute for Positions {
+    type Attribute = SpannedAttribute;
 
     ghost keeps = { λ k read kept. kept ≡ read };
 
-    fn first(&self, attribute: SpannedAttribute) -> Result<Vec<SpannedAttribute>, AllocError> {
-        list_of_one(self.alloc, attribute)
+    fn behind(&self, _m: &[u8], _p: usize) -> Positions {
+        Positions
+    }
+
+    fn start(&self, alloc: Global) -> Result<Vec<SpannedAttribute>, AllocError> {
+        Vec::with_capacity(alloc, ROOM_FOR_POSITIONS)
     }
 
     fn add(
         &self,
+        _alloc: Global,
         attribute: SpannedAttribute,
         kept: &mut Vec<SpannedAttribute>,
-    ) -> Result<(), AllocError> {
+    ) -> Result<(), AllocError>
+        ensures { (read : List (SpannedAttribute SpannedText Span)) → kept.old.items ≡ read → OnOk result (kept.new.items ≡ read ++ attribute ∷ []) }
+    {
         kept.reserve(1)?;
         kept.push_reserved(attribute);
         Ok(())
     }
 }
 
-/// The attribute that its positions name in m.
-#[derive(Drop)]
-pub(crate) struct Values<'a> {
-    pub(crate) alloc: Global,
-    pub(crate) m: &'a [u8],
-}
+impl<'a> KeepAttribute for Named<'a> {
+    type Attribute = AttributeValue<'a>;
 
-impl<'a> Keep for Values<'a> {
-    type Kept = AttributeValue<'a>;
+    ghost keeps = { λ k read kept. map attribute_value kept ≡ map (attribute_said (λ n t. text_of t) (λ n t. bytes_of t) k.m.now) read };
 
-    ghost keeps = { λ k read kept. map attribute_value kept ≡ map (attribute_in k.m.now) read };
+    fn behind(&self, _m: &[u8], p: usize) -> Named<'a> {
+        let (_, m) = self.m.split_at(p);
+        Named {
+            alloc: self.alloc,
+            m,
+        }
+    }
 
-    fn first(&self, attribute: SpannedAttribute) -> Result<Vec<AttributeValue<'a>>, AllocError> {
-        let mut kept = Vec::with_capacity(self.alloc, ROOM)?;
-        self.add(attribute, &mut kept)?;
-        Ok(kept)
+    fn start(&self, alloc: Global) -> Result<Vec<AttributeValue<'a>>, AllocError> {
+        Vec::with_capacity(alloc, ROOM)
     }
 
     fn add(
         &self,
-        attribute: SpannedAttribute,
+        alloc: Global,
+        attribute: SpannedAttribute<CowStr<'a>, CowSlice<'a, u8>>,
         kept: &mut Vec<AttributeValue<'a>>,
-    ) -> Result<(), AllocError> {
-        let put = attribute.push_value(self.alloc, self.m, kept);
-        drop(attribute);
-        put
+    ) -> Result<(), AllocError>
+        ensures { (read : List (SpannedAttribute _ _)) → map attribute_value kept.old.items ≡ map (attribute_said (λ n t. text_of t) (λ n t. bytes_of t) self.now.m.now) read → OnOk result (map attribute_value kept.new.items ≡ map (attribute_said (λ n t. text_of t) (λ n t. bytes_of t) self.now.m.now) (read ++ attribute.entry ∷ [])) }
+    {
+        attribute.push_value(alloc, self.m, kept)
     }
 }
 
-fn spaced_attribute(alloc: Global, m: &[u8], p: usize) -> Reached<SpannedAttribute>
-    requires { p ≤ length m.now }
-    ensures steps { GivesAt (λ x. attribute_in m.now x) m.now result (step (sp ▹ rules.attribute) (drop p m.now)) }
+fn spaced_attribute<K: KeepAttribute>(
+    keep: &K,
+    alloc: Global,
+    m: &[u8],
+    p: usize,
+) -> Reached<SpannedAttribute<K::Text, K::Bytes>>
+    requires inside { p ≤ length m.now }
+    requires serves { K.serves keep.now m.now }
+    ensures steps { GivesAt (λ x. attribute_said K.text_said K.bytes_said m.now x) m.now result (step (sp ▹ rules.attribute) (drop p m.now)) }
     ensures ahead { Ahead m.now p result }
-    ensures stands { IfOk result (λ x. EndsAt m.now (p + 1) x.0 x.1) }
+    ensures stands { IfOk result (λ x. EndsAt K.text_said K.bytes_said m.now (p + 1) x.0 x.1) }
 {
     let (p, _) = tag(b" ", m, p)?;
-    spanned_attribute(alloc, m, p)
+    spanned_attribute(keep, alloc, m, p)
 }
 
-fn next_attribute(alloc: Global, m: &[u8], p: usize) -> Reached<Option<SpannedAttribute>>
-    requires { p ≤ length m.now }
-    ensures steps { GivesAt (λ x. option_map (attribute_in m.now) x) m.now result (step (opt (sp ▹ rules.attribute)) (drop p m.now)) }
+fn next_attribute<K: KeepAttribute>(
+    keep: &K,
+    alloc: Global,
+    m: &[u8],
+    p: usize,
+) -> Reached<Option<SpannedAttribute<K::Text, K::Bytes>>>
+    requires inside { p ≤ length m.now }
+    requires serves { K.serves keep.now m.now }
+    ensures steps { GivesAt (λ x. option_map (attribute_said K.text_said K.bytes_said m.now) x) m.now result (step (opt (sp ▹ rules.attribute)) (drop p m.now)) }
     ensures ahead { Ahead m.now p result }
-    ensures stands { IfOk result (λ x. IfSome x.1 (λ a. EndsAt m.now (p + 1) x.0 a)) }
+    ensures stands { IfOk result (λ x. IfSome x.1 (λ a. EndsAt K.text_said K.bytes_said m.now (p + 1) x.0 a)) }
 {
-    maybe!(spaced_attribute(alloc, m, p), p)
+    maybe!(spaced_attribute(keep, alloc, m, p), p)
 }
 
-fn some_attributes<K: Keep>(keep: &K, alloc: Global, m: &[u8], p: usize) -> Reached<Vec<K::Kept>>
-    requires { p ≤ length m.now }
-    ensures kept { KeepsAt (K.keeps keep.now) m.now p result (step (list1 sp rules.attribute) (drop p m.now)) }
+fn some_attributes<K: KeepAttribute>(
+    keep: &K,
+    alloc: Global,
+    m: &[u8],
+    p: usize,
+) -> Reached<Vec<K::Attribute>>
+    requires inside { p ≤ length m.now }
+    requires serves { K.serves keep.now m.now }
+    ensures kept { KeepsAt K.text_said K.bytes_said (K.keeps keep.now) m.now p result (step (list1 sp rules.attribute) (drop p m.now)) }
     ensures ahead { Ahead m.now p result }
 {
-    let (mut q, first) = spanned_attribute(alloc, m, p)?;
-    let mut kept = keep.first(first)?;
+    // The list first: an attribute that is read before it is taken apart, and put together to be handed on.
+    let mut kept = keep.start(alloc)?;
+    let (mut q, first) = made!(spanned_attribute(keep, alloc, m, p), kept);
+    keep.add(alloc, first, &mut kept)?;
     'attributes: loop {
-        let (after, next) = next_attribute(alloc, m, q)?;
+        let (after, next) = next_attribute(keep, alloc, m, q)?;
         match next {
             None => return Ok((q, kept)),
             Some(attribute) => {
-                keep.add(attribute, &mut kept)?;
+                keep.add(alloc, attribute, &mut kept)?;
                 q = after;
             }
         }
@@ -135,14 +176,15 @@ fn some_attributes<K: Keep>(keep: &K, alloc: Global, m: &[u8], p: usize) -> Reac
 ///
 /// It takes memory for what is kept, and for what the attributes list.
 #[tactic(auto, unfolding(crate::specs::Attributes::attribute_list))]
-pub(crate) fn kept_list<K: Keep>(
+pub(crate) fn kept_list<K: KeepAttribute>(
     keep: &K,
     alloc: Global,
     m: &[u8],
     p: usize,
-) -> Reached<Vec<K::Kept>>
-    requires { p ≤ length m.now }
-    ensures kept { KeepsAt (K.keeps keep.now) m.now (p + 1) result (step rules.attribute_list (drop p m.now)) }
+) -> Reached<Vec<K::Attribute>>
+    requires inside { p ≤ length m.now }
+    requires serves { K.serves keep.now m.now }
+    ensures kept { KeepsAt K.text_said K.bytes_said (K.keeps keep.now) m.now (p + 1) result (step rules.attribute_list (drop p m.now)) }
     ensures ahead { Ahead m.now p result }
 {
     let (p, _) = tag(b"(", m, p)?;

@@ -12,7 +12,7 @@ ghost use Rattle.imap_sections.specs.SectionValues.{path_value};
 ghost use Rattle.imap_grammar.specs.Stable.{Stable};
 ghost use Rattle.imap_sections.specs.Sections as sections;
 ghost use Rattle.imap_body.specs.Attributes as attributes;
-ghost use Rattle.imap_structure.specs.Envelopes as envelopes;
+ghost use Rattle.imap_envelopes.specs.Envelopes as envelopes;
 ghost use Rattle.imap_structure.specs.Fields as fields;
 ghost use Rattle.imap_structure.specs.Extensions as extensions;
 ghost use Rattle.imap_structure.specs.Bodies as bodies;
@@ -24,7 +24,7 @@ ghost use Rattle.imap_sections.specs.SectionTexts.{canonical_text, canonical_par
 ghost use Rattle.imap_body.specs.AttributeValues.{attribute_seen, attribute_value, lent_attribute};
 ghost use Rattle.imap_body.specs.SpannedAttributes.{places_of_body, places_of, spanned_value};
 ghost use Rattle.imap_body.specs.AttributeTexts.{canonical_attribute, canonical_attributes, spells_attribute, spells_attributes};
-ghost use Rattle.imap_structure.specs.EnvelopeTexts.{canonical_address, canonical_addresses, canonical_envelope, spells_address, spells_addresses, spells_envelope};
+ghost use Rattle.imap_envelopes.specs.EnvelopeTexts.{canonical_address, canonical_addresses, canonical_envelope, spells_address, spells_addresses, spells_envelope};
 ghost use Rattle.imap_structure.specs.FieldTexts.{canonical_params, canonical_encoding, canonical_fields, spells_params, spells_encoding, spells_fields};
 ghost use Rattle.imap_structure.specs.ExtensionTexts.{canonical_disposition, canonical_languages, canonical_extension, canonical_ext_1part, canonical_ext_mpart, spells_disposition, spells_languages, spells_extension, spells_ext_1part, spells_ext_mpart};
 ghost use Rattle.imap_structure.specs.BodyTexts.{canonical_body, spells_body};
@@ -87,7 +87,7 @@ pub fn stable()
 
 /// What each rule takes spells the value that it yields. And a value that it yields on some bytes, it yields again on the value's canonical text, with all texts borrowed,
 /// and leaves exactly what follows: any bytes that begin with `)` or CR, and behind an attribute also with a space. A text too long for its length to be told as a literal is excepted.
-#[tactic(auto, using(imap_sections::proofs::SectionTexts::keeps_section_msgtext, imap_sections::proofs::SectionTexts::keeps_section_text, imap_sections::proofs::SectionTexts::keeps_section_part, imap_sections::proofs::SectionTexts::keeps_section_spec, imap_sections::proofs::SectionTexts::keeps_section, imap_structure::proofs::EnvelopeTexts::keeps_address, imap_structure::proofs::EnvelopeTexts::keeps_addresses, imap_structure::proofs::EnvelopeTexts::keeps_envelope, imap_structure::proofs::FieldTexts::keeps_params, imap_structure::proofs::FieldTexts::keeps_encoding, imap_structure::proofs::FieldTexts::keeps_fields, imap_structure::proofs::ExtensionTexts::keeps_disposition, imap_structure::proofs::ExtensionTexts::keeps_language, imap_structure::proofs::ExtensionTexts::keeps_body_extension, imap_structure::proofs::ExtensionTexts::keeps_ext_1part, imap_structure::proofs::ExtensionTexts::keeps_ext_mpart, imap_structure::proofs::BodyTexts::keeps_body_structure, crate::proofs::AttributeTexts::keeps_body_section, crate::proofs::AttributeTexts::keeps_body_structure, crate::proofs::AttributeTexts::keeps_envelope, crate::proofs::AttributeTexts::keeps_internal_date, crate::proofs::AttributeTexts::keeps_flags, crate::proofs::AttributeTexts::keeps_mod_seq, crate::proofs::AttributeTexts::keeps_rfc822, crate::proofs::AttributeTexts::keeps_rfc822_header, crate::proofs::AttributeTexts::keeps_rfc822_size, crate::proofs::AttributeTexts::keeps_rfc822_text, crate::proofs::AttributeTexts::keeps_uid, crate::proofs::AttributeTexts::keeps_gmail_labels, crate::proofs::AttributeTexts::keeps_gmail_msgid, crate::proofs::AttributeTexts::keeps_gmail_thrid, crate::proofs::AttributeTexts::keeps_email_id, crate::proofs::AttributeTexts::keeps_thread_id, crate::proofs::AttributeTexts::keeps_unknown, crate::proofs::AttributeTexts::keeps_attribute, crate::proofs::AttributeTexts::keeps_attribute_list))]
+#[tactic(auto, using(imap_sections::proofs::SectionTexts::keeps_section_msgtext, imap_sections::proofs::SectionTexts::keeps_section_text, imap_sections::proofs::SectionTexts::keeps_section_part, imap_sections::proofs::SectionTexts::keeps_section_spec, imap_sections::proofs::SectionTexts::keeps_section, imap_envelopes::proofs::EnvelopeTexts::keeps_address, imap_envelopes::proofs::EnvelopeTexts::keeps_addresses, imap_envelopes::proofs::EnvelopeTexts::keeps_envelope, imap_structure::proofs::FieldTexts::keeps_params, imap_structure::proofs::FieldTexts::keeps_encoding, imap_structure::proofs::FieldTexts::keeps_fields, imap_structure::proofs::ExtensionTexts::keeps_disposition, imap_structure::proofs::ExtensionTexts::keeps_language, imap_structure::proofs::ExtensionTexts::keeps_body_extension, imap_structure::proofs::ExtensionTexts::keeps_ext_1part, imap_structure::proofs::ExtensionTexts::keeps_ext_mpart, imap_structure::proofs::BodyTexts::keeps_body_structure, crate::proofs::AttributeTexts::keeps_body_section, crate::proofs::AttributeTexts::keeps_body_structure, crate::proofs::AttributeTexts::keeps_envelope, crate::proofs::AttributeTexts::keeps_internal_date, crate::proofs::AttributeTexts::keeps_flags, crate::proofs::AttributeTexts::keeps_mod_seq, crate::proofs::AttributeTexts::keeps_rfc822, crate::proofs::AttributeTexts::keeps_rfc822_header, crate::proofs::AttributeTexts::keeps_rfc822_size, crate::proofs::AttributeTexts::keeps_rfc822_text, crate::proofs::AttributeTexts::keeps_uid, crate::proofs::AttributeTexts::keeps_gmail_labels, crate::proofs::AttributeTexts::keeps_gmail_msgid, crate::proofs::AttributeTexts::keeps_gmail_thrid, crate::proofs::AttributeTexts::keeps_email_id, crate::proofs::AttributeTexts::keeps_thread_id, crate::proofs::AttributeTexts::keeps_unknown, crate::proofs::AttributeTexts::keeps_attribute, crate::proofs::AttributeTexts::keeps_attribute_list))]
 pub fn read_back()
     ensures section_msgtext { Keeps sections.section_msgtext as_is canonical_text spells_message_text Closes }
     ensures section_text { Keeps sections.section_text as_is canonical_text spells_text Closes }
@@ -159,7 +159,7 @@ pub fn equality()
     ensures body_structure { Tells ⟦<BodyStructure<'static> as PartialEq>⟧.eq (λ x. lent_body (body_seen text_of bytes_of x)) }
     ensures attribute { Tells ⟦<AttributeValue<'static> as PartialEq>⟧.eq (λ x. lent_attribute (attribute_value x)) }
     ensures spanned_body_structure { Tells ⟦<Structure<SpannedText, Span> as PartialEq>⟧.eq (λ x. lent_body (places_of_body x)) }
-    ensures spanned_attribute { Tells ⟦<SpannedAttribute as PartialEq>⟧.eq spanned_value }
+    ensures spanned_attribute { Tells ⟦<SpannedAttribute<SpannedText, Span> as PartialEq>⟧.eq spanned_value }
 {
     spans_equality();
     laws::equality::<CowStr<'static>, CowSlice<'static, u8>>();

@@ -3,8 +3,8 @@
 pub mod attributes;
 
 pub use attributes::{attribute, attribute_list};
+pub use imap_envelopes::readers::{address, envelope};
 pub use imap_sections::readers::sections;
 pub use imap_structure::readers::{
-    address, bodies, body_extension, body_fields, body_structure, envelope, envelopes, extensions,
-    fields,
+    bodies, body_extension, body_fields, body_structure, extensions, fields,
 };

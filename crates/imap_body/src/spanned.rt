@@ -4,23 +4,28 @@ ghost use Rattle.std.specs.Prelude.{◌≡◌, ◌≤◌, ◌+◌, ◌++◌, ◌
 ghost use Rattle.imap_grammar.specs.Positions.{AnswersAt, GivesAt, Ahead, RestsOn};
 ghost use Rattle.imap_grammar.specs.Step.{step};
 ghost use Rattle.imap_body.specs.AttributeValues.{attribute_value, parts_in};
-ghost use Rattle.imap_body.specs.SpannedAttributes.{attribute_in, EndsAt, InTurn};
+ghost use Rattle.imap_body.specs.SpannedAttributes.{attribute_in, attribute_said, EndsAt, InTurn};
+ghost use Rattle.imap_grammar.specs.Text.{text_of};
+ghost use Rattle.imap_shapes.specs.Spans.{bytes_of};
 ghost use Rattle.imap_body.specs.Attributes as rules;
 
 use crate::at::attributes::attribute;
-use crate::keeping::{Positions, kept_list};
-use crate::types::attributes::{AttributeSpans, AttributeValue};
+use crate::keeping::{KeepAttribute, kept_list};
+use crate::types::attributes::{AttributeKept, AttributeSpans, AttributeValue};
+use imap_envelopes::Positions;
+use imap_envelopes::at::Reached;
+use imap_shapes::made;
 use imap_shapes::maps::changes::{NamedBytes, NamedTexts};
-use imap_shapes::spans::Span;
-use imap_structure::at::Reached;
+use imap_shapes::spans::{Span, SpannedText};
 use std::alloc::{AllocError, Global};
+use std::borrow::{CowSlice, CowStr};
 
-/// An attribute of a message as positions and numbers.
+/// An attribute of a message as positions and numbers; its strings as they are kept: as positions, where nothing else is said.
 #[derive(Debug, Drop, PartialEq, Eq)]
-pub struct SpannedAttribute {
+pub struct SpannedAttribute<S = SpannedText, B = Span> {
     span: Span,
     // Its positions count from where the span starts.
-    parts: AttributeSpans,
+    parts: AttributeKept<S, B>,
 }
 
 impl SpannedAttribute {
@@ -39,20 +44,23 @@ impl SpannedAttribute {
     {
         self.parts.value(alloc, self.span.part(m))
     }
+}
 
-    /// Puts that attribute behind others.
-    pub(crate) fn push_value<'a>(
-        &self,
+impl<'a> SpannedAttribute<CowStr<'a>, CowSlice<'a, u8>> {
+    /// Puts the attribute that it names in m behind others, what is kept of its strings as it is.
+    pub(crate) fn push_value(
+        self,
         alloc: Global,
         m: &'a [u8],
         values: &mut Vec<AttributeValue<'a>>,
     ) -> Result<(), AllocError>
-        ensures { OnOk result (map attribute_value values.new.items ≡ map attribute_value values.old.items ++ attribute_in m.now self.now ∷ []) }
+        ensures { OnOk result (map attribute_value values.new.items ≡ map attribute_value values.old.items ++ attribute_said (λ n t. text_of t) (λ n t. bytes_of t) m.now self.entry ∷ []) }
     {
-        let part = self.span.part(m);
-        let texts = NamedTexts { alloc, m: part };
-        self.parts
-            .push_mapped(alloc, &texts, &NamedBytes { m: part }, &texts, values)
+        let texts = NamedTexts {
+            alloc,
+            m: self.span.part(m),
+        };
+        self.parts.push_named(alloc, &texts, values)
     }
 }
 
@@ -72,14 +80,22 @@ impl AttributeSpans {
 
 /// The attribute at p, with its span.
 #[tactic(auto, using(crate::proofs::Standing::attribute_named))]
-pub(crate) fn spanned_attribute(alloc: Global, m: &[u8], p: usize) -> Reached<SpannedAttribute>
-    requires { p ≤ length m.now }
-    ensures steps { GivesAt (λ x. attribute_in m.now x) m.now result (step rules.attribute (drop p m.now)) }
+#[inline(always)]
+pub(crate) fn spanned_attribute<K: KeepAttribute>(
+    keep: &K,
+    alloc: Global,
+    m: &[u8],
+    p: usize,
+) -> Reached<SpannedAttribute<K::Text, K::Bytes>>
+    requires inside { p ≤ length m.now }
+    requires serves { K.serves keep.now m.now }
+    ensures steps { GivesAt (λ x. attribute_said K.text_said K.bytes_said m.now x) m.now result (step rules.attribute (drop p m.now)) }
     ensures ahead { Ahead m.now p result }
-    ensures stands { IfOk result (λ x. EndsAt m.now p x.0 x.1) }
+    ensures stands { IfOk result (λ x. EndsAt K.text_said K.bytes_said m.now p x.0 x.1) }
 {
     let (_, from) = m.split_at(p);
-    let (size, parts) = attribute(alloc, from, 0)?;
+    let behind = keep.behind(m, p);
+    let (size, parts) = made!(attribute(&behind, alloc, from, 0));
     let q = p + size;
     let span = Span { start: p, end: q };
     Ok((q, SpannedAttribute { span, parts }))
@@ -96,5 +112,5 @@ pub fn attribute_list_at(alloc: Global, m: &[u8], p: usize) -> Reached<Vec<Spann
     ensures rests { RestsOn (λ n x. map (attribute_in n) x.items) result }
     ensures spans { IfOk result (λ x. InTurn m.now (p + 1) x.0 x.1.items) }
 {
-    kept_list(&Positions { alloc }, alloc, m, p)
+    kept_list(&Positions, alloc, m, p)
 }

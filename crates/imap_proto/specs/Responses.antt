@@ -13,6 +13,8 @@ use Rattle.imap_data.specs.MailboxValues.{MailboxValue, mailbox_value, lent_mail
 use Rattle.imap_extensions.specs.Quotas.{QuotaValue, QuotaRootValue, quota_value, quota_root_value, lent_quota, lent_quota_root}
 use Rattle.imap_extensions.specs.Ids.{IdValue, id_value, lent_id}
 use Rattle.imap_extensions.specs.Acls.{AclValue, ListRightsValue, MyRightsValue, acl_value, list_rights_value, my_rights_value, lent_acl, lent_list_rights, lent_my_rights}
+use Rattle.imap_grammar.specs.declared.at.span.Span.{Span}
+use Rattle.imap_shapes.specs.declared.spans.SpannedText.{SpannedText}
 use Rattle.imap_body.specs.declared.spanned.SpannedAttribute.{SpannedAttribute}
 use Rattle.imap_body.specs.SpannedAttributes.{attribute_in}
 use Rattle.imap_body.specs.AttributeValues.{AttributeValue, attribute_value, lent_attribute}
@@ -78,7 +80,7 @@ IsFetch (ListRights rights) = ⊥
 IsFetch (MyRights rights) = ⊥
 
 -- a number and attributes whose spans name them in m
-abbrev pub fetch_in : Bytes → ℕ × Vec SpannedAttribute Global → ResponseValue
+abbrev pub fetch_in : Bytes → ℕ × Vec (SpannedAttribute SpannedText Span) Global → ResponseValue
 fetch_in m x = Fetch x.0 (map (attribute_in m) x.1.items)
 
 -- what stands before the rest ends in CRLF

@@ -17,7 +17,7 @@ use Rattle.imap_shapes.specs.BodyValues.{BodyValue, Multipart, Bodies, one_body,
 use Rattle.imap_shapes.specs.Lent.{lent_body, lent_bodies}
 use Rattle.imap_structure.specs.Bodies.{text_of_parts, message_of, basic_of, multipart_of, body_type_text, message_word, body_type_msg, body_type_basic, some_bodies, body_type_mpart, body_type, bracketed_body, body, body_structure}
 use Rattle.imap_structure.specs.BodyTexts.{canonical_inside, canonical_each, canonical_body, spells_inside, spells_each, spells_body}
-use Rattle.imap_structure.proofs.EnvelopeTexts.{reads_spaced, spaced_spells, reads_envelope, envelope_spells}
+use Rattle.imap_envelopes.proofs.EnvelopeTexts.{reads_spaced, spaced_spells, reads_envelope, envelope_spells}
 use Rattle.imap_structure.proofs.FieldTexts.{reads_fields, fields_spell}
 use Rattle.imap_structure.proofs.ExtensionTexts.{reads_ext_1part, reads_ext_mpart, ext_1part_spells, ext_mpart_spells}
 

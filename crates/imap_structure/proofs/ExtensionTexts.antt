@@ -23,9 +23,9 @@ use Rattle.imap_shapes.specs.ExtensionValues.{ExtensionValue, Num, Str, Listed, 
 use Rattle.imap_shapes.specs.Lent.{lent_disposition, lent_languages, lent_extension, lent_extensions, lent_ext_1part, lent_ext_mpart}
 use Rattle.imap_structure.specs.Fields.{body_fld_param}
 use Rattle.imap_structure.specs.Extensions.{disposition_of, body_fld_dsp, some_languages, single, language_list, body_fld_lang, extension_over, some_extensions, listed, bracketed_extensions, extension_list, extension, body_extension, maybe_spaced, last_extension, ext_1part_of, body_ext_1part, ext_mpart_of, body_ext_mpart}
-use Rattle.imap_structure.specs.EnvelopeTexts.{behind_space}
+use Rattle.imap_envelopes.specs.EnvelopeTexts.{behind_space}
 use Rattle.imap_structure.specs.ExtensionTexts.{canonical_disposition, canonical_languages, canonical_extension, canonical_members, canonical_further, canonical_last, canonical_ext_1part, canonical_ext_mpart, spells_disposition, spells_languages, spells_extension, spells_members, spells_further, spells_field, spells_last, spells_ext_1part, spells_ext_mpart}
-use Rattle.imap_structure.proofs.EnvelopeTexts.{reads_spaced, spaced_spells}
+use Rattle.imap_envelopes.proofs.EnvelopeTexts.{reads_spaced, spaced_spells}
 use Rattle.imap_structure.proofs.FieldTexts.{reads_params, params_spell}
 
 -- ---- disposition

@@ -20,7 +20,7 @@ use Rattle.imap_shapes.specs.FieldValues.{EncodingValue}
 use Rattle.imap_shapes.specs.Lent.{lent_pair, lent_params, lent_encoding, lent_fields}
 use Rattle.imap_structure.specs.Fields.{body_param, some_params, body_fld_param, encoding_name, quoted_encoding, body_fld_enc, fields_of, body_fields}
 use Rattle.imap_structure.specs.FieldTexts.{canonical_pair, canonical_params, canonical_encoding, canonical_fields, spells_pair, spells_params, spells_encoding, spells_fields}
-use Rattle.imap_structure.proofs.EnvelopeTexts.{reads_spaced, spaced_spells}
+use Rattle.imap_envelopes.proofs.EnvelopeTexts.{reads_spaced, spaced_spells}
 
 -- ---- parameters
 

@@ -1,9 +1,6 @@
-pub mod Naming
-pub mod Gathering
 pub mod Seeing
 pub mod Levels
 pub mod Reading
-pub mod EnvelopeTexts
 pub mod FieldTexts
 pub mod ExtensionTexts
 pub mod BodyTexts

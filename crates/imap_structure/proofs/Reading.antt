@@ -1,9 +1,7 @@
--- What a body says that was made of the parts that were read, and what it rests on.
-use Rattle.std.proofs.Common.{◌≡◌, ℕ, List, refl, sym, ◌∙◌, map, take, Vec, Box, Global, Ok}
-use Rattle.imap_grammar.specs.declared.at.span.Span.{Span}
+-- What a body says that was made of the parts that were kept, and what it rests on.
+use Rattle.std.proofs.Common.{◌≡◌, ℕ, List, refl, sym, ◌∙◌, map, take, codes, Vec, Box, Global, Ok}
+use Rattle.imap_grammar.specs.Text.{Bytes, Text, as_text}
 use Rattle.imap_grammar.specs.Positions.{Rests}
-use Rattle.imap_shapes.specs.declared.spans.SpannedText.{SpannedText}
-use Rattle.imap_shapes.specs.declared.spans.SpannedText.TheVariants as fixed
 use Rattle.imap_shapes.specs.declared.shapes.envelopes.Envelope.{Envelope}
 use Rattle.imap_shapes.specs.declared.shapes.fields.BodyFields.{BodyFields}
 use Rattle.imap_shapes.specs.declared.shapes.extensions.BodyExt1Part.{BodyExt1Part}
@@ -12,104 +10,125 @@ use Rattle.imap_shapes.specs.declared.shapes.bodies.BodyContentCommon.{BodyConte
 use Rattle.imap_shapes.specs.declared.shapes.bodies.BodyContentSinglePart.{BodyContentSinglePart}
 use Rattle.imap_shapes.specs.declared.shapes.bodies.BodyStructure.{BodyStructure}
 use Rattle.imap_shapes.specs.declared.shapes.bodies.BodyStructure.TheVariants as body
-use Rattle.imap_shapes.specs.FieldValues.{fields_seen}
-use Rattle.imap_shapes.specs.ExtensionValues.{ext_1part_seen, ext_mpart_seen}
-use Rattle.imap_shapes.specs.BodyValues.{common_seen, single_seen}
-use Rattle.imap_shapes.specs.Spans.{text_in, bytes_in}
-use Rattle.imap_structure.specs.Spanned.{envelope_in, fields_in, ext_1part_in, ext_mpart_in, body_in, boxed_in}
+use Rattle.imap_shapes.specs.EnvelopeValues.{EnvelopeValue, envelope_seen}
+use Rattle.imap_shapes.specs.FieldValues.{FieldsValue, fields_seen}
+use Rattle.imap_shapes.specs.ExtensionValues.{Ext1PartValue, ext_1part_seen, ExtMPartValue, ext_mpart_seen}
+use Rattle.imap_shapes.specs.BodyValues.{BodyValue, TextBody, Message, Multipart, bodies_of, common_seen, single_seen, body_seen}
 use Rattle.imap_shapes.proofs.Trees.{text_seen, basic_seen, message_seen, multipart_seen}
 use Rattle.imap_grammar.specs.Step.{step}
 use Rattle.imap_grammar.specs.Tags.{word}
 use Rattle.imap_bytes.specs.Numbers.{number}
 use Rattle.imap_bytes.specs.Texts.{string_utf8}
-use Rattle.imap_structure.specs.Envelopes.{spaced, envelope}
+use Rattle.imap_envelopes.specs.Envelopes.{spaced, envelope}
 use Rattle.imap_structure.specs.Fields.{body_fields}
 use Rattle.imap_structure.specs.Extensions.{body_ext_1part, body_ext_mpart}
-use Rattle.imap_structure.specs.Bodies.{text_of_parts, message_of, basic_of, multipart_of, message_word, body_type_text, body_type_basic, body_type_msg, body_type_mpart, some_bodies, body as body_at}
+use Rattle.imap_structure.specs.Kept.{boxed_seen}
+use Rattle.imap_structure.specs.Bodies.{common_of, single_of, basic_of, message_word, body_type_text, body_type_basic, body_type_msg, body_type_mpart, some_bodies, body as body_at}
 
-abbrev Spanned : Type 0
-Spanned = BodyStructure SpannedText Span
-
-abbrev pub common_parts : SpannedText → SpannedText → BodyFields SpannedText → BodyExt1Part SpannedText → BodyContentCommon SpannedText
+abbrev pub common_parts : {S : Type 0} → S → S → BodyFields S → BodyExt1Part S → BodyContentCommon S
 common_parts ty subtype fields ext = record { ty = record { ty = ty; subtype = subtype; params = fields.param }; disposition = ext.disposition; language = ext.language; location = ext.location }
 
-abbrev pub single_parts : BodyFields SpannedText → BodyExt1Part SpannedText → BodyContentSinglePart SpannedText
+abbrev pub single_parts : {S : Type 0} → BodyFields S → BodyExt1Part S → BodyContentSinglePart S
 single_parts fields ext = record { id = fields.id; md5 = ext.md5; description = fields.description; transfer_encoding = fields.transfer_encoding; octets = fields.octets }
 
-abbrev pub multipart_parts : SpannedText → BodyExtMPart SpannedText → BodyContentCommon SpannedText
-multipart_parts subtype ext = record { ty = record { ty = fixed.Multipart; subtype = subtype; params = ext.param }; disposition = ext.disposition; language = ext.language; location = ext.location }
+abbrev pub multipart_parts : {S : Type 0} → S → S → BodyExtMPart S → BodyContentCommon S
+multipart_parts ty subtype ext = record { ty = record { ty = ty; subtype = subtype; params = ext.param }; disposition = ext.disposition; language = ext.language; location = ext.location }
 
--- ---- values
+-- ---- values, whatever texts stand in the place of those that a rule fixes
 
-pub text_read : (m : List ℕ) (subtype : SpannedText) (fields : BodyFields SpannedText) (lines : ℕ) (ext : BodyExt1Part SpannedText)
-    → body_in m (body.Text (common_parts fixed.Text subtype fields ext) (single_parts fields ext) lines ext.extension) ≡ text_of_parts (text_in m subtype, (fields_in m fields, (lines, ext_1part_in m ext)))
-unfolding common_seen single_seen fields_seen ext_1part_seen
-text_read m subtype fields lines ext = text_seen (text_in m) (bytes_in m) (common_parts fixed.Text subtype fields ext) (single_parts fields ext) lines ext.extension
+abbrev text_made : Text → Text × (FieldsValue × (ℕ × Ext1PartValue)) → BodyValue
+text_made ty v = TextBody (common_of ty v.0 v.1.0 v.1.1.1) (single_of v.1.0 v.1.1.1) v.1.1.0 v.1.1.1.extension
 
-pub basic_read : (m : List ℕ) (ty subtype : SpannedText) (fields : BodyFields SpannedText) (ext : BodyExt1Part SpannedText)
-    → body_in m (body.Basic (common_parts ty subtype fields ext) (single_parts fields ext) ext.extension) ≡ basic_of (text_in m ty, (text_in m subtype, (fields_in m fields, ext_1part_in m ext)))
-unfolding common_seen single_seen fields_seen ext_1part_seen
-basic_read m ty subtype fields ext = basic_seen (text_in m) (bytes_in m) (common_parts ty subtype fields ext) (single_parts fields ext) ext.extension
+abbrev message_made : Text → Text → FieldsValue × (EnvelopeValue × (BodyValue × (ℕ × Ext1PartValue))) → BodyValue
+message_made ty subtype v = Message (common_of ty subtype v.0 v.1.1.1.1) (single_of v.0 v.1.1.1.1) v.1.0 v.1.1.0 v.1.1.1.0 v.1.1.1.1.extension
 
-pub message_read : (m : List ℕ) (fields : BodyFields SpannedText) (envelope : Envelope Span) (inner : Box Spanned Global) (lines : ℕ) (ext : BodyExt1Part SpannedText)
-    → body_in m (body.Message (common_parts fixed.Message fixed.Rfc822 fields ext) (single_parts fields ext) envelope inner lines ext.extension) ≡ message_of (fields_in m fields, (envelope_in m envelope, (body_in m inner.value, (lines, ext_1part_in m ext))))
-unfolding common_seen single_seen fields_seen ext_1part_seen
-message_read m fields envelope inner lines ext = message_seen (text_in m) (bytes_in m) (common_parts fixed.Message fixed.Rfc822 fields ext) (single_parts fields ext) envelope inner lines ext.extension
+abbrev multipart_made : Text → List BodyValue × (Text × ExtMPartValue) → BodyValue
+multipart_made ty v = Multipart (record { ty = record { ty = ty; subtype = v.1.0; params = v.1.1.param }; disposition = v.1.1.disposition; language = v.1.1.language; location = v.1.1.location }) (bodies_of v.0) v.1.1.extension
 
-pub multipart_read : (m : List ℕ) (bodies : Vec Spanned Global) (subtype : SpannedText) (ext : BodyExtMPart SpannedText)
-    → body_in m (body.Multipart (multipart_parts subtype ext) bodies ext.extension) ≡ multipart_of (map (body_in m) bodies.items, (text_in m subtype, ext_mpart_in m ext))
-unfolding common_seen ext_mpart_seen
-multipart_read m bodies subtype ext = multipart_seen (text_in m) (bytes_in m) (multipart_parts subtype ext) bodies ext.extension
+module _ {S B : Type 0} (f : S → Text) (g : B → Text) where
+  pub text_read : (ty subtype : S) (fields : BodyFields S) (lines : ℕ) (ext : BodyExt1Part S)
+      → body_seen f g (body.Text (common_parts ty subtype fields ext) (single_parts fields ext) lines ext.extension) ≡ text_made (f ty) (f subtype, (fields_seen f fields, (lines, ext_1part_seen f ext)))
+  unfolding common_seen single_seen fields_seen ext_1part_seen
+  text_read ty subtype fields lines ext = text_seen f g (common_parts ty subtype fields ext) (single_parts fields ext) lines ext.extension
+
+  pub basic_read : (ty subtype : S) (fields : BodyFields S) (ext : BodyExt1Part S)
+      → body_seen f g (body.Basic (common_parts ty subtype fields ext) (single_parts fields ext) ext.extension) ≡ basic_of (f ty, (f subtype, (fields_seen f fields, ext_1part_seen f ext)))
+  unfolding common_seen single_seen fields_seen ext_1part_seen
+  basic_read ty subtype fields ext = basic_seen f g (common_parts ty subtype fields ext) (single_parts fields ext) ext.extension
+
+  pub message_read : (ty subtype : S) (fields : BodyFields S) (envelope : Envelope B) (inner : Box (BodyStructure S B) Global) (lines : ℕ) (ext : BodyExt1Part S)
+      → body_seen f g (body.Message (common_parts ty subtype fields ext) (single_parts fields ext) envelope inner lines ext.extension) ≡ message_made (f ty) (f subtype) (fields_seen f fields, (envelope_seen g envelope, (body_seen f g inner.value, (lines, ext_1part_seen f ext))))
+  unfolding common_seen single_seen fields_seen ext_1part_seen
+  message_read ty subtype fields envelope inner lines ext = message_seen f g (common_parts ty subtype fields ext) (single_parts fields ext) envelope inner lines ext.extension
+
+  pub multipart_read : (bodies : Vec (BodyStructure S B) Global) (ty subtype : S) (ext : BodyExtMPart S)
+      → body_seen f g (body.Multipart (multipart_parts ty subtype ext) bodies ext.extension) ≡ multipart_made (f ty) (map (body_seen f g) bodies.items, (f subtype, ext_mpart_seen f ext))
+  unfolding common_seen ext_mpart_seen
+  multipart_read bodies ty subtype ext = multipart_seen f g (multipart_parts ty subtype ext) bodies ext.extension
+
+  -- ---- what is read where each part is
+
+  pub text_reads : (m0 m1 m2 m3 m4 m5 word_read : List ℕ) (ty subtype : S) (fields : BodyFields S) (lines : ℕ) (ext : BodyExt1Part S) → f ty ≡ as_text (codes "TEXT")
+      → step (word "\"TEXT\"") m0 ≡ Ok (m1, word_read) → step (spaced string_utf8) m1 ≡ Ok (m2, f subtype) → step (spaced body_fields) m2 ≡ Ok (m3, fields_seen f fields) → step (spaced number) m3 ≡ Ok (m4, lines) → step body_ext_1part m4 ≡ Ok (m5, ext_1part_seen f ext)
+      → step body_type_text m0 ≡ Ok (m5, body_seen f g (body.Text (common_parts ty subtype fields ext) (single_parts fields ext) lines ext.extension))
+  unfolding body_type_text
+  text_reads m0 m1 m2 m3 m4 m5 word_read ty subtype fields lines ext is e1 e2 e3 e4 e5 = rw (text_read ty subtype fields lines ext, is, e1, e2, e3, e4, e5) refl
+
+  pub basic_reads : (m0 m1 m2 m3 m4 : List ℕ) (ty subtype : S) (fields : BodyFields S) (ext : BodyExt1Part S)
+      → step string_utf8 m0 ≡ Ok (m1, f ty) → step (spaced string_utf8) m1 ≡ Ok (m2, f subtype) → step (spaced body_fields) m2 ≡ Ok (m3, fields_seen f fields) → step body_ext_1part m3 ≡ Ok (m4, ext_1part_seen f ext)
+      → step body_type_basic m0 ≡ Ok (m4, body_seen f g (body.Basic (common_parts ty subtype fields ext) (single_parts fields ext) ext.extension))
+  unfolding body_type_basic
+  basic_reads m0 m1 m2 m3 m4 ty subtype fields ext e1 e2 e3 e4 = rw (basic_read ty subtype fields ext, e1, e2, e3, e4) refl
+
+  pub message_reads : (level : ℕ) (m0 m1 m2 m3 m4 m5 m6 word_read : List ℕ) (ty subtype : S) (fields : BodyFields S) (envelope_read : Envelope B) (inner : BodyStructure S B) (boxed : Box (BodyStructure S B) Global) (lines : ℕ) (ext : BodyExt1Part S)
+      → f ty ≡ as_text (codes "MESSAGE") → f subtype ≡ as_text (codes "RFC822") → boxed.value ≡ inner
+      → step message_word m0 ≡ Ok (m1, word_read) → step (spaced body_fields) m1 ≡ Ok (m2, fields_seen f fields) → step (spaced envelope) m2 ≡ Ok (m3, envelope_seen g envelope_read) → step (spaced (body_at level)) m3 ≡ Ok (m4, body_seen f g inner)
+      → step (spaced number) m4 ≡ Ok (m5, lines) → step body_ext_1part m5 ≡ Ok (m6, ext_1part_seen f ext)
+      → step (body_type_msg (body_at level)) m0 ≡ Ok (m6, body_seen f g (body.Message (common_parts ty subtype fields ext) (single_parts fields ext) envelope_read boxed lines ext.extension))
+  unfolding body_type_msg
+  message_reads level m0 m1 m2 m3 m4 m5 m6 word_read ty subtype fields envelope_read inner boxed lines ext ty_is subtype_is is e1 e2 e3 e4 e5 e6 = rw (message_read ty subtype fields envelope_read boxed lines ext, ty_is, subtype_is, is, e1, e2, e3, e4, e5, e6) refl
+
+  pub multipart_reads : (level : ℕ) (m0 m1 m2 m3 : List ℕ) (bodies : Vec (BodyStructure S B) Global) (ty subtype : S) (ext : BodyExtMPart S) → f ty ≡ as_text (codes "MULTIPART")
+      → step (some_bodies (body_at level)) m0 ≡ Ok (m1, map (body_seen f g) bodies.items) → step (spaced string_utf8) m1 ≡ Ok (m2, f subtype) → step body_ext_mpart m2 ≡ Ok (m3, ext_mpart_seen f ext)
+      → step (body_type_mpart (body_at level)) m0 ≡ Ok (m3, body_seen f g (body.Multipart (multipart_parts ty subtype ext) bodies ext.extension))
+  unfolding body_type_mpart
+  multipart_reads level m0 m1 m2 m3 bodies ty subtype ext is e1 e2 e3 = rw (multipart_read bodies ty subtype ext, is, e1, e2, e3) refl
 
 -- ---- what they rest on
 
-pub text_rests : (q : ℕ) (subtype : SpannedText) (fields : BodyFields SpannedText) (lines : ℕ) (ext : BodyExt1Part SpannedText) → Rests text_in q subtype → Rests fields_in q fields → Rests ext_1part_in q ext
-    → Rests body_in q (body.Text (common_parts fixed.Text subtype fields ext) (single_parts fields ext) lines ext.extension)
-text_rests q subtype fields lines ext s f e = record { same = λ m. text_read (take q m) subtype fields lines ext ∙ rw (s.same m, f.same m, e.same m) refl ∙ sym (text_read m subtype fields lines ext) }
+module _ {S B : Type 0} (said : Bytes → S → Text) (told : Bytes → B → Text) (q : ℕ) where
+  abbrev Text_rests : S → Type 0
+  Text_rests x = Rests said q x
 
-pub basic_rests : (q : ℕ) (ty subtype : SpannedText) (fields : BodyFields SpannedText) (ext : BodyExt1Part SpannedText) → Rests text_in q ty → Rests text_in q subtype → Rests fields_in q fields → Rests ext_1part_in q ext
-    → Rests body_in q (body.Basic (common_parts ty subtype fields ext) (single_parts fields ext) ext.extension)
-basic_rests q ty subtype fields ext t s f e = record { same = λ m. basic_read (take q m) ty subtype fields ext ∙ rw (t.same m, s.same m, f.same m, e.same m) refl ∙ sym (basic_read m ty subtype fields ext) }
+  abbrev Fields_rest : BodyFields S → Type 0
+  Fields_rest x = Rests (λ n y. fields_seen (said n) y) q x
 
-pub message_rests : (q : ℕ) (fields : BodyFields SpannedText) (envelope : Envelope Span) (inner : Box Spanned Global) (lines : ℕ) (ext : BodyExt1Part SpannedText)
-    → Rests fields_in q fields → Rests envelope_in q envelope → Rests body_in q inner.value → Rests ext_1part_in q ext
-    → Rests body_in q (body.Message (common_parts fixed.Message fixed.Rfc822 fields ext) (single_parts fields ext) envelope inner lines ext.extension)
-message_rests q fields envelope inner lines ext f v b e = record { same = λ m. message_read (take q m) fields envelope inner lines ext ∙ rw (f.same m, v.same m, b.same m, e.same m) refl ∙ sym (message_read m fields envelope inner lines ext) }
+  abbrev Ext_rests : BodyExt1Part S → Type 0
+  Ext_rests x = Rests (λ n y. ext_1part_seen (said n) y) q x
 
-pub multipart_rests : (q : ℕ) (bodies : Vec Spanned Global) (subtype : SpannedText) (ext : BodyExtMPart SpannedText) → Rests (λ n x. map (body_in n) x.items) q bodies → Rests text_in q subtype → Rests ext_mpart_in q ext
-    → Rests body_in q (body.Multipart (multipart_parts subtype ext) bodies ext.extension)
-multipart_rests q bodies subtype ext b s e = record { same = λ m. multipart_read (take q m) bodies subtype ext ∙ rw (b.same m, s.same m, e.same m) refl ∙ sym (multipart_read m bodies subtype ext) }
+  abbrev Body_rests : BodyStructure S B → Type 0
+  Body_rests x = Rests (λ n y. body_seen (said n) (told n) y) q x
 
--- a boxed body rests on what the body does
-pub boxed_rests : (q : ℕ) (b : Box Spanned Global) (x : Spanned) → b.value ≡ x → Rests body_in q x → Rests boxed_in q b
-boxed_rests q b x is h = record { same = λ m. rw is (h.same m) }
+  pub text_rests : (ty subtype : S) (fields : BodyFields S) (lines : ℕ) (ext : BodyExt1Part S) → Text_rests ty → Text_rests subtype → Fields_rest fields → Ext_rests ext
+      → Body_rests (body.Text (common_parts ty subtype fields ext) (single_parts fields ext) lines ext.extension)
+  text_rests ty subtype fields lines ext t s f e = record { same = λ m. text_read (said (take q m)) (told (take q m)) ty subtype fields lines ext ∙ rw (t.same m, s.same m, f.same m, e.same m) refl ∙ sym (text_read (said m) (told m) ty subtype fields lines ext) }
 
-pub unboxed_rests : (q : ℕ) (b : Box Spanned Global) → Rests boxed_in q b → Rests body_in q b.value
-unboxed_rests q b h = record { same = λ m. h.same m }
+  pub basic_rests : (ty subtype : S) (fields : BodyFields S) (ext : BodyExt1Part S) → Text_rests ty → Text_rests subtype → Fields_rest fields → Ext_rests ext
+      → Body_rests (body.Basic (common_parts ty subtype fields ext) (single_parts fields ext) ext.extension)
+  basic_rests ty subtype fields ext t s f e = record { same = λ m. basic_read (said (take q m)) (told (take q m)) ty subtype fields ext ∙ rw (t.same m, s.same m, f.same m, e.same m) refl ∙ sym (basic_read (said m) (told m) ty subtype fields ext) }
 
--- ---- what is read where each part is
+  pub message_rests : (ty subtype : S) (fields : BodyFields S) (envelope : Envelope B) (inner : Box (BodyStructure S B) Global) (lines : ℕ) (ext : BodyExt1Part S)
+      → Text_rests ty → Text_rests subtype → Fields_rest fields → Rests (λ n y. envelope_seen (told n) y) q envelope → Body_rests inner.value → Ext_rests ext
+      → Body_rests (body.Message (common_parts ty subtype fields ext) (single_parts fields ext) envelope inner lines ext.extension)
+  message_rests ty subtype fields envelope inner lines ext t s f v b e = record { same = λ m. message_read (said (take q m)) (told (take q m)) ty subtype fields envelope inner lines ext ∙ rw (t.same m, s.same m, f.same m, v.same m, b.same m, e.same m) refl ∙ sym (message_read (said m) (told m) ty subtype fields envelope inner lines ext) }
 
-pub text_reads : (m m0 m1 m2 m3 m4 m5 word_read : List ℕ) (subtype : SpannedText) (fields : BodyFields SpannedText) (lines : ℕ) (ext : BodyExt1Part SpannedText)
-    → step (word "\"TEXT\"") m0 ≡ Ok (m1, word_read) → step (spaced string_utf8) m1 ≡ Ok (m2, text_in m subtype) → step (spaced body_fields) m2 ≡ Ok (m3, fields_in m fields) → step (spaced number) m3 ≡ Ok (m4, lines) → step body_ext_1part m4 ≡ Ok (m5, ext_1part_in m ext)
-    → step body_type_text m0 ≡ Ok (m5, body_in m (body.Text (common_parts fixed.Text subtype fields ext) (single_parts fields ext) lines ext.extension))
-unfolding body_type_text
-text_reads m m0 m1 m2 m3 m4 m5 word_read subtype fields lines ext e1 e2 e3 e4 e5 = rw (text_read m subtype fields lines ext, e1, e2, e3, e4, e5) refl
+  pub multipart_rests : (bodies : Vec (BodyStructure S B) Global) (ty subtype : S) (ext : BodyExtMPart S) → Rests (λ n x. map (body_seen (said n) (told n)) x.items) q bodies → Text_rests ty → Text_rests subtype → Rests (λ n y. ext_mpart_seen (said n) y) q ext
+      → Body_rests (body.Multipart (multipart_parts ty subtype ext) bodies ext.extension)
+  multipart_rests bodies ty subtype ext b t s e = record { same = λ m. multipart_read (said (take q m)) (told (take q m)) bodies ty subtype ext ∙ rw (b.same m, t.same m, s.same m, e.same m) refl ∙ sym (multipart_read (said m) (told m) bodies ty subtype ext) }
 
-pub basic_reads : (m m0 m1 m2 m3 m4 : List ℕ) (ty subtype : SpannedText) (fields : BodyFields SpannedText) (ext : BodyExt1Part SpannedText)
-    → step string_utf8 m0 ≡ Ok (m1, text_in m ty) → step (spaced string_utf8) m1 ≡ Ok (m2, text_in m subtype) → step (spaced body_fields) m2 ≡ Ok (m3, fields_in m fields) → step body_ext_1part m3 ≡ Ok (m4, ext_1part_in m ext)
-    → step body_type_basic m0 ≡ Ok (m4, body_in m (body.Basic (common_parts ty subtype fields ext) (single_parts fields ext) ext.extension))
-unfolding body_type_basic
-basic_reads m m0 m1 m2 m3 m4 ty subtype fields ext e1 e2 e3 e4 = rw (basic_read m ty subtype fields ext, e1, e2, e3, e4) refl
+  -- a boxed body rests on what the body does
+  pub boxed_rests : (b : Box (BodyStructure S B) Global) (x : BodyStructure S B) → b.value ≡ x → Body_rests x → Rests (λ n y. boxed_seen (said n) (told n) y) q b
+  boxed_rests b x is h = record { same = λ m. rw is (h.same m) }
 
-pub message_reads : (level : ℕ) (m m0 m1 m2 m3 m4 m5 m6 word_read : List ℕ) (fields : BodyFields SpannedText) (envelope_read : Envelope Span) (inner : Spanned) (boxed : Box Spanned Global) (lines : ℕ) (ext : BodyExt1Part SpannedText) → boxed.value ≡ inner
-    → step message_word m0 ≡ Ok (m1, word_read) → step (spaced body_fields) m1 ≡ Ok (m2, fields_in m fields) → step (spaced envelope) m2 ≡ Ok (m3, envelope_in m envelope_read) → step (spaced (body_at level)) m3 ≡ Ok (m4, body_in m inner)
-    → step (spaced number) m4 ≡ Ok (m5, lines) → step body_ext_1part m5 ≡ Ok (m6, ext_1part_in m ext)
-    → step (body_type_msg (body_at level)) m0 ≡ Ok (m6, body_in m (body.Message (common_parts fixed.Message fixed.Rfc822 fields ext) (single_parts fields ext) envelope_read boxed lines ext.extension))
-unfolding body_type_msg
-message_reads level m m0 m1 m2 m3 m4 m5 m6 word_read fields envelope_read inner boxed lines ext is e1 e2 e3 e4 e5 e6 = rw (message_read m fields envelope_read boxed lines ext, is, e1, e2, e3, e4, e5, e6) refl
-
-pub multipart_reads : (level : ℕ) (m m0 m1 m2 m3 : List ℕ) (bodies : Vec Spanned Global) (subtype : SpannedText) (ext : BodyExtMPart SpannedText)
-    → step (some_bodies (body_at level)) m0 ≡ Ok (m1, map (body_in m) bodies.items) → step (spaced string_utf8) m1 ≡ Ok (m2, text_in m subtype) → step body_ext_mpart m2 ≡ Ok (m3, ext_mpart_in m ext)
-    → step (body_type_mpart (body_at level)) m0 ≡ Ok (m3, body_in m (body.Multipart (multipart_parts subtype ext) bodies ext.extension))
-unfolding body_type_mpart
-multipart_reads level m m0 m1 m2 m3 bodies subtype ext e1 e2 e3 = rw (multipart_read m bodies subtype ext, e1, e2, e3) refl
+  pub unboxed_rests : (b : Box (BodyStructure S B) Global) → Rests (λ n y. boxed_seen (said n) (told n) y) q b → Body_rests b.value
+  unboxed_rests b h = record { same = λ m. h.same m }

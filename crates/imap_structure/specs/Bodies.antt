@@ -9,7 +9,7 @@ use Rattle.imap_shapes.specs.EnvelopeValues.{EnvelopeValue}
 use Rattle.imap_shapes.specs.FieldValues.{FieldsValue}
 use Rattle.imap_shapes.specs.ExtensionValues.{Ext1PartValue, ExtMPartValue}
 use Rattle.imap_shapes.specs.BodyValues.{CommonValue, SingleValue, BodyValue, Basic, TextBody, Message, Multipart, bodies_of}
-use Rattle.imap_structure.specs.Envelopes.{spaced, envelope}
+use Rattle.imap_envelopes.specs.Envelopes.{spaced, envelope}
 use Rattle.imap_structure.specs.Fields.{body_fields}
 use Rattle.imap_structure.specs.Extensions.{body_ext_1part, body_ext_mpart}
 

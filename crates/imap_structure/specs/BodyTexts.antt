@@ -8,7 +8,7 @@ use Rattle.imap_grammar.specs.Spelling.{this, exactly, in_any_case, ◌and◌, s
 use Rattle.imap_shapes.specs.FieldValues.{FieldsValue}
 use Rattle.imap_shapes.specs.ExtensionValues.{ExtensionValue, Ext1PartValue, ExtMPartValue}
 use Rattle.imap_shapes.specs.BodyValues.{CommonValue, SingleValue, BodyValue, Basic, TextBody, Message, Multipart, Bodies, no_bodies, one_body}
-use Rattle.imap_structure.specs.EnvelopeTexts.{canonical_envelope, behind_space, spells_envelope}
+use Rattle.imap_envelopes.specs.EnvelopeTexts.{canonical_envelope, behind_space, spells_envelope}
 use Rattle.imap_structure.specs.FieldTexts.{canonical_fields, spells_fields}
 use Rattle.imap_structure.specs.ExtensionTexts.{canonical_ext_1part, canonical_ext_mpart, spells_ext_1part, spells_ext_mpart}
 

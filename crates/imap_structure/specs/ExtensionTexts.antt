@@ -5,7 +5,7 @@ use Rattle.imap_grammar.specs.Pieces.{Pieces, ◌then◌, words, space, number_t
 use Rattle.imap_grammar.specs.ReadBack.{Texts}
 use Rattle.imap_grammar.specs.Spelling.{this, exactly, ◌and◌, blanks, nil_or, spells_some_list, spells_number, spells_string_text, spells_ntext}
 use Rattle.imap_shapes.specs.ExtensionValues.{DispositionValue, ExtensionValue, Num, Str, Listed, Extensions, no_extensions, one_extension, Ext1PartValue, ExtMPartValue}
-use Rattle.imap_structure.specs.EnvelopeTexts.{behind_space}
+use Rattle.imap_envelopes.specs.EnvelopeTexts.{behind_space}
 use Rattle.imap_structure.specs.FieldTexts.{canonical_params, spells_params}
 
 -- ---- canonical text

@@ -10,7 +10,7 @@ use Rattle.imap_bytes.specs.Strings.{nil_or}
 use Rattle.imap_bytes.specs.Texts.{string_utf8, nstring_utf8}
 use Rattle.imap_shapes.specs.FieldValues.{ParamsValue}
 use Rattle.imap_shapes.specs.ExtensionValues.{DispositionValue, ExtensionValue, Num, Str, Listed, extensions_of, Ext1PartValue, ExtMPartValue}
-use Rattle.imap_structure.specs.Envelopes.{spaced}
+use Rattle.imap_envelopes.specs.Envelopes.{spaced}
 use Rattle.imap_structure.specs.Fields.{body_fld_param}
 
 -- ---- disposition and language

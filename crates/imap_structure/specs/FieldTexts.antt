@@ -7,7 +7,7 @@ use Rattle.imap_grammar.specs.ReadBack.{Texts}
 use Rattle.imap_grammar.specs.Spelling.{exactly, in_any_case, ◌and◌, nil_or, spells_some_list, spells_number, spells_string_text, spells_ntext}
 use Rattle.imap_shapes.specs.declared.shapes.fields.ContentEncoding.TheVariants.{SevenBit, EightBit, Binary, Base64, QuotedPrintable, Other}
 use Rattle.imap_shapes.specs.FieldValues.{ParamsValue, EncodingValue, FieldsValue}
-use Rattle.imap_structure.specs.EnvelopeTexts.{behind_space}
+use Rattle.imap_envelopes.specs.EnvelopeTexts.{behind_space}
 
 -- ---- canonical text
 

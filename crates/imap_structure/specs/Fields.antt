@@ -8,7 +8,7 @@ use Rattle.imap_bytes.specs.Strings.{nil, nil_or}
 use Rattle.imap_bytes.specs.Texts.{string_utf8, nstring_utf8}
 use Rattle.imap_shapes.specs.declared.shapes.fields.ContentEncoding.TheVariants.{SevenBit, EightBit, Binary, Base64, QuotedPrintable, Other}
 use Rattle.imap_shapes.specs.FieldValues.{ParamsValue, EncodingValue, FieldsValue}
-use Rattle.imap_structure.specs.Envelopes.{spaced}
+use Rattle.imap_envelopes.specs.Envelopes.{spaced}
 
 -- string SP string
 unfoldable pub body_param : Rule (Text × Text)

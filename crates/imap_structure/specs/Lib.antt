@@ -1,9 +1,8 @@
-pub mod Envelopes
 pub mod Fields
 pub mod Extensions
 pub mod Bodies
 pub mod Spanned
-pub mod EnvelopeTexts
+pub mod Kept
 pub mod FieldTexts
 pub mod ExtensionTexts
 pub mod BodyTexts

@@ -1,4 +1,4 @@
-//! Envelopes and structures of bodies: their rules, and readers at a position and of slices.
+//! Structures of bodies: their rules, and readers at a position and of slices.
 #![tactic(auto)]
 
 pub mod at;

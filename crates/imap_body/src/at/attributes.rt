@@ -1,4 +1,4 @@
-//! Attributes of a message at a position, their texts as spans.
+//! Attributes of a message at a position: their texts as spans, and what is kept of their byte strings.
 
 ghost use Rattle.std.specs.Prelude.{◌≡◌, ◌≤◌, ◌<◌, length, drop, position, IfSome};
 ghost use Rattle.imap_grammar.specs.Meaning.{outside};
@@ -6,23 +6,25 @@ ghost use Rattle.imap_grammar.specs.Positions.{ExactlyAt, GivesAt, Ahead, Inside
 ghost use Rattle.imap_grammar.specs.Rule.{opt, run0, run1};
 ghost use Rattle.imap_grammar.specs.Step.{step};
 ghost use Rattle.imap_items.specs.Spanned.{text_in};
-ghost use Rattle.imap_body.specs.AttributeValues.{parts_in};
+ghost use Rattle.imap_body.specs.AttributeValues.{parts_said};
 ghost use Rattle.imap_body.specs.Attributes as rules;
 
-use crate::types::attributes::{AttributeParts, AttributeSpans};
+use crate::types::attributes::{AttributeKept, AttributeParts};
 use imap_bytes::at::numbers::{number, number_64};
 use imap_bytes::at::span::Span;
 use imap_bytes::at::strings::{astring_chars, atom, nil, nstring, string};
 use imap_bytes::at::tags::{cut0, cut1, maybe_space, tag, word};
 use imap_bytes::strings::as_utf8;
 use imap_bytes::{Err, Needed, first, maybe};
+use imap_envelopes::Keep;
+use imap_envelopes::at::Reached;
+use imap_envelopes::at::envelopes::envelope;
+use imap_envelopes::at::texts::{byte_string, spaced_byte_string};
+use imap_envelopes::kept::kept_bytes;
 use imap_items::at::{flag_list, gmail_label_list};
 use imap_sections::at::sections::section;
 use imap_shapes::made;
-use imap_structure::at::Reached;
 use imap_structure::at::bodies::body_structure;
-use imap_structure::at::envelopes::envelope;
-use imap_structure::at::texts::{byte_string, spaced_byte_string};
 use std::alloc::Global;
 
 #[tactic(auto, unfolding(crate::specs::Attributes::origin))]
@@ -46,11 +48,17 @@ fn maybe_origin(m: &[u8], p: usize) -> Reached<Option<u32>>
 }
 
 #[tactic(auto, unfolding(crate::specs::Attributes::section_contents))]
-fn section_contents(alloc: Global, m: &[u8], p: usize) -> Reached<AttributeSpans>
-    requires { p ≤ length m.now }
-    ensures steps { GivesAt (λ x. parts_in m.now x) m.now result (step rules.section_contents (drop p m.now)) }
+fn section_contents<K: Keep>(
+    keep: &K,
+    alloc: Global,
+    m: &[u8],
+    p: usize,
+) -> Reached<AttributeKept<K::Text, K::Bytes>>
+    requires inside { p ≤ length m.now }
+    requires serves { K.serves keep.now m.now }
+    ensures steps { GivesAt (λ x. parts_said K.text_said K.bytes_said m.now x) m.now result (step rules.section_contents (drop p m.now)) }
     ensures ahead { Ahead m.now p result }
-    ensures rests { RestsOn parts_in result }
+    ensures rests { RestsOn (λ n x. parts_said K.text_said K.bytes_said n x) result }
 {
     let (p, section) = section(alloc, m, p)?;
     let (p, index) = maybe_origin(m, p)?;
@@ -60,79 +68,103 @@ fn section_contents(alloc: Global, m: &[u8], p: usize) -> Reached<AttributeSpans
         AttributeParts::BodySection {
             section,
             index,
-            contents,
+            contents: kept_bytes(keep, m, contents),
         },
     ))
 }
 
 /// A section of a message's body (RFC 3501, section 7.4.2: `BODY[<section>]<<origin octet>>`).
 #[tactic(auto, unfolding(crate::specs::Attributes::msg_att_body_section))]
-pub fn msg_att_body_section(alloc: Global, m: &[u8], p: usize) -> Reached<AttributeSpans>
-    requires { p ≤ length m.now }
-    ensures steps { GivesAt (λ x. parts_in m.now x) m.now result (step rules.msg_att_body_section (drop p m.now)) }
+pub fn msg_att_body_section<K: Keep>(
+    keep: &K,
+    alloc: Global,
+    m: &[u8],
+    p: usize,
+) -> Reached<AttributeKept<K::Text, K::Bytes>>
+    requires inside { p ≤ length m.now }
+    requires serves { K.serves keep.now m.now }
+    ensures steps { GivesAt (λ x. parts_said K.text_said K.bytes_said m.now x) m.now result (step rules.msg_att_body_section (drop p m.now)) }
     ensures ahead { Ahead m.now p result }
-    ensures rests { RestsOn parts_in result }
+    ensures rests { RestsOn (λ n x. parts_said K.text_said K.bytes_said n x) result }
 {
     let (p, _) = word(b"BODY", m, p)?;
-    section_contents(alloc, m, p)
+    section_contents(keep, alloc, m, p)
 }
 
 #[tactic(auto, using(crate::proofs::Resting::structure_rests), unfolding(crate::specs::Attributes::structure))]
-fn structure(alloc: Global, m: &[u8], p: usize) -> Reached<AttributeSpans>
-    requires { p ≤ length m.now }
-    ensures steps { GivesAt (λ x. parts_in m.now x) m.now result (step rules.structure (drop p m.now)) }
+fn structure<K: Keep>(
+    keep: &K,
+    alloc: Global,
+    m: &[u8],
+    p: usize,
+) -> Reached<AttributeKept<K::Text, K::Bytes>>
+    requires inside { p ≤ length m.now }
+    requires serves { K.serves keep.now m.now }
+    ensures steps { GivesAt (λ x. parts_said K.text_said K.bytes_said m.now x) m.now result (step rules.structure (drop p m.now)) }
     ensures ahead { Ahead m.now p result }
-    ensures rests { RestsOn parts_in result }
+    ensures rests { RestsOn (λ n x. parts_said K.text_said K.bytes_said n x) result }
 {
     let (p, _) = word(b"STRUCTURE ", m, p)?;
-    let (p, body) = body_structure(alloc, m, p)?;
+    let (p, body) = body_structure(keep, alloc, m, p)?;
     Ok((p, AttributeParts::BodyStructure(body)))
 }
 
 // `BODY` is read once, whether a section or `STRUCTURE` stands behind it.
 #[tactic(auto, unfolding(crate::specs::Attributes::body_attribute))]
-fn body_attribute(alloc: Global, m: &[u8], p: usize) -> Reached<AttributeSpans>
-    requires { p ≤ length m.now }
-    ensures steps { GivesAt (λ x. parts_in m.now x) m.now result (step rules.body_attribute (drop p m.now)) }
+fn body_attribute<K: Keep>(
+    keep: &K,
+    alloc: Global,
+    m: &[u8],
+    p: usize,
+) -> Reached<AttributeKept<K::Text, K::Bytes>>
+    requires inside { p ≤ length m.now }
+    requires serves { K.serves keep.now m.now }
+    ensures steps { GivesAt (λ x. parts_said K.text_said K.bytes_said m.now x) m.now result (step rules.body_attribute (drop p m.now)) }
     ensures ahead { Ahead m.now p result }
-    ensures rests { RestsOn parts_in result }
+    ensures rests { RestsOn (λ n x. parts_said K.text_said K.bytes_said n x) result }
 {
     let (p, _) = word(b"BODY", m, p)?;
-    first!(section_contents(alloc, m, p));
-    structure(alloc, m, p)
+    first!(section_contents(keep, alloc, m, p));
+    structure(keep, alloc, m, p)
 }
 
 #[tactic(auto, unfolding(crate::specs::Attributes::whole_message))]
-fn whole_message(m: &[u8], p: usize) -> Reached<AttributeSpans>
-    requires { p ≤ length m.now }
-    ensures steps { ExactlyAt (λ x. parts_in m.now x) m.now result (step rules.whole_message (drop p m.now)) }
+fn whole_message<K: Keep>(keep: &K, m: &[u8], p: usize) -> Reached<AttributeKept<K::Text, K::Bytes>>
+    requires inside { p ≤ length m.now }
+    requires serves { K.serves keep.now m.now }
+    ensures steps { ExactlyAt (λ x. parts_said K.text_said K.bytes_said m.now x) m.now result (step rules.whole_message (drop p m.now)) }
     ensures ahead { Ahead m.now p result }
-    ensures rests { RestsOn parts_in result }
+    ensures rests { RestsOn (λ n x. parts_said K.text_said K.bytes_said n x) result }
 {
     let (p, _) = word(b" ", m, p)?;
     let (p, message) = byte_string(m, p)?;
-    Ok((p, AttributeParts::Rfc822(message)))
+    Ok((p, AttributeParts::Rfc822(kept_bytes(keep, m, message))))
 }
 
 #[tactic(auto, unfolding(crate::specs::Attributes::message_header))]
-fn message_header(m: &[u8], p: usize) -> Reached<AttributeSpans>
-    requires { p ≤ length m.now }
-    ensures steps { ExactlyAt (λ x. parts_in m.now x) m.now result (step rules.message_header (drop p m.now)) }
+fn message_header<K: Keep>(
+    keep: &K,
+    m: &[u8],
+    p: usize,
+) -> Reached<AttributeKept<K::Text, K::Bytes>>
+    requires inside { p ≤ length m.now }
+    requires serves { K.serves keep.now m.now }
+    ensures steps { ExactlyAt (λ x. parts_said K.text_said K.bytes_said m.now x) m.now result (step rules.message_header (drop p m.now)) }
     ensures ahead { Ahead m.now p result }
-    ensures rests { RestsOn parts_in result }
+    ensures rests { RestsOn (λ n x. parts_said K.text_said K.bytes_said n x) result }
 {
     let (p, _) = word(b"HEADER ", m, p)?;
     let (p, _) = maybe_space(m, p)?;
     let (p, header) = byte_string(m, p)?;
-    Ok((p, AttributeParts::Rfc822Header(header)))
+    Ok((p, AttributeParts::Rfc822Header(kept_bytes(keep, m, header))))
 }
 
 #[tactic(auto, unfolding(crate::specs::Attributes::message_size))]
-fn message_size(m: &[u8], p: usize) -> Reached<AttributeSpans>
+fn message_size<K: Keep>(m: &[u8], p: usize) -> Reached<AttributeKept<K::Text, K::Bytes>>
     requires { p ≤ length m.now }
-    ensures steps { ExactlyAt (λ x. parts_in m.now x) m.now result (step rules.message_size (drop p m.now)) }
+    ensures steps { ExactlyAt (λ x. parts_said K.text_said K.bytes_said m.now x) m.now result (step rules.message_size (drop p m.now)) }
     ensures ahead { Ahead m.now p result }
-    ensures rests { RestsOn parts_in result }
+    ensures rests { RestsOn (λ n x. parts_said K.text_said K.bytes_said n x) result }
 {
     let (p, _) = word(b"SIZE ", m, p)?;
     let (p, size) = number(m, p)?;
@@ -140,53 +172,66 @@ fn message_size(m: &[u8], p: usize) -> Reached<AttributeSpans>
 }
 
 #[tactic(auto, unfolding(crate::specs::Attributes::message_text))]
-fn message_text(m: &[u8], p: usize) -> Reached<AttributeSpans>
-    requires { p ≤ length m.now }
-    ensures steps { ExactlyAt (λ x. parts_in m.now x) m.now result (step rules.message_text (drop p m.now)) }
+fn message_text<K: Keep>(keep: &K, m: &[u8], p: usize) -> Reached<AttributeKept<K::Text, K::Bytes>>
+    requires inside { p ≤ length m.now }
+    requires serves { K.serves keep.now m.now }
+    ensures steps { ExactlyAt (λ x. parts_said K.text_said K.bytes_said m.now x) m.now result (step rules.message_text (drop p m.now)) }
     ensures ahead { Ahead m.now p result }
-    ensures rests { RestsOn parts_in result }
+    ensures rests { RestsOn (λ n x. parts_said K.text_said K.bytes_said n x) result }
 {
     let (p, _) = word(b"TEXT ", m, p)?;
     let (p, text) = byte_string(m, p)?;
-    Ok((p, AttributeParts::Rfc822Text(text)))
+    Ok((p, AttributeParts::Rfc822Text(kept_bytes(keep, m, text))))
 }
 
 #[tactic(auto, unfolding(crate::specs::Attributes::message_part))]
-fn message_part(m: &[u8], p: usize) -> Reached<AttributeSpans>
-    requires { p ≤ length m.now }
-    ensures steps { ExactlyAt (λ x. parts_in m.now x) m.now result (step rules.message_part (drop p m.now)) }
+fn message_part<K: Keep>(keep: &K, m: &[u8], p: usize) -> Reached<AttributeKept<K::Text, K::Bytes>>
+    requires inside { p ≤ length m.now }
+    requires serves { K.serves keep.now m.now }
+    ensures steps { ExactlyAt (λ x. parts_said K.text_said K.bytes_said m.now x) m.now result (step rules.message_part (drop p m.now)) }
     ensures ahead { Ahead m.now p result }
-    ensures rests { RestsOn parts_in result }
+    ensures rests { RestsOn (λ n x. parts_said K.text_said K.bytes_said n x) result }
 {
     let (p, _) = word(b".", m, p)?;
-    first!(message_header(m, p));
-    first!(message_size(m, p));
-    message_text(m, p)
+    first!(message_header(keep, m, p));
+    first!(message_size::<K>(m, p));
+    message_text(keep, m, p)
 }
 
 // `RFC822` is read once, whether the whole message or a part of it is meant.
 #[tactic(auto, unfolding(crate::specs::Attributes::message_attribute))]
-fn message_attribute(m: &[u8], p: usize) -> Reached<AttributeSpans>
-    requires { p ≤ length m.now }
-    ensures steps { ExactlyAt (λ x. parts_in m.now x) m.now result (step rules.message_attribute (drop p m.now)) }
+fn message_attribute<K: Keep>(
+    keep: &K,
+    m: &[u8],
+    p: usize,
+) -> Reached<AttributeKept<K::Text, K::Bytes>>
+    requires inside { p ≤ length m.now }
+    requires serves { K.serves keep.now m.now }
+    ensures steps { ExactlyAt (λ x. parts_said K.text_said K.bytes_said m.now x) m.now result (step rules.message_attribute (drop p m.now)) }
     ensures ahead { Ahead m.now p result }
-    ensures rests { RestsOn parts_in result }
+    ensures rests { RestsOn (λ n x. parts_said K.text_said K.bytes_said n x) result }
 {
     let (p, _) = word(b"RFC822", m, p)?;
-    first!(whole_message(m, p));
-    message_part(m, p)
+    first!(whole_message(keep, m, p));
+    message_part(keep, m, p)
 }
 
 #[tactic(auto, using(crate::proofs::Resting::envelope_rests), unfolding(crate::specs::Attributes::msg_att_envelope))]
 #[inline(never)] // Its slots are large.
-fn msg_att_envelope(alloc: Global, m: &[u8], p: usize) -> Reached<AttributeSpans>
-    requires { p ≤ length m.now }
-    ensures steps { GivesAt (λ x. parts_in m.now x) m.now result (step rules.msg_att_envelope (drop p m.now)) }
+fn msg_att_envelope<K: Keep>(
+    keep: &K,
+    alloc: Global,
+    m: &[u8],
+    p: usize,
+) -> Reached<AttributeKept<K::Text, K::Bytes>>
+    requires inside { p ≤ length m.now }
+    requires serves { K.serves keep.now m.now }
+    ensures steps { GivesAt (λ x. parts_said K.text_said K.bytes_said m.now x) m.now result (step rules.msg_att_envelope (drop p m.now)) }
     ensures ahead { Ahead m.now p result }
-    ensures rests { RestsOn parts_in result }
+    ensures rests { RestsOn (λ n x. parts_said K.text_said K.bytes_said n x) result }
 {
     let (p, _) = word(b"ENVELOPE ", m, p)?;
-    let (p, envelope) = made!(envelope(alloc, m, p));
+    let (p, envelope) = made!(envelope(keep, alloc, m, p));
     Ok((p, AttributeParts::Envelope(Box::new(alloc, envelope)?)))
 }
 
@@ -202,11 +247,11 @@ fn date(m: &[u8], p: usize) -> Reached<Span>
 }
 
 #[tactic(auto, unfolding(crate::specs::Attributes::msg_att_internal_date))]
-fn msg_att_internal_date(m: &[u8], p: usize) -> Reached<AttributeSpans>
+fn msg_att_internal_date<K: Keep>(m: &[u8], p: usize) -> Reached<AttributeKept<K::Text, K::Bytes>>
     requires { p ≤ length m.now }
-    ensures steps { ExactlyAt (λ x. parts_in m.now x) m.now result (step rules.msg_att_internal_date (drop p m.now)) }
+    ensures steps { ExactlyAt (λ x. parts_said K.text_said K.bytes_said m.now x) m.now result (step rules.msg_att_internal_date (drop p m.now)) }
     ensures ahead { Ahead m.now p result }
-    ensures rests { RestsOn parts_in result }
+    ensures rests { RestsOn (λ n x. parts_said K.text_said K.bytes_said n x) result }
 {
     let (p, _) = word(b"INTERNALDATE ", m, p)?;
     let (p, date) = date(m, p)?;
@@ -214,11 +259,15 @@ fn msg_att_internal_date(m: &[u8], p: usize) -> Reached<AttributeSpans>
 }
 
 #[tactic(auto, unfolding(crate::specs::Attributes::msg_att_flags))]
-fn msg_att_flags(alloc: Global, m: &[u8], p: usize) -> Reached<AttributeSpans>
+fn msg_att_flags<K: Keep>(
+    alloc: Global,
+    m: &[u8],
+    p: usize,
+) -> Reached<AttributeKept<K::Text, K::Bytes>>
     requires { p ≤ length m.now }
-    ensures steps { GivesAt (λ x. parts_in m.now x) m.now result (step rules.msg_att_flags (drop p m.now)) }
+    ensures steps { GivesAt (λ x. parts_said K.text_said K.bytes_said m.now x) m.now result (step rules.msg_att_flags (drop p m.now)) }
     ensures ahead { Ahead m.now p result }
-    ensures rests { RestsOn parts_in result }
+    ensures rests { RestsOn (λ n x. parts_said K.text_said K.bytes_said n x) result }
 {
     let (p, _) = word(b"FLAGS ", m, p)?;
     let (p, flags) = flag_list(alloc, m, p)?;
@@ -226,11 +275,11 @@ fn msg_att_flags(alloc: Global, m: &[u8], p: usize) -> Reached<AttributeSpans>
 }
 
 #[tactic(auto, unfolding(crate::specs::Attributes::msg_att_uid))]
-fn msg_att_uid(m: &[u8], p: usize) -> Reached<AttributeSpans>
+fn msg_att_uid<K: Keep>(m: &[u8], p: usize) -> Reached<AttributeKept<K::Text, K::Bytes>>
     requires { p ≤ length m.now }
-    ensures steps { ExactlyAt (λ x. parts_in m.now x) m.now result (step rules.msg_att_uid (drop p m.now)) }
+    ensures steps { ExactlyAt (λ x. parts_said K.text_said K.bytes_said m.now x) m.now result (step rules.msg_att_uid (drop p m.now)) }
     ensures ahead { Ahead m.now p result }
-    ensures rests { RestsOn parts_in result }
+    ensures rests { RestsOn (λ n x. parts_said K.text_said K.bytes_said n x) result }
 {
     let (p, _) = word(b"UID ", m, p)?;
     let (p, uid) = number(m, p)?;
@@ -238,11 +287,11 @@ fn msg_att_uid(m: &[u8], p: usize) -> Reached<AttributeSpans>
 }
 
 #[tactic(auto, unfolding(crate::specs::Attributes::msg_att_mod_seq))]
-fn msg_att_mod_seq(m: &[u8], p: usize) -> Reached<AttributeSpans>
+fn msg_att_mod_seq<K: Keep>(m: &[u8], p: usize) -> Reached<AttributeKept<K::Text, K::Bytes>>
     requires { p ≤ length m.now }
-    ensures steps { ExactlyAt (λ x. parts_in m.now x) m.now result (step rules.msg_att_mod_seq (drop p m.now)) }
+    ensures steps { ExactlyAt (λ x. parts_said K.text_said K.bytes_said m.now x) m.now result (step rules.msg_att_mod_seq (drop p m.now)) }
     ensures ahead { Ahead m.now p result }
-    ensures rests { RestsOn parts_in result }
+    ensures rests { RestsOn (λ n x. parts_said K.text_said K.bytes_said n x) result }
 {
     let (p, _) = word(b"MODSEQ ", m, p)?;
     let (p, _) = tag(b"(", m, p)?;
@@ -252,22 +301,26 @@ fn msg_att_mod_seq(m: &[u8], p: usize) -> Reached<AttributeSpans>
 }
 
 #[tactic(auto, unfolding(crate::specs::Attributes::msg_att_gmail_labels))]
-fn msg_att_gmail_labels(alloc: Global, m: &[u8], p: usize) -> Reached<AttributeSpans>
+fn msg_att_gmail_labels<K: Keep>(
+    alloc: Global,
+    m: &[u8],
+    p: usize,
+) -> Reached<AttributeKept<K::Text, K::Bytes>>
     requires { p ≤ length m.now }
-    ensures steps { GivesAt (λ x. parts_in m.now x) m.now result (step rules.msg_att_gmail_labels (drop p m.now)) }
+    ensures steps { GivesAt (λ x. parts_said K.text_said K.bytes_said m.now x) m.now result (step rules.msg_att_gmail_labels (drop p m.now)) }
     ensures ahead { Ahead m.now p result }
-    ensures rests { RestsOn parts_in result }
+    ensures rests { RestsOn (λ n x. parts_said K.text_said K.bytes_said n x) result }
 {
     let (p, labels) = gmail_label_list(alloc, m, p)?;
     Ok((p, AttributeParts::GmailLabels(labels)))
 }
 
 #[tactic(auto, unfolding(crate::specs::Attributes::msg_att_gmail_msgid, imap_items::specs::Gmail::gmail_msgid))]
-fn msg_att_gmail_msgid(m: &[u8], p: usize) -> Reached<AttributeSpans>
+fn msg_att_gmail_msgid<K: Keep>(m: &[u8], p: usize) -> Reached<AttributeKept<K::Text, K::Bytes>>
     requires { p ≤ length m.now }
-    ensures steps { ExactlyAt (λ x. parts_in m.now x) m.now result (step rules.msg_att_gmail_msgid (drop p m.now)) }
+    ensures steps { ExactlyAt (λ x. parts_said K.text_said K.bytes_said m.now x) m.now result (step rules.msg_att_gmail_msgid (drop p m.now)) }
     ensures ahead { Ahead m.now p result }
-    ensures rests { RestsOn parts_in result }
+    ensures rests { RestsOn (λ n x. parts_said K.text_said K.bytes_said n x) result }
 {
     let (p, _) = word(b"X-GM-MSGID ", m, p)?;
     let (p, number) = number_64(m, p)?;
@@ -275,11 +328,11 @@ fn msg_att_gmail_msgid(m: &[u8], p: usize) -> Reached<AttributeSpans>
 }
 
 #[tactic(auto, unfolding(crate::specs::Attributes::msg_att_gmail_thrid, imap_items::specs::Gmail::gmail_thrid))]
-fn msg_att_gmail_thrid(m: &[u8], p: usize) -> Reached<AttributeSpans>
+fn msg_att_gmail_thrid<K: Keep>(m: &[u8], p: usize) -> Reached<AttributeKept<K::Text, K::Bytes>>
     requires { p ≤ length m.now }
-    ensures steps { ExactlyAt (λ x. parts_in m.now x) m.now result (step rules.msg_att_gmail_thrid (drop p m.now)) }
+    ensures steps { ExactlyAt (λ x. parts_said K.text_said K.bytes_said m.now x) m.now result (step rules.msg_att_gmail_thrid (drop p m.now)) }
     ensures ahead { Ahead m.now p result }
-    ensures rests { RestsOn parts_in result }
+    ensures rests { RestsOn (λ n x. parts_said K.text_said K.bytes_said n x) result }
 {
     let (p, _) = word(b"X-GM-THRID ", m, p)?;
     let (p, number) = number_64(m, p)?;
@@ -324,11 +377,11 @@ fn bracketed_id(m: &[u8], p: usize) -> Reached<Span>
 }
 
 #[tactic(auto, unfolding(crate::specs::Attributes::msg_att_email_id))]
-fn msg_att_email_id(m: &[u8], p: usize) -> Reached<AttributeSpans>
+fn msg_att_email_id<K: Keep>(m: &[u8], p: usize) -> Reached<AttributeKept<K::Text, K::Bytes>>
     requires { p ≤ length m.now }
-    ensures steps { ExactlyAt (λ x. parts_in m.now x) m.now result (step rules.msg_att_email_id (drop p m.now)) }
+    ensures steps { ExactlyAt (λ x. parts_said K.text_said K.bytes_said m.now x) m.now result (step rules.msg_att_email_id (drop p m.now)) }
     ensures ahead { Ahead m.now p result }
-    ensures rests { RestsOn parts_in result }
+    ensures rests { RestsOn (λ n x. parts_said K.text_said K.bytes_said n x) result }
 {
     let (p, _) = word(b"EMAILID ", m, p)?;
     let (p, id) = bracketed_id(m, p)?;
@@ -336,11 +389,11 @@ fn msg_att_email_id(m: &[u8], p: usize) -> Reached<AttributeSpans>
 }
 
 #[tactic(auto, unfolding(crate::specs::Attributes::msg_att_thread_id))]
-fn msg_att_thread_id(m: &[u8], p: usize) -> Reached<AttributeSpans>
+fn msg_att_thread_id<K: Keep>(m: &[u8], p: usize) -> Reached<AttributeKept<K::Text, K::Bytes>>
     requires { p ≤ length m.now }
-    ensures steps { ExactlyAt (λ x. parts_in m.now x) m.now result (step rules.msg_att_thread_id (drop p m.now)) }
+    ensures steps { ExactlyAt (λ x. parts_said K.text_said K.bytes_said m.now x) m.now result (step rules.msg_att_thread_id (drop p m.now)) }
     ensures ahead { Ahead m.now p result }
-    ensures rests { RestsOn parts_in result }
+    ensures rests { RestsOn (λ n x. parts_said K.text_said K.bytes_said n x) result }
 {
     let (p, _) = word(b"THREADID ", m, p)?;
     first!(nil(m, p), _ => AttributeParts::ThreadId(None));
@@ -431,11 +484,12 @@ fn skipped_value(m: &[u8], p: usize) -> Reached<()>
 
 // Any other attribute: its name, and a value that is skipped.
 #[tactic(auto, unfolding(crate::specs::Attributes::msg_att_unknown))]
-fn msg_att_unknown(m: &[u8], p: usize) -> Reached<AttributeSpans>
+#[inline(never)]
+fn msg_att_unknown<K: Keep>(m: &[u8], p: usize) -> Reached<AttributeKept<K::Text, K::Bytes>>
     requires { p ≤ length m.now }
-    ensures steps { ExactlyAt (λ x. parts_in m.now x) m.now result (step rules.msg_att_unknown (drop p m.now)) }
+    ensures steps { ExactlyAt (λ x. parts_said K.text_said K.bytes_said m.now x) m.now result (step rules.msg_att_unknown (drop p m.now)) }
     ensures ahead { Ahead m.now p result }
-    ensures rests { RestsOn parts_in result }
+    ensures rests { RestsOn (λ n x. parts_said K.text_said K.bytes_said n x) result }
 {
     let (p, _) = atom(m, p)?;
     let (p, _) = tag(b" ", m, p)?;
@@ -443,41 +497,173 @@ fn msg_att_unknown(m: &[u8], p: usize) -> Reached<AttributeSpans>
     Ok((p, AttributeParts::Unknown))
 }
 
-// What the first of the readers that does not deny answers, and else an attribute that is unknown.
-macro_rules! known {
-    ($($answer:expr),+; $m:expr, $p:expr) => {{
-        $(first!($answer);)+
-        msg_att_unknown($m, $p)
-    }};
+// Those that begin with a letter, by a call each: an answer has slots of some size, which each call of `attribute` would clear
+// for all of them.
+
+#[tactic(auto, unfolding(crate::specs::Attributes::attribute_of_b))]
+#[inline(never)]
+fn attribute_of_b<K: Keep>(
+    keep: &K,
+    alloc: Global,
+    m: &[u8],
+    p: usize,
+) -> Reached<AttributeKept<K::Text, K::Bytes>>
+    requires inside { p ≤ length m.now }
+    requires serves { K.serves keep.now m.now }
+    ensures steps { GivesAt (λ x. parts_said K.text_said K.bytes_said m.now x) m.now result (step rules.attribute_of_b (drop p m.now)) }
+    ensures ahead { Ahead m.now p result }
+    ensures rests { RestsOn (λ n x. parts_said K.text_said K.bytes_said n x) result }
+{
+    first!(body_attribute(keep, alloc, m, p));
+    msg_att_unknown::<K>(m, p)
+}
+
+#[tactic(auto, unfolding(crate::specs::Attributes::attribute_of_e))]
+#[inline(never)]
+fn attribute_of_e<K: Keep>(
+    keep: &K,
+    alloc: Global,
+    m: &[u8],
+    p: usize,
+) -> Reached<AttributeKept<K::Text, K::Bytes>>
+    requires inside { p ≤ length m.now }
+    requires serves { K.serves keep.now m.now }
+    ensures steps { GivesAt (λ x. parts_said K.text_said K.bytes_said m.now x) m.now result (step rules.attribute_of_e (drop p m.now)) }
+    ensures ahead { Ahead m.now p result }
+    ensures rests { RestsOn (λ n x. parts_said K.text_said K.bytes_said n x) result }
+{
+    first!(msg_att_envelope(keep, alloc, m, p));
+    first!(msg_att_email_id::<K>(m, p));
+    msg_att_unknown::<K>(m, p)
+}
+
+#[tactic(auto, unfolding(crate::specs::Attributes::attribute_of_f))]
+#[inline(never)]
+fn attribute_of_f<K: Keep>(
+    alloc: Global,
+    m: &[u8],
+    p: usize,
+) -> Reached<AttributeKept<K::Text, K::Bytes>>
+    requires { p ≤ length m.now }
+    ensures steps { GivesAt (λ x. parts_said K.text_said K.bytes_said m.now x) m.now result (step rules.attribute_of_f (drop p m.now)) }
+    ensures ahead { Ahead m.now p result }
+    ensures rests { RestsOn (λ n x. parts_said K.text_said K.bytes_said n x) result }
+{
+    first!(msg_att_flags::<K>(alloc, m, p));
+    msg_att_unknown::<K>(m, p)
+}
+
+#[tactic(auto, unfolding(crate::specs::Attributes::attribute_of_i))]
+#[inline(never)]
+fn attribute_of_i<K: Keep>(m: &[u8], p: usize) -> Reached<AttributeKept<K::Text, K::Bytes>>
+    requires { p ≤ length m.now }
+    ensures steps { GivesAt (λ x. parts_said K.text_said K.bytes_said m.now x) m.now result (step rules.attribute_of_i (drop p m.now)) }
+    ensures ahead { Ahead m.now p result }
+    ensures rests { RestsOn (λ n x. parts_said K.text_said K.bytes_said n x) result }
+{
+    first!(msg_att_internal_date::<K>(m, p));
+    msg_att_unknown::<K>(m, p)
+}
+
+#[tactic(auto, unfolding(crate::specs::Attributes::attribute_of_m))]
+#[inline(never)]
+fn attribute_of_m<K: Keep>(m: &[u8], p: usize) -> Reached<AttributeKept<K::Text, K::Bytes>>
+    requires { p ≤ length m.now }
+    ensures steps { GivesAt (λ x. parts_said K.text_said K.bytes_said m.now x) m.now result (step rules.attribute_of_m (drop p m.now)) }
+    ensures ahead { Ahead m.now p result }
+    ensures rests { RestsOn (λ n x. parts_said K.text_said K.bytes_said n x) result }
+{
+    first!(msg_att_mod_seq::<K>(m, p));
+    msg_att_unknown::<K>(m, p)
+}
+
+#[tactic(auto, unfolding(crate::specs::Attributes::attribute_of_r))]
+#[inline(never)]
+fn attribute_of_r<K: Keep>(
+    keep: &K,
+    m: &[u8],
+    p: usize,
+) -> Reached<AttributeKept<K::Text, K::Bytes>>
+    requires inside { p ≤ length m.now }
+    requires serves { K.serves keep.now m.now }
+    ensures steps { GivesAt (λ x. parts_said K.text_said K.bytes_said m.now x) m.now result (step rules.attribute_of_r (drop p m.now)) }
+    ensures ahead { Ahead m.now p result }
+    ensures rests { RestsOn (λ n x. parts_said K.text_said K.bytes_said n x) result }
+{
+    first!(message_attribute(keep, m, p));
+    msg_att_unknown::<K>(m, p)
+}
+
+#[tactic(auto, unfolding(crate::specs::Attributes::attribute_of_t))]
+#[inline(never)]
+fn attribute_of_t<K: Keep>(m: &[u8], p: usize) -> Reached<AttributeKept<K::Text, K::Bytes>>
+    requires { p ≤ length m.now }
+    ensures steps { GivesAt (λ x. parts_said K.text_said K.bytes_said m.now x) m.now result (step rules.attribute_of_t (drop p m.now)) }
+    ensures ahead { Ahead m.now p result }
+    ensures rests { RestsOn (λ n x. parts_said K.text_said K.bytes_said n x) result }
+{
+    first!(msg_att_thread_id::<K>(m, p));
+    msg_att_unknown::<K>(m, p)
+}
+
+#[tactic(auto, unfolding(crate::specs::Attributes::attribute_of_u))]
+#[inline(never)]
+fn attribute_of_u<K: Keep>(m: &[u8], p: usize) -> Reached<AttributeKept<K::Text, K::Bytes>>
+    requires { p ≤ length m.now }
+    ensures steps { GivesAt (λ x. parts_said K.text_said K.bytes_said m.now x) m.now result (step rules.attribute_of_u (drop p m.now)) }
+    ensures ahead { Ahead m.now p result }
+    ensures rests { RestsOn (λ n x. parts_said K.text_said K.bytes_said n x) result }
+{
+    first!(msg_att_uid::<K>(m, p));
+    msg_att_unknown::<K>(m, p)
+}
+
+#[tactic(auto, unfolding(crate::specs::Attributes::attribute_of_x))]
+#[inline(never)]
+fn attribute_of_x<K: Keep>(
+    alloc: Global,
+    m: &[u8],
+    p: usize,
+) -> Reached<AttributeKept<K::Text, K::Bytes>>
+    requires { p ≤ length m.now }
+    ensures steps { GivesAt (λ x. parts_said K.text_said K.bytes_said m.now x) m.now result (step rules.attribute_of_x (drop p m.now)) }
+    ensures ahead { Ahead m.now p result }
+    ensures rests { RestsOn (λ n x. parts_said K.text_said K.bytes_said n x) result }
+{
+    first!(msg_att_gmail_labels::<K>(alloc, m, p));
+    first!(msg_att_gmail_msgid::<K>(m, p));
+    first!(msg_att_gmail_thrid::<K>(m, p));
+    msg_att_unknown::<K>(m, p)
 }
 
 /// An attribute (RFC 3501, section 9: msg-att): of the alternatives those are tried, in order, that may start with the first byte.
 ///
 /// It takes memory for lists, envelopes and body structures.
-#[tactic(auto, using(crate::proofs::AttributeFirstBytes::attribute_none, crate::proofs::AttributeFirstBytes::attribute_is_of_b, crate::proofs::AttributeFirstBytes::attribute_is_of_e, crate::proofs::AttributeFirstBytes::attribute_is_of_f, crate::proofs::AttributeFirstBytes::attribute_is_of_i, crate::proofs::AttributeFirstBytes::attribute_is_of_m, crate::proofs::AttributeFirstBytes::attribute_is_of_r, crate::proofs::AttributeFirstBytes::attribute_is_of_t, crate::proofs::AttributeFirstBytes::attribute_is_of_u, crate::proofs::AttributeFirstBytes::attribute_is_of_x, crate::proofs::AttributeFirstBytes::attribute_other), unfolding(crate::specs::Attributes::attribute_of_b, crate::specs::Attributes::attribute_of_e, crate::specs::Attributes::attribute_of_f, crate::specs::Attributes::attribute_of_i, crate::specs::Attributes::attribute_of_m, crate::specs::Attributes::attribute_of_r, crate::specs::Attributes::attribute_of_t, crate::specs::Attributes::attribute_of_u, crate::specs::Attributes::attribute_of_x))]
-pub fn attribute(alloc: Global, m: &[u8], p: usize) -> Reached<AttributeSpans>
-    requires { p ≤ length m.now }
-    ensures steps { GivesAt (λ x. parts_in m.now x) m.now result (step rules.attribute (drop p m.now)) }
+#[tactic(auto, using(crate::proofs::AttributeFirstBytes::attribute_none, crate::proofs::AttributeFirstBytes::attribute_is_of_b, crate::proofs::AttributeFirstBytes::attribute_is_of_e, crate::proofs::AttributeFirstBytes::attribute_is_of_f, crate::proofs::AttributeFirstBytes::attribute_is_of_i, crate::proofs::AttributeFirstBytes::attribute_is_of_m, crate::proofs::AttributeFirstBytes::attribute_is_of_r, crate::proofs::AttributeFirstBytes::attribute_is_of_t, crate::proofs::AttributeFirstBytes::attribute_is_of_u, crate::proofs::AttributeFirstBytes::attribute_is_of_x, crate::proofs::AttributeFirstBytes::attribute_other))]
+pub fn attribute<K: Keep>(
+    keep: &K,
+    alloc: Global,
+    m: &[u8],
+    p: usize,
+) -> Reached<AttributeKept<K::Text, K::Bytes>>
+    requires inside { p ≤ length m.now }
+    requires serves { K.serves keep.now m.now }
+    ensures steps { GivesAt (λ x. parts_said K.text_said K.bytes_said m.now x) m.now result (step rules.attribute (drop p m.now)) }
     ensures ahead { Ahead m.now p result }
-    ensures rests { RestsOn parts_in result }
+    ensures rests { RestsOn (λ n x. parts_said K.text_said K.bytes_said n x) result }
 {
     let (_, i) = m.split_at(p);
     match i.first() {
         None => Err(Err::Incomplete(Needed::Unknown)),
-        Some(b'b' | b'B') => known!(body_attribute(alloc, m, p); m, p),
-        Some(b'e' | b'E') => known!(msg_att_envelope(alloc, m, p), msg_att_email_id(m, p); m, p),
-        Some(b'f' | b'F') => known!(msg_att_flags(alloc, m, p); m, p),
-        Some(b'i' | b'I') => known!(msg_att_internal_date(m, p); m, p),
-        Some(b'm' | b'M') => known!(msg_att_mod_seq(m, p); m, p),
-        Some(b'r' | b'R') => known!(message_attribute(m, p); m, p),
-        Some(b't' | b'T') => known!(msg_att_thread_id(m, p); m, p),
-        Some(b'u' | b'U') => known!(msg_att_uid(m, p); m, p),
-        Some(b'x' | b'X') => known!(
-            msg_att_gmail_labels(alloc, m, p),
-            msg_att_gmail_msgid(m, p),
-            msg_att_gmail_thrid(m, p);
-            m, p
-        ),
-        Some(_) => msg_att_unknown(m, p),
+        Some(b'b' | b'B') => attribute_of_b(keep, alloc, m, p),
+        Some(b'e' | b'E') => attribute_of_e(keep, alloc, m, p),
+        Some(b'f' | b'F') => attribute_of_f::<K>(alloc, m, p),
+        Some(b'i' | b'I') => attribute_of_i::<K>(m, p),
+        Some(b'm' | b'M') => attribute_of_m::<K>(m, p),
+        Some(b'r' | b'R') => attribute_of_r(keep, m, p),
+        Some(b't' | b'T') => attribute_of_t::<K>(m, p),
+        Some(b'u' | b'U') => attribute_of_u::<K>(m, p),
+        Some(b'x' | b'X') => attribute_of_x::<K>(alloc, m, p),
+        Some(_) => msg_att_unknown::<K>(m, p),
     }
 }

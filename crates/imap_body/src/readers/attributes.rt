@@ -7,10 +7,11 @@ ghost use Rattle.imap_body.specs.AttributeValues.{attribute_value};
 ghost use Rattle.imap_body.specs.Attributes as rules;
 
 use crate::at;
-use crate::keeping::{Values, kept_list};
+use crate::keeping::kept_list;
 use crate::types::attributes::AttributeValue;
 use imap_bytes::IResult;
 use imap_bytes::at::span::rest;
+use imap_envelopes::{Named, Positions};
 use std::alloc::Global;
 
 /// A section of a message's body, maybe from an index on, and its contents (RFC 3501, section 7.4.2: `BODY[<section>]<<origin octet>>`).
@@ -21,7 +22,7 @@ pub fn msg_att_body_section(alloc: Global, i: &[u8]) -> IResult<&[u8], Attribute
     ensures steps { Gives (λ x. attribute_value x) result (step rules.msg_att_body_section i.now) }
     ensures answer { Answers rules.msg_att_body_section (λ x. attribute_value x) i.now result }
 {
-    let (q, spans) = at::attributes::msg_att_body_section(alloc, i, 0)?;
+    let (q, spans) = at::attributes::msg_att_body_section(&Positions, alloc, i, 0)?;
     let value = spans.value(alloc, i);
     drop(spans);
     Ok((rest(i, q), value?))
@@ -36,7 +37,7 @@ pub fn attribute(alloc: Global, i: &[u8]) -> IResult<&[u8], AttributeValue<'_>>
     ensures steps { Gives (λ x. attribute_value x) result (step rules.attribute i.now) }
     ensures answer { Answers rules.attribute (λ x. attribute_value x) i.now result }
 {
-    let (q, spans) = at::attributes::attribute(alloc, i, 0)?;
+    let (q, spans) = at::attributes::attribute(&Positions, alloc, i, 0)?;
     let value = spans.value(alloc, i);
     drop(spans);
     Ok((rest(i, q), value?))
@@ -50,6 +51,6 @@ pub fn attribute_list(alloc: Global, i: &[u8]) -> IResult<&[u8], Vec<AttributeVa
     ensures steps { Gives (λ x. map attribute_value x.items) result (step rules.attribute_list i.now) }
     ensures answer { Answers rules.attribute_list (λ x. map attribute_value x.items) i.now result }
 {
-    let (q, values) = kept_list(&Values { alloc, m: i }, alloc, i, 0)?;
+    let (q, values) = kept_list(&Named { alloc, m: i }, alloc, i, 0)?;
     Ok((rest(i, q), values))
 }

@@ -53,5 +53,8 @@ pub enum AttributeParts<S, B, Y> {
 /// An attribute of a message (RFC 3501, section 9: msg-att).
 pub type AttributeValue<'a> = AttributeParts<CowStr<'a>, CowSlice<'a, u8>, BodyStructure<'a>>;
 
+/// An attribute as a reader keeps it: short texts as spans, and what is kept of the texts of a structure and of byte strings.
+pub type AttributeKept<S, B> = AttributeParts<Span, B, Box<bodies::BodyStructure<S, B>>>;
+
 /// An attribute as spans of a message.
-pub type AttributeSpans = AttributeParts<Span, Span, Box<bodies::BodyStructure<SpannedText, Span>>>;
+pub type AttributeSpans = AttributeKept<SpannedText, Span>;

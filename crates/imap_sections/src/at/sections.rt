@@ -10,7 +10,7 @@ ghost use Rattle.imap_grammar.specs.Tags as tags;
 ghost use Rattle.imap_bytes.specs.Strings as strings;
 ghost use Rattle.imap_bytes.specs.Numbers as numbers;
 ghost use Rattle.imap_sections.specs.Sections as sections;
-ghost use Rattle.imap_structure.specs.Envelopes.{spaced};
+ghost use Rattle.imap_envelopes.specs.Envelopes.{spaced};
 ghost use Rattle.imap_sections.specs.SectionValues.{path_value};
 ghost use Rattle.imap_sections.specs.declared.types.sections.MessageSection.TheVariants as what;
 
@@ -20,8 +20,8 @@ use imap_bytes::at::span::Span;
 use imap_bytes::at::strings::astring;
 use imap_bytes::at::tags::{maybe_space, tag, word};
 use imap_bytes::{Err, Needed, first, maybe};
-use imap_structure::at::Reached;
-use imap_structure::at::lists::list_of_one;
+use imap_envelopes::at::Reached;
+use imap_envelopes::at::lists::list_of_one;
 use std::alloc::Global;
 
 fn spaced_name(m: &[u8], p: usize) -> Reached<Span>

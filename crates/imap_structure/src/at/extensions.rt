@@ -1,28 +1,34 @@
 //! Extension data of bodies at a position.
 
 ghost use Rattle.std.specs.Prelude.{◌≡◌, ◌≤◌, length, drop, map, IfOk};
-ghost use Rattle.imap_grammar.specs.Text.{Bytes};
+ghost use Rattle.imap_grammar.specs.Text.{Text};
 ghost use Rattle.std.specs.Option.{option_map};
 ghost use Rattle.imap_grammar.specs.Positions.{ExactlyAt, GivesAt, Ahead, RestsOn};
 ghost use Rattle.imap_grammar.specs.Step.{step};
 ghost use Rattle.imap_grammar.specs.Rule.{opt};
 ghost use Rattle.imap_bytes.specs.Texts as texts;
-ghost use Rattle.imap_structure.specs.Envelopes.{spaced};
+ghost use Rattle.imap_envelopes.specs.Envelopes.{spaced};
 ghost use Rattle.imap_structure.specs.Fields as fields;
 ghost use Rattle.imap_structure.specs.Extensions as extensions;
 ghost use Rattle.imap_structure.specs.Extensions.{maybe_spaced};
 ghost use Rattle.imap_shapes.specs.Spans.{text_in};
-ghost use Rattle.imap_structure.specs.Spanned.{maybe_text_in, params_in, disposition_in, languages_in, extension_in, maybe_extension_in, ext_1part_in, ext_mpart_in};
+ghost use Rattle.imap_envelopes.specs.Spanned.{maybe_text_in};
+ghost use Rattle.imap_shapes.specs.FieldValues.{params_seen};
+ghost use Rattle.imap_shapes.specs.ExtensionValues.{disposition_seen, languages_seen, extension_seen, ext_1part_seen, ext_mpart_seen};
 
-use crate::at::Reached;
 use crate::at::fields::body_fld_param;
-use crate::at::lists::list_of_one;
-use crate::at::texts::{nstring_text, spaced_nstring_text, spaced_string_text, string_text};
 use crate::limits::MAX_EXTENSION_DEPTH;
 use imap_bytes::at::numbers::number;
 use imap_bytes::at::strings::nil;
 use imap_bytes::at::tags::{blanks0, tag};
 use imap_bytes::{Err, Needed, first, maybe};
+use imap_envelopes::Keep;
+use imap_envelopes::at::Reached;
+use imap_envelopes::at::lists::list_of_one;
+use imap_envelopes::at::texts::{
+    nstring_text, spaced_nstring_text, spaced_string_text, string_text,
+};
+use imap_envelopes::kept::kept_text;
 use imap_shapes::shapes::extensions::{
     BodyExt1Part, BodyExtMPart, BodyExtension, ContentDisposition,
 };
@@ -30,33 +36,42 @@ use imap_shapes::shapes::fields::BodyParams;
 use imap_shapes::spans::SpannedText;
 use std::alloc::{AllocError, Global};
 
-fn spaced_params(alloc: Global, m: &[u8], p: usize) -> Reached<BodyParams<SpannedText>>
-    requires { p ≤ length m.now }
-    ensures steps { GivesAt (λ x. params_in m.now x) m.now result (step (spaced fields.body_fld_param) (drop p m.now)) }
+fn spaced_params<K: Keep>(
+    keep: &K,
+    alloc: Global,
+    m: &[u8],
+    p: usize,
+) -> Reached<BodyParams<K::Text>>
+    requires inside { p ≤ length m.now }
+    requires serves { K.serves keep.now m.now }
+    ensures steps { GivesAt (λ x. params_seen (K.text_said m.now) x) m.now result (step (spaced fields.body_fld_param) (drop p m.now)) }
     ensures ahead { Ahead m.now p result }
-    ensures rests { RestsOn params_in result }
+    ensures rests { RestsOn (λ n x. params_seen (K.text_said n) x) result }
 {
     let (p, _) = tag(b" ", m, p)?;
-    body_fld_param(alloc, m, p)
+    body_fld_param(keep, alloc, m, p)
 }
 
 /// `NIL`, or a disposition in parentheses (RFC 3501, section 9: body-fld-dsp).
 #[tactic(auto, unfolding(crate::specs::Extensions::body_fld_dsp))]
-fn body_fld_dsp(
+fn body_fld_dsp<K: Keep>(
+    keep: &K,
     alloc: Global,
     m: &[u8],
     p: usize,
-) -> Reached<Option<ContentDisposition<SpannedText>>>
-    requires { p ≤ length m.now }
-    ensures steps { GivesAt (λ x. disposition_in m.now x) m.now result (step extensions.body_fld_dsp (drop p m.now)) }
+) -> Reached<Option<ContentDisposition<K::Text>>>
+    requires inside { p ≤ length m.now }
+    requires serves { K.serves keep.now m.now }
+    ensures steps { GivesAt (λ x. option_map (disposition_seen (K.text_said m.now)) x) m.now result (step extensions.body_fld_dsp (drop p m.now)) }
     ensures ahead { Ahead m.now p result }
-    ensures rests { RestsOn disposition_in result }
+    ensures rests { RestsOn (λ n x. option_map (disposition_seen (K.text_said n)) x) result }
 {
     first!(nil(m, p), _ => None);
     let (q, _) = tag(b"(", m, p)?;
     let (q, ty) = string_text(m, q)?;
-    let (q, params) = spaced_params(alloc, m, q)?;
+    let (q, params) = spaced_params(keep, alloc, m, q)?;
     let (q, _) = tag(b")", m, q)?;
+    let ty = keep.text(m, ty)?;
     Ok((q, Some(ContentDisposition { ty, params })))
 }
 
@@ -72,20 +87,22 @@ fn next_language(m: &[u8], p: usize) -> Reached<Option<SpannedText>>
 }
 
 #[tactic(auto, unfolding(crate::specs::Extensions::some_languages))]
-fn some_languages(alloc: Global, m: &[u8], p: usize) -> Reached<Vec<SpannedText>>
-    requires { p ≤ length m.now }
-    ensures steps { GivesAt (λ x. map (text_in m.now) x.items) m.now result (step extensions.some_languages (drop p m.now)) }
+fn some_languages<K: Keep>(keep: &K, alloc: Global, m: &[u8], p: usize) -> Reached<Vec<K::Text>>
+    requires inside { p ≤ length m.now }
+    requires serves { K.serves keep.now m.now }
+    ensures steps { GivesAt (λ x. map (K.text_said m.now) x.items) m.now result (step extensions.some_languages (drop p m.now)) }
     ensures ahead { Ahead m.now p result }
-    ensures rests { RestsOn (λ n x. map (text_in n) x.items) result }
+    ensures rests { RestsOn (λ n x. map (K.text_said n) x.items) result }
 {
     let (mut q, first) = string_text(m, p)?;
+    let first = keep.text(m, first)?;
     let mut items = list_of_one(alloc, first)?;
     'languages: loop {
         let (after, next) = next_language(m, q)?;
         match next {
             None => return Ok((q, items)),
             Some(language) => {
-                items.push(language)?;
+                items.push(keep.text(m, language)?)?;
                 q = after;
             }
         }
@@ -93,25 +110,28 @@ fn some_languages(alloc: Global, m: &[u8], p: usize) -> Reached<Vec<SpannedText>
 }
 
 #[tactic(auto, unfolding(crate::specs::Extensions::language_list))]
-fn language_list(alloc: Global, m: &[u8], p: usize) -> Reached<Option<Vec<SpannedText>>>
-    requires { p ≤ length m.now }
-    ensures steps { GivesAt (λ x. languages_in m.now x) m.now result (step extensions.language_list (drop p m.now)) }
+fn language_list<K: Keep>(
+    keep: &K,
+    alloc: Global,
+    m: &[u8],
+    p: usize,
+) -> Reached<Option<Vec<K::Text>>>
+    requires inside { p ≤ length m.now }
+    requires serves { K.serves keep.now m.now }
+    ensures steps { GivesAt (λ x. languages_seen (K.text_said m.now) x) m.now result (step extensions.language_list (drop p m.now)) }
     ensures ahead { Ahead m.now p result }
-    ensures rests { RestsOn languages_in result }
+    ensures rests { RestsOn (λ n x. languages_seen (K.text_said n) x) result }
 {
     let (p, _) = tag(b"(", m, p)?;
-    let (p, languages) = some_languages(alloc, m, p)?;
+    let (p, languages) = some_languages(keep, alloc, m, p)?;
     let (p, _) = blanks0(m, p)?;
     let (p, _) = tag(b")", m, p)?;
     Ok((p, Some(languages)))
 }
 
 // A list of one, where there is one.
-fn single(
-    alloc: Global,
-    language: Option<SpannedText>,
-) -> Result<Option<Vec<SpannedText>>, AllocError>
-    ensures { IfOk result (λ x. (m : Bytes) → languages_in m x ≡ extensions.single (maybe_text_in m language)) }
+fn single<S: Drop>(alloc: Global, language: Option<S>) -> Result<Option<Vec<S>>, AllocError>
+    ensures { IfOk result (λ x. (f : S → Text) → languages_seen f x ≡ extensions.single (option_map f language)) }
 {
     match language {
         None => Ok(None),
@@ -121,98 +141,111 @@ fn single(
 
 /// `NIL`, a language, or languages in parentheses (RFC 3501, section 9: body-fld-lang).
 #[tactic(auto, unfolding(crate::specs::Extensions::body_fld_lang))]
-fn body_fld_lang(alloc: Global, m: &[u8], p: usize) -> Reached<Option<Vec<SpannedText>>>
-    requires { p ≤ length m.now }
-    ensures steps { GivesAt (λ x. languages_in m.now x) m.now result (step extensions.body_fld_lang (drop p m.now)) }
+fn body_fld_lang<K: Keep>(
+    keep: &K,
+    alloc: Global,
+    m: &[u8],
+    p: usize,
+) -> Reached<Option<Vec<K::Text>>>
+    requires inside { p ≤ length m.now }
+    requires serves { K.serves keep.now m.now }
+    ensures steps { GivesAt (λ x. languages_seen (K.text_said m.now) x) m.now result (step extensions.body_fld_lang (drop p m.now)) }
     ensures ahead { Ahead m.now p result }
-    ensures rests { RestsOn languages_in result }
+    ensures rests { RestsOn (λ n x. languages_seen (K.text_said n) x) result }
 {
-    first!(nstring_text(m, p), language => single(alloc, language)?);
-    language_list(alloc, m, p)
+    first!(nstring_text(m, p), language => single(alloc, kept_text(keep, m, language)?)?);
+    language_list(keep, alloc, m, p)
 }
 
 // ---- extensions
 
 #[tactic(auto, using(crate::proofs::Seeing::number_seen, crate::proofs::Seeing::number_rests), unfolding(crate::specs::Extensions::number_extension))]
-fn number_extension(m: &[u8], p: usize) -> Reached<BodyExtension<SpannedText>>
+fn number_extension<K: Keep>(m: &[u8], p: usize) -> Reached<BodyExtension<K::Text>>
     requires { p ≤ length m.now }
-    ensures steps { ExactlyAt (λ x. extension_in m.now x) m.now result (step extensions.number_extension (drop p m.now)) }
+    ensures steps { ExactlyAt (λ x. extension_seen (K.text_said m.now) x) m.now result (step extensions.number_extension (drop p m.now)) }
     ensures ahead { Ahead m.now p result }
-    ensures rests { RestsOn extension_in result }
+    ensures rests { RestsOn (λ n x. extension_seen (K.text_said n) x) result }
 {
     let (p, n) = number(m, p)?;
     Ok((p, BodyExtension::Num(n)))
 }
 
-#[tactic(auto, using(crate::proofs::Seeing::string_seen, crate::proofs::Seeing::string_rests), unfolding(crate::specs::Extensions::string_extension))]
-fn string_extension(m: &[u8], p: usize) -> Reached<BodyExtension<SpannedText>>
-    requires { p ≤ length m.now }
-    ensures steps { ExactlyAt (λ x. extension_in m.now x) m.now result (step extensions.string_extension (drop p m.now)) }
+#[tactic(auto, using(crate::proofs::Seeing::string_seen), unfolding(crate::specs::Extensions::string_extension))]
+fn string_extension<K: Keep>(keep: &K, m: &[u8], p: usize) -> Reached<BodyExtension<K::Text>>
+    requires inside { p ≤ length m.now }
+    requires serves { K.serves keep.now m.now }
+    ensures steps { GivesAt (λ x. extension_seen (K.text_said m.now) x) m.now result (step extensions.string_extension (drop p m.now)) }
     ensures ahead { Ahead m.now p result }
-    ensures rests { RestsOn extension_in result }
+    ensures rests { RestsOn (λ n x. extension_seen (K.text_said n) x) result }
 {
     let (p, text) = nstring_text(m, p)?;
-    Ok((p, BodyExtension::Str(text)))
+    Ok((p, BodyExtension::Str(kept_text(keep, m, text)?)))
 }
 
 /// Extension data, with up to `level` lists inside one another (RFC 3501, section 9: body-extension).
 #[cycle(extension)]
 #[tactic(auto, using(crate::proofs::FirstBytes::extension_none, crate::proofs::FirstBytes::extension_is_string, crate::proofs::FirstBytes::extension_is_list, crate::proofs::FirstBytes::extension_is_number, crate::proofs::FirstBytes::extension_other))]
-pub fn extension(
+pub fn extension<K: Keep>(
+    keep: &K,
     alloc: Global,
     level: u32,
     m: &[u8],
     p: usize,
-) -> Reached<BodyExtension<SpannedText>>
-    requires { p ≤ length m.now }
-    ensures steps { GivesAt (λ x. extension_in m.now x) m.now result (step (extensions.extension level) (drop p m.now)) }
+) -> Reached<BodyExtension<K::Text>>
+    requires inside { p ≤ length m.now }
+    requires serves { K.serves keep.now m.now }
+    ensures steps { GivesAt (λ x. extension_seen (K.text_said m.now) x) m.now result (step (extensions.extension level) (drop p m.now)) }
     ensures ahead { Ahead m.now p result }
-    ensures rests { RestsOn extension_in result }
+    ensures rests { RestsOn (λ n x. extension_seen (K.text_said n) x) result }
 {
     let (_, i) = m.split_at(p);
     match i.first() {
         None => Err(Err::Incomplete(Needed::Unknown)),
-        Some(b'"' | b'{' | b'n' | b'N') => string_extension(m, p),
-        Some(b'(') => extension_list(alloc, level, m, p),
-        Some(b) if b.is_ascii_digit() => number_extension(m, p),
+        Some(b'"' | b'{' | b'n' | b'N') => string_extension(keep, m, p),
+        Some(b'(') => extension_list(keep, alloc, level, m, p),
+        Some(b) if b.is_ascii_digit() => number_extension::<K>(m, p),
         Some(_) => Err(Err::Error),
     }
 }
 
 // A list in parentheses. At level 0 it denies without looking.
 #[cycle(extension)]
-fn extension_list(
+fn extension_list<K: Keep>(
+    keep: &K,
     alloc: Global,
     level: u32,
     m: &[u8],
     p: usize,
-) -> Reached<BodyExtension<SpannedText>>
-    requires { p ≤ length m.now }
-    ensures steps { GivesAt (λ x. extension_in m.now x) m.now result (step (extensions.extension_list level) (drop p m.now)) }
+) -> Reached<BodyExtension<K::Text>>
+    requires inside { p ≤ length m.now }
+    requires serves { K.serves keep.now m.now }
+    ensures steps { GivesAt (λ x. extension_seen (K.text_said m.now) x) m.now result (step (extensions.extension_list level) (drop p m.now)) }
     ensures ahead { Ahead m.now p result }
-    ensures rests { RestsOn extension_in result }
+    ensures rests { RestsOn (λ n x. extension_seen (K.text_said n) x) result }
 {
     if level == 0 {
         return Err(Err::Error);
     }
-    bracketed_extensions(alloc, level - 1, m, p)
+    bracketed_extensions(keep, alloc, level - 1, m, p)
 }
 
 #[cycle(extension)]
 #[tactic(auto, using(imap_shapes::proofs::Trees::extension_list_seen), unfolding(crate::specs::Extensions::bracketed_extensions))]
-fn bracketed_extensions(
+fn bracketed_extensions<K: Keep>(
+    keep: &K,
     alloc: Global,
     level: u32,
     m: &[u8],
     p: usize,
-) -> Reached<BodyExtension<SpannedText>>
-    requires { p ≤ length m.now }
-    ensures steps { GivesAt (λ x. extension_in m.now x) m.now result (step (extensions.bracketed_extensions (extensions.extension_list level)) (drop p m.now)) }
+) -> Reached<BodyExtension<K::Text>>
+    requires inside { p ≤ length m.now }
+    requires serves { K.serves keep.now m.now }
+    ensures steps { GivesAt (λ x. extension_seen (K.text_said m.now) x) m.now result (step (extensions.bracketed_extensions (extensions.extension_list level)) (drop p m.now)) }
     ensures ahead { Ahead m.now p result }
-    ensures rests { RestsOn extension_in result }
+    ensures rests { RestsOn (λ n x. extension_seen (K.text_said n) x) result }
 {
     let (p, _) = tag(b"(", m, p)?;
-    let (p, members) = some_extensions(alloc, level, m, p)?;
+    let (p, members) = some_extensions(keep, alloc, level, m, p)?;
     let (p, _) = blanks0(m, p)?;
     let (p, _) = tag(b")", m, p)?;
     Ok((p, BodyExtension::List(members)))
@@ -220,21 +253,23 @@ fn bracketed_extensions(
 
 #[cycle(extension)]
 #[tactic(auto, unfolding(crate::specs::Extensions::some_extensions))]
-fn some_extensions(
+fn some_extensions<K: Keep>(
+    keep: &K,
     alloc: Global,
     level: u32,
     m: &[u8],
     p: usize,
-) -> Reached<Vec<BodyExtension<SpannedText>>>
-    requires { p ≤ length m.now }
-    ensures steps { GivesAt (λ x. map (extension_in m.now) x.items) m.now result (step (extensions.some_extensions (extensions.extension_list level)) (drop p m.now)) }
+) -> Reached<Vec<BodyExtension<K::Text>>>
+    requires inside { p ≤ length m.now }
+    requires serves { K.serves keep.now m.now }
+    ensures steps { GivesAt (λ x. map (extension_seen (K.text_said m.now)) x.items) m.now result (step (extensions.some_extensions (extensions.extension_list level)) (drop p m.now)) }
     ensures ahead { Ahead m.now p result }
-    ensures rests { RestsOn (λ n x. map (extension_in n) x.items) result }
+    ensures rests { RestsOn (λ n x. map (extension_seen (K.text_said n)) x.items) result }
 {
-    let (mut q, first) = extension(alloc, level, m, p)?;
+    let (mut q, first) = extension(keep, alloc, level, m, p)?;
     let mut items = list_of_one(alloc, first)?;
     'extensions: loop {
-        let (after, next) = next_extension(alloc, level, m, q)?;
+        let (after, next) = next_extension(keep, alloc, level, m, q)?;
         match next {
             None => return Ok((q, items)),
             Some(extension) => {
@@ -246,45 +281,55 @@ fn some_extensions(
 }
 
 #[cycle(extension)]
-fn next_extension(
+fn next_extension<K: Keep>(
+    keep: &K,
     alloc: Global,
     level: u32,
     m: &[u8],
     p: usize,
-) -> Reached<Option<BodyExtension<SpannedText>>>
-    requires { p ≤ length m.now }
-    ensures steps { GivesAt (λ x. maybe_extension_in m.now x) m.now result (step (opt (spaced (extensions.extension level))) (drop p m.now)) }
+) -> Reached<Option<BodyExtension<K::Text>>>
+    requires inside { p ≤ length m.now }
+    requires serves { K.serves keep.now m.now }
+    ensures steps { GivesAt (λ x. option_map (extension_seen (K.text_said m.now)) x) m.now result (step (opt (spaced (extensions.extension level))) (drop p m.now)) }
     ensures ahead { Ahead m.now p result }
-    ensures rests { RestsOn maybe_extension_in result }
+    ensures rests { RestsOn (λ n x. option_map (extension_seen (K.text_said n)) x) result }
 {
-    maybe!(spaced_extension(alloc, level, m, p), p)
+    maybe!(spaced_extension(keep, alloc, level, m, p), p)
 }
 
 #[cycle(extension)]
-fn spaced_extension(
+fn spaced_extension<K: Keep>(
+    keep: &K,
     alloc: Global,
     level: u32,
     m: &[u8],
     p: usize,
-) -> Reached<BodyExtension<SpannedText>>
-    requires { p ≤ length m.now }
-    ensures steps { GivesAt (λ x. extension_in m.now x) m.now result (step (spaced (extensions.extension level)) (drop p m.now)) }
+) -> Reached<BodyExtension<K::Text>>
+    requires inside { p ≤ length m.now }
+    requires serves { K.serves keep.now m.now }
+    ensures steps { GivesAt (λ x. extension_seen (K.text_said m.now) x) m.now result (step (spaced (extensions.extension level)) (drop p m.now)) }
     ensures ahead { Ahead m.now p result }
-    ensures rests { RestsOn extension_in result }
+    ensures rests { RestsOn (λ n x. extension_seen (K.text_said n) x) result }
 {
     let (p, _) = tag(b" ", m, p)?;
-    extension(alloc, level, m, p)
+    extension(keep, alloc, level, m, p)
 }
 
 /// Extension data, up to `MAX_EXTENSION_DEPTH` lists inside one another (RFC 3501, section 9: body-extension).
 #[tactic(auto, unfolding(crate::specs::Extensions::body_extension))]
-pub fn body_extension(alloc: Global, m: &[u8], p: usize) -> Reached<BodyExtension<SpannedText>>
-    requires { p ≤ length m.now }
-    ensures steps { GivesAt (λ x. extension_in m.now x) m.now result (step extensions.body_extension (drop p m.now)) }
+pub fn body_extension<K: Keep>(
+    keep: &K,
+    alloc: Global,
+    m: &[u8],
+    p: usize,
+) -> Reached<BodyExtension<K::Text>>
+    requires inside { p ≤ length m.now }
+    requires serves { K.serves keep.now m.now }
+    ensures steps { GivesAt (λ x. extension_seen (K.text_said m.now) x) m.now result (step extensions.body_extension (drop p m.now)) }
     ensures ahead { Ahead m.now p result }
-    ensures rests { RestsOn extension_in result }
+    ensures rests { RestsOn (λ n x. extension_seen (K.text_said n) x) result }
 {
-    extension(alloc, MAX_EXTENSION_DEPTH, m, p)
+    extension(keep, alloc, MAX_EXTENSION_DEPTH, m, p)
 }
 
 // ---- fields behind a space, each skipped with its space where it is denied
@@ -299,96 +344,130 @@ fn maybe_nstring_text(m: &[u8], p: usize) -> Reached<Option<SpannedText>>
     Ok((p, None))
 }
 
-fn maybe_params(alloc: Global, m: &[u8], p: usize) -> Reached<BodyParams<SpannedText>>
-    requires { p ≤ length m.now }
-    ensures steps { GivesAt (λ x. params_in m.now x) m.now result (step (maybe_spaced fields.body_fld_param) (drop p m.now)) }
-    ensures ahead { Ahead m.now p result }
-    ensures rests { RestsOn params_in result }
-{
-    first!(spaced_params(alloc, m, p));
-    Ok((p, None))
-}
-
-fn spaced_disposition(
+fn maybe_params<K: Keep>(
+    keep: &K,
     alloc: Global,
     m: &[u8],
     p: usize,
-) -> Reached<Option<ContentDisposition<SpannedText>>>
-    requires { p ≤ length m.now }
-    ensures steps { GivesAt (λ x. disposition_in m.now x) m.now result (step (spaced extensions.body_fld_dsp) (drop p m.now)) }
+) -> Reached<BodyParams<K::Text>>
+    requires inside { p ≤ length m.now }
+    requires serves { K.serves keep.now m.now }
+    ensures steps { GivesAt (λ x. params_seen (K.text_said m.now) x) m.now result (step (maybe_spaced fields.body_fld_param) (drop p m.now)) }
     ensures ahead { Ahead m.now p result }
-    ensures rests { RestsOn disposition_in result }
+    ensures rests { RestsOn (λ n x. params_seen (K.text_said n) x) result }
 {
-    let (p, _) = tag(b" ", m, p)?;
-    body_fld_dsp(alloc, m, p)
-}
-
-fn maybe_disposition(
-    alloc: Global,
-    m: &[u8],
-    p: usize,
-) -> Reached<Option<ContentDisposition<SpannedText>>>
-    requires { p ≤ length m.now }
-    ensures steps { GivesAt (λ x. disposition_in m.now x) m.now result (step (maybe_spaced extensions.body_fld_dsp) (drop p m.now)) }
-    ensures ahead { Ahead m.now p result }
-    ensures rests { RestsOn disposition_in result }
-{
-    first!(spaced_disposition(alloc, m, p));
+    first!(spaced_params(keep, alloc, m, p));
     Ok((p, None))
 }
 
-fn spaced_languages(alloc: Global, m: &[u8], p: usize) -> Reached<Option<Vec<SpannedText>>>
-    requires { p ≤ length m.now }
-    ensures steps { GivesAt (λ x. languages_in m.now x) m.now result (step (spaced extensions.body_fld_lang) (drop p m.now)) }
+fn spaced_disposition<K: Keep>(
+    keep: &K,
+    alloc: Global,
+    m: &[u8],
+    p: usize,
+) -> Reached<Option<ContentDisposition<K::Text>>>
+    requires inside { p ≤ length m.now }
+    requires serves { K.serves keep.now m.now }
+    ensures steps { GivesAt (λ x. option_map (disposition_seen (K.text_said m.now)) x) m.now result (step (spaced extensions.body_fld_dsp) (drop p m.now)) }
     ensures ahead { Ahead m.now p result }
-    ensures rests { RestsOn languages_in result }
+    ensures rests { RestsOn (λ n x. option_map (disposition_seen (K.text_said n)) x) result }
 {
     let (p, _) = tag(b" ", m, p)?;
-    body_fld_lang(alloc, m, p)
+    body_fld_dsp(keep, alloc, m, p)
 }
 
-fn maybe_languages(alloc: Global, m: &[u8], p: usize) -> Reached<Option<Vec<SpannedText>>>
-    requires { p ≤ length m.now }
-    ensures steps { GivesAt (λ x. languages_in m.now x) m.now result (step (maybe_spaced extensions.body_fld_lang) (drop p m.now)) }
+fn maybe_disposition<K: Keep>(
+    keep: &K,
+    alloc: Global,
+    m: &[u8],
+    p: usize,
+) -> Reached<Option<ContentDisposition<K::Text>>>
+    requires inside { p ≤ length m.now }
+    requires serves { K.serves keep.now m.now }
+    ensures steps { GivesAt (λ x. option_map (disposition_seen (K.text_said m.now)) x) m.now result (step (maybe_spaced extensions.body_fld_dsp) (drop p m.now)) }
     ensures ahead { Ahead m.now p result }
-    ensures rests { RestsOn languages_in result }
+    ensures rests { RestsOn (λ n x. option_map (disposition_seen (K.text_said n)) x) result }
 {
-    first!(spaced_languages(alloc, m, p));
+    first!(spaced_disposition(keep, alloc, m, p));
+    Ok((p, None))
+}
+
+fn spaced_languages<K: Keep>(
+    keep: &K,
+    alloc: Global,
+    m: &[u8],
+    p: usize,
+) -> Reached<Option<Vec<K::Text>>>
+    requires inside { p ≤ length m.now }
+    requires serves { K.serves keep.now m.now }
+    ensures steps { GivesAt (λ x. languages_seen (K.text_said m.now) x) m.now result (step (spaced extensions.body_fld_lang) (drop p m.now)) }
+    ensures ahead { Ahead m.now p result }
+    ensures rests { RestsOn (λ n x. languages_seen (K.text_said n) x) result }
+{
+    let (p, _) = tag(b" ", m, p)?;
+    body_fld_lang(keep, alloc, m, p)
+}
+
+fn maybe_languages<K: Keep>(
+    keep: &K,
+    alloc: Global,
+    m: &[u8],
+    p: usize,
+) -> Reached<Option<Vec<K::Text>>>
+    requires inside { p ≤ length m.now }
+    requires serves { K.serves keep.now m.now }
+    ensures steps { GivesAt (λ x. languages_seen (K.text_said m.now) x) m.now result (step (maybe_spaced extensions.body_fld_lang) (drop p m.now)) }
+    ensures ahead { Ahead m.now p result }
+    ensures rests { RestsOn (λ n x. languages_seen (K.text_said n) x) result }
+{
+    first!(spaced_languages(keep, alloc, m, p));
     Ok((p, None))
 }
 
 #[tactic(auto, unfolding(crate::specs::Extensions::last_extension, crate::specs::Extensions::body_extension))]
-fn last_extension(alloc: Global, m: &[u8], p: usize) -> Reached<Option<BodyExtension<SpannedText>>>
-    requires { p ≤ length m.now }
-    ensures steps { GivesAt (λ x. maybe_extension_in m.now x) m.now result (step extensions.last_extension (drop p m.now)) }
+fn last_extension<K: Keep>(
+    keep: &K,
+    alloc: Global,
+    m: &[u8],
+    p: usize,
+) -> Reached<Option<BodyExtension<K::Text>>>
+    requires inside { p ≤ length m.now }
+    requires serves { K.serves keep.now m.now }
+    ensures steps { GivesAt (λ x. option_map (extension_seen (K.text_said m.now)) x) m.now result (step extensions.last_extension (drop p m.now)) }
     ensures ahead { Ahead m.now p result }
-    ensures rests { RestsOn maybe_extension_in result }
+    ensures rests { RestsOn (λ n x. option_map (extension_seen (K.text_said n)) x) result }
 {
-    next_extension(alloc, MAX_EXTENSION_DEPTH, m, p)
+    next_extension(keep, alloc, MAX_EXTENSION_DEPTH, m, p)
 }
 
 /// Extension data of a single part (RFC 3501, section 9: body-ext-1part).
 ///
 /// A field that is denied is skipped with its space. It takes memory for lists.
 #[tactic(auto, unfolding(crate::specs::Extensions::body_ext_1part, imap_shapes::specs::ExtensionValues::ext_1part_seen))]
-pub fn body_ext_1part(alloc: Global, m: &[u8], p: usize) -> Reached<BodyExt1Part<SpannedText>>
-    requires { p ≤ length m.now }
-    ensures steps { GivesAt (λ x. ext_1part_in m.now x) m.now result (step extensions.body_ext_1part (drop p m.now)) }
+pub fn body_ext_1part<K: Keep>(
+    keep: &K,
+    alloc: Global,
+    m: &[u8],
+    p: usize,
+) -> Reached<BodyExt1Part<K::Text>>
+    requires inside { p ≤ length m.now }
+    requires serves { K.serves keep.now m.now }
+    ensures steps { GivesAt (λ x. ext_1part_seen (K.text_said m.now) x) m.now result (step extensions.body_ext_1part (drop p m.now)) }
     ensures ahead { Ahead m.now p result }
-    ensures rests { RestsOn ext_1part_in result }
+    ensures rests { RestsOn (λ n x. ext_1part_seen (K.text_said n) x) result }
 {
     let (p, md5) = maybe_nstring_text(m, p)?;
-    let (p, disposition) = maybe_disposition(alloc, m, p)?;
-    let (p, language) = maybe_languages(alloc, m, p)?;
+    let (p, disposition) = maybe_disposition(keep, alloc, m, p)?;
+    let (p, language) = maybe_languages(keep, alloc, m, p)?;
     let (p, location) = maybe_nstring_text(m, p)?;
-    let (p, extension) = last_extension(alloc, m, p)?;
+    let (p, extension) = last_extension(keep, alloc, m, p)?;
     Ok((
         p,
         BodyExt1Part {
-            md5,
+            md5: kept_text(keep, m, md5)?,
             disposition,
             language,
-            location,
+            location: kept_text(keep, m, location)?,
             extension,
         },
     ))
@@ -396,24 +475,30 @@ pub fn body_ext_1part(alloc: Global, m: &[u8], p: usize) -> Reached<BodyExt1Part
 
 /// Extension data of a multipart, in the same way (RFC 3501, section 9: body-ext-mpart).
 #[tactic(auto, unfolding(crate::specs::Extensions::body_ext_mpart, imap_shapes::specs::ExtensionValues::ext_mpart_seen))]
-pub fn body_ext_mpart(alloc: Global, m: &[u8], p: usize) -> Reached<BodyExtMPart<SpannedText>>
-    requires { p ≤ length m.now }
-    ensures steps { GivesAt (λ x. ext_mpart_in m.now x) m.now result (step extensions.body_ext_mpart (drop p m.now)) }
+pub fn body_ext_mpart<K: Keep>(
+    keep: &K,
+    alloc: Global,
+    m: &[u8],
+    p: usize,
+) -> Reached<BodyExtMPart<K::Text>>
+    requires inside { p ≤ length m.now }
+    requires serves { K.serves keep.now m.now }
+    ensures steps { GivesAt (λ x. ext_mpart_seen (K.text_said m.now) x) m.now result (step extensions.body_ext_mpart (drop p m.now)) }
     ensures ahead { Ahead m.now p result }
-    ensures rests { RestsOn ext_mpart_in result }
+    ensures rests { RestsOn (λ n x. ext_mpart_seen (K.text_said n) x) result }
 {
-    let (p, param) = maybe_params(alloc, m, p)?;
-    let (p, disposition) = maybe_disposition(alloc, m, p)?;
-    let (p, language) = maybe_languages(alloc, m, p)?;
+    let (p, param) = maybe_params(keep, alloc, m, p)?;
+    let (p, disposition) = maybe_disposition(keep, alloc, m, p)?;
+    let (p, language) = maybe_languages(keep, alloc, m, p)?;
     let (p, location) = maybe_nstring_text(m, p)?;
-    let (p, extension) = last_extension(alloc, m, p)?;
+    let (p, extension) = last_extension(keep, alloc, m, p)?;
     Ok((
         p,
         BodyExtMPart {
             param,
             disposition,
             language,
-            location,
+            location: kept_text(keep, m, location)?,
             extension,
         },
     ))

@@ -6,16 +6,21 @@ ghost use Rattle.imap_grammar.specs.Positions.{ExactlyAt, GivesAt, Ahead, RestsO
 ghost use Rattle.imap_grammar.specs.Memory.{NeverFails};
 ghost use Rattle.imap_grammar.specs.Step.{step};
 ghost use Rattle.imap_grammar.specs.Rule.{opt};
-ghost use Rattle.imap_structure.specs.Envelopes.{spaced};
+ghost use Rattle.imap_envelopes.specs.Envelopes.{spaced};
 ghost use Rattle.imap_structure.specs.Fields as fields;
-ghost use Rattle.imap_structure.specs.Spanned.{pair_in, params_in, encoding_in, fields_in};
+ghost use Rattle.imap_structure.specs.Spanned.{pair_in, encoding_in};
+ghost use Rattle.imap_shapes.specs.FieldValues.{pair_seen, params_seen, fields_seen};
 
-use crate::at::Reached;
-use crate::at::lists::list_of_one;
-use crate::at::texts::{spaced_nstring_text, spaced_number, spaced_string_text, string_text};
 use imap_bytes::at::strings::nil;
 use imap_bytes::at::tags::{blanks0, tag, word};
 use imap_bytes::{Err, Needed, first, maybe};
+use imap_envelopes::Keep;
+use imap_envelopes::at::Reached;
+use imap_envelopes::at::lists::list_of_one;
+use imap_envelopes::at::texts::{
+    spaced_nstring_text, spaced_number, spaced_string_text, string_text,
+};
+use imap_envelopes::kept::{kept_encoding, kept_pair, kept_text};
 use imap_shapes::shapes::fields::{BodyFields, BodyParams, ContentEncoding};
 use imap_shapes::spans::SpannedText;
 use std::alloc::Global;
@@ -52,20 +57,27 @@ fn next_param(m: &[u8], p: usize) -> Reached<Option<(SpannedText, SpannedText)>>
 }
 
 #[tactic(auto, unfolding(crate::specs::Fields::some_params))]
-fn some_params(alloc: Global, m: &[u8], p: usize) -> Reached<Vec<(SpannedText, SpannedText)>>
-    requires { p ≤ length m.now }
-    ensures steps { GivesAt (λ x. map (pair_in m.now) x.items) m.now result (step fields.some_params (drop p m.now)) }
+fn some_params<K: Keep>(
+    keep: &K,
+    alloc: Global,
+    m: &[u8],
+    p: usize,
+) -> Reached<Vec<(K::Text, K::Text)>>
+    requires inside { p ≤ length m.now }
+    requires serves { K.serves keep.now m.now }
+    ensures steps { GivesAt (λ x. map (pair_seen (K.text_said m.now)) x.items) m.now result (step fields.some_params (drop p m.now)) }
     ensures ahead { Ahead m.now p result }
-    ensures rests { RestsOn (λ n x. map (pair_in n) x.items) result }
+    ensures rests { RestsOn (λ n x. map (pair_seen (K.text_said n)) x.items) result }
 {
     let (mut q, first) = param(m, p)?;
+    let first = kept_pair(keep, m, first)?;
     let mut items = list_of_one(alloc, first)?;
     'params: loop {
         let (after, next) = next_param(m, q)?;
         match next {
             None => return Ok((q, items)),
             Some(param) => {
-                items.push(param)?;
+                items.push(kept_pair(keep, m, param)?)?;
                 q = after;
             }
         }
@@ -74,15 +86,21 @@ fn some_params(alloc: Global, m: &[u8], p: usize) -> Reached<Vec<(SpannedText, S
 
 /// `NIL`, or parameters in parentheses (RFC 3501, section 9: body-fld-param).
 #[tactic(auto, unfolding(crate::specs::Fields::body_fld_param))]
-pub fn body_fld_param(alloc: Global, m: &[u8], p: usize) -> Reached<BodyParams<SpannedText>>
-    requires { p ≤ length m.now }
-    ensures steps { GivesAt (λ x. params_in m.now x) m.now result (step fields.body_fld_param (drop p m.now)) }
+pub fn body_fld_param<K: Keep>(
+    keep: &K,
+    alloc: Global,
+    m: &[u8],
+    p: usize,
+) -> Reached<BodyParams<K::Text>>
+    requires inside { p ≤ length m.now }
+    requires serves { K.serves keep.now m.now }
+    ensures steps { GivesAt (λ x. params_seen (K.text_said m.now) x) m.now result (step fields.body_fld_param (drop p m.now)) }
     ensures ahead { Ahead m.now p result }
-    ensures rests { RestsOn params_in result }
+    ensures rests { RestsOn (λ n x. params_seen (K.text_said n) x) result }
 {
     first!(nil(m, p), _ => None);
     let (q, _) = tag(b"(", m, p)?;
-    let (q, params) = some_params(alloc, m, q)?;
+    let (q, params) = some_params(keep, alloc, m, q)?;
     let (q, _) = blanks0(m, q)?;
     let (q, _) = tag(b")", m, q)?;
     Ok((q, Some(params)))
@@ -228,13 +246,19 @@ fn spaced_encoding(m: &[u8], p: usize) -> Reached<ContentEncoding<SpannedText>>
 
 /// The fields of a single part (RFC 3501, section 9: body-fields). It takes memory for the parameters.
 #[tactic(auto, unfolding(crate::specs::Fields::body_fields, imap_shapes::specs::FieldValues::fields_seen))]
-pub fn body_fields(alloc: Global, m: &[u8], p: usize) -> Reached<BodyFields<SpannedText>>
-    requires { p ≤ length m.now }
-    ensures steps { GivesAt (λ x. fields_in m.now x) m.now result (step fields.body_fields (drop p m.now)) }
+pub fn body_fields<K: Keep>(
+    keep: &K,
+    alloc: Global,
+    m: &[u8],
+    p: usize,
+) -> Reached<BodyFields<K::Text>>
+    requires inside { p ≤ length m.now }
+    requires serves { K.serves keep.now m.now }
+    ensures steps { GivesAt (λ x. fields_seen (K.text_said m.now) x) m.now result (step fields.body_fields (drop p m.now)) }
     ensures ahead { Ahead m.now p result }
-    ensures rests { RestsOn fields_in result }
+    ensures rests { RestsOn (λ n x. fields_seen (K.text_said n) x) result }
 {
-    let (p, param) = body_fld_param(alloc, m, p)?;
+    let (p, param) = body_fld_param(keep, alloc, m, p)?;
     let (p, id) = spaced_nstring_text(m, p)?;
     let (p, description) = spaced_nstring_text(m, p)?;
     let (p, transfer_encoding) = spaced_encoding(m, p)?;
@@ -243,21 +267,27 @@ pub fn body_fields(alloc: Global, m: &[u8], p: usize) -> Reached<BodyFields<Span
         p,
         BodyFields {
             param,
-            id,
-            description,
-            transfer_encoding,
+            id: kept_text(keep, m, id)?,
+            description: kept_text(keep, m, description)?,
+            transfer_encoding: kept_encoding(keep, m, transfer_encoding)?,
             octets,
         },
     ))
 }
 
 /// The same behind a space.
-pub fn spaced_fields(alloc: Global, m: &[u8], p: usize) -> Reached<BodyFields<SpannedText>>
-    requires { p ≤ length m.now }
-    ensures steps { GivesAt (λ x. fields_in m.now x) m.now result (step (spaced fields.body_fields) (drop p m.now)) }
+pub fn spaced_fields<K: Keep>(
+    keep: &K,
+    alloc: Global,
+    m: &[u8],
+    p: usize,
+) -> Reached<BodyFields<K::Text>>
+    requires inside { p ≤ length m.now }
+    requires serves { K.serves keep.now m.now }
+    ensures steps { GivesAt (λ x. fields_seen (K.text_said m.now) x) m.now result (step (spaced fields.body_fields) (drop p m.now)) }
     ensures ahead { Ahead m.now p result }
-    ensures rests { RestsOn fields_in result }
+    ensures rests { RestsOn (λ n x. fields_seen (K.text_said n) x) result }
 {
     let (p, _) = tag(b" ", m, p)?;
-    body_fields(alloc, m, p)
+    body_fields(keep, alloc, m, p)
 }

@@ -1,31 +1,18 @@
 //! Structures of bodies.
 
-ghost use Rattle.std.specs.Prelude.{◌≡◌, IfOk};
 ghost use Rattle.imap_grammar.specs.Answer.{Answers, Gives};
 ghost use Rattle.imap_grammar.specs.Step.{step};
 ghost use Rattle.imap_grammar.specs.Text.{text_of};
 ghost use Rattle.imap_structure.specs.Bodies as bodies;
-ghost use Rattle.imap_structure.specs.Spanned.{boxed_in};
 ghost use Rattle.imap_shapes.specs.BodyValues.{body_seen};
 ghost use Rattle.imap_shapes.specs.Spans.{bytes_of};
 
 use crate::at;
-use crate::at::bodies::Spanned;
 use imap_bytes::IResult;
 use imap_bytes::at::span::rest;
+use imap_envelopes::Named;
 use imap_shapes::BodyStructure;
-use std::alloc::{AllocError, Global};
-
-// What the spans of a body name in m.
-fn named<'a>(
-    alloc: Global,
-    spans: &Box<Spanned>,
-    m: &'a [u8],
-) -> Result<BodyStructure<'a>, AllocError>
-    ensures { IfOk result (λ b. body_seen text_of bytes_of b ≡ boxed_in m.now spans.now) }
-{
-    spans.value(alloc, m)
-}
+use std::alloc::Global;
 
 /// The structure of a body: a text, a message, another single part, or several parts (RFC 3501, section 9: body).
 ///
@@ -35,8 +22,6 @@ pub fn body_structure(alloc: Global, i: &[u8]) -> IResult<&[u8], BodyStructure<'
     ensures steps { Gives (λ x. body_seen text_of bytes_of x) result (step bodies.body_structure i.now) }
     ensures answer { Answers bodies.body_structure (λ x. body_seen text_of bytes_of x) i.now result }
 {
-    let (q, spans) = at::bodies::body_structure(alloc, i, 0)?;
-    let value = named(alloc, &spans, i);
-    drop(spans);
-    Ok((rest(i, q), value?))
+    let (q, body) = at::bodies::body_structure(&Named { alloc, m: i }, alloc, i, 0)?;
+    Ok((rest(i, q), Box::into_inner(body)))
 }

@@ -9,6 +9,7 @@ ghost use Rattle.imap_shapes.specs.ExtensionValues.{extension_seen};
 use crate::at;
 use imap_bytes::IResult;
 use imap_bytes::at::span::rest;
+use imap_envelopes::Named;
 use imap_shapes::BodyExtension;
 use std::alloc::Global;
 
@@ -20,8 +21,6 @@ pub fn body_extension(alloc: Global, i: &[u8]) -> IResult<&[u8], BodyExtension<'
     ensures steps { Gives (λ x. extension_seen text_of x) result (step extensions.body_extension i.now) }
     ensures answer { Answers extensions.body_extension (λ x. extension_seen text_of x) i.now result }
 {
-    let (q, spans) = at::extensions::body_extension(alloc, i, 0)?;
-    let value = spans.value(alloc, i);
-    drop(spans);
-    Ok((rest(i, q), value?))
+    let (q, extension) = at::extensions::body_extension(&Named { alloc, m: i }, alloc, i, 0)?;
+    Ok((rest(i, q), extension))
 }

@@ -9,6 +9,7 @@ ghost use Rattle.imap_shapes.specs.FieldValues.{fields_seen};
 use crate::at;
 use imap_bytes::IResult;
 use imap_bytes::at::span::rest;
+use imap_envelopes::Named;
 use imap_shapes::BodyFields;
 use std::alloc::Global;
 
@@ -20,8 +21,6 @@ pub fn body_fields(alloc: Global, i: &[u8]) -> IResult<&[u8], BodyFields<'_>>
     ensures steps { Gives (λ x. fields_seen text_of x) result (step fields.body_fields i.now) }
     ensures answer { Answers fields.body_fields (λ x. fields_seen text_of x) i.now result }
 {
-    let (q, spans) = at::fields::body_fields(alloc, i, 0)?;
-    let value = spans.value(alloc, i);
-    drop(spans);
-    Ok((rest(i, q), value?))
+    let (q, fields) = at::fields::body_fields(&Named { alloc, m: i }, alloc, i, 0)?;
+    Ok((rest(i, q), fields))
 }

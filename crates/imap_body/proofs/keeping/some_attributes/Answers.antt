@@ -2,17 +2,17 @@ use Rattle.std.proofs.Common.{refl, arith, ◌<◌, ◌++◌, ◌∷◌, []}
 use Rattle.std.proofs.lemmas.Result.{err_from_is_err_and}
 use Rattle.imap_grammar.specs.Rule.{◌▹◌}
 use Rattle.imap_grammar.specs.Tags.{sp}
-use Rattle.imap_structure.proofs.Gathering.{first, next, all, halted, onward}
+use Rattle.imap_envelopes.proofs.Gathering.{first, next, all, halted, onward}
 use Rattle.imap_body.specs.Attributes.{attribute}
-use Rattle.imap_body.specs.SpannedAttributes.{attribute_in}
+use Rattle.imap_body.specs.SpannedAttributes.{attribute_said}
 use Rattle.imap_body.proofs.Standing.{up_to_one, up_to_more, in_turn}
 use Rattle.imap_body.proofs.keeping.some_attributes.Goals as goal
 
 pub attributes-init : goal.attributes-init
 attributes-init g c = record {
-  so_far = (c.in_ok-q.first ∷ [], c.in_ok-kept.ensures, first attribute (sp ▹ attribute) _ _ _ c.in_ok-q.ensures.steps, up_to_one _ _ _ _ c.in_ok-q.ensures.stands);
-  ahead = c.in_ok-q.ensures.ahead.0;
-  within = c.in_ok-q.ensures.ahead.1;
+  so_far = (c.in-Ok-made.field-0.1 ∷ [], c.in_ok-add.ensures [] c.in_ok-kept.ensures, first attribute (sp ▹ attribute) _ _ _ c.in-Ok-made.ensures.steps, up_to_one _ _ _ _ _ _ c.in-Ok-made.ensures.stands);
+  ahead = c.in-Ok-made.ensures.ahead.0;
+  within = c.in-Ok-made.ensures.ahead.1;
 }
 
 pub attributes-smaller : goal.attributes-smaller
@@ -24,7 +24,7 @@ pub attributes-preserved : goal.attributes-preserved
 attributes-preserved g c =
     let before = c.attributes.invariant.so_far in
     record {
-      so_far = (before.0 ++ c.in-Some.attribute ∷ [], c.in_ok-add-in-Some.ensures before.0 before.1, next (attribute_in c.args.m.now) _ (sp ▹ attribute) before.0 _ _ c.in-Some.attribute before.2 (rw c.in-Some.is at c.in_ok-after.ensures.steps) refl, up_to_more _ _ _ _ before.0 c.in-Some.attribute before.3 (rw c.in-Some.is at c.in_ok-after.ensures.stands));
+      so_far = (before.0 ++ c.in-Some.attribute ∷ [], c.in_ok-add-in-Some.ensures before.0 before.1, next (attribute_said g.K.Keep.text_said g.K.Keep.bytes_said c.args.m.now) _ (sp ▹ attribute) before.0 _ _ c.in-Some.attribute before.2 (rw c.in-Some.is at c.in_ok-after.ensures.steps) refl, up_to_more _ _ _ _ _ _ before.0 c.in-Some.attribute before.3 (rw c.in-Some.is at c.in_ok-after.ensures.stands));
       ahead = omega (arith, c.attributes.invariant.ahead, c.in_ok-after.ensures.ahead);
       within = c.in_ok-after.ensures.ahead.1;
     }
@@ -32,7 +32,7 @@ attributes-preserved g c =
 pub returns-in-None-clause-kept : goal.returns-in-None-clause-kept
 returns-in-None-clause-kept g c =
     let read = c.attributes.invariant.so_far in
-    (read.0, read.1, all _ (sp ▹ attribute) _ _ _ read.2 (rw c.in-None.is at c.in_ok-after.ensures.steps), in_turn _ _ _ _ read.0 read.3 (omega (arith)))
+    (read.0, read.1, all _ (sp ▹ attribute) _ _ _ read.2 (rw c.in-None.is at c.in_ok-after.ensures.steps), in_turn _ _ _ _ _ _ read.0 read.3 (omega (arith)))
 
 pub returns-in_err-after-clause-kept : goal.returns-in_err-after-clause-kept
 returns-in_err-after-clause-kept g c =

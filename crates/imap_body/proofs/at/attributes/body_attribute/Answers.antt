@@ -4,4 +4,4 @@ use Rattle.imap_body.proofs.at.attributes.body_attribute.Goals as goal
 
 pub returns-in_default-2-clause-steps : goal.returns-in_default-2-clause-steps
 unfolding body_attribute
-returns-in_default-2-clause-steps c = search rules depth 2
+returns-in_default-2-clause-steps g c = search rules depth 2

@@ -4,4 +4,4 @@ use Rattle.imap_body.proofs.at.attributes.section_contents.Goals as goal
 
 pub returns-clause-steps : goal.returns-clause-steps
 unfolding section_contents
-returns-clause-steps c = search rules depth 2
+returns-clause-steps g c = search rules depth 2

@@ -1,9 +1,9 @@
 use Rattle.std.proofs.Common.{refl, arith, ◌<◌}
 use Rattle.std.proofs.lemmas.Result.{err_from_is_err_and}
 use Rattle.imap_bytes.specs.Strings.{astring}
-use Rattle.imap_structure.specs.Envelopes.{spaced}
+use Rattle.imap_envelopes.specs.Envelopes.{spaced}
 use Rattle.imap_sections.specs.Sections.{header_names}
-use Rattle.imap_structure.proofs.Gathering.{first, next_one, all, stopped, onward}
+use Rattle.imap_envelopes.proofs.Gathering.{first, next_one, all, stopped, onward}
 use Rattle.imap_sections.proofs.at.sections.header_names.Goals as goal
 
 pub names-init : goal.names-init

@@ -4,8 +4,8 @@ use Rattle.imap_grammar.specs.Step.{step}
 use Rattle.imap_grammar.specs.Tags.{sp}
 use Rattle.imap_grammar.specs.Text.{Bytes}
 use Rattle.imap_bytes.specs.Strings.{astring}
-use Rattle.imap_structure.specs.Envelopes.{spaced}
-use Rattle.imap_structure.proofs.Gathering.{Gathered}
+use Rattle.imap_envelopes.specs.Envelopes.{spaced}
+use Rattle.imap_envelopes.proofs.Gathering.{Gathered}
 use Rattle.imap_sections.proofs.at.sections.header_names.Given as goal
 
 abbrev pub invariant-names : goal.invariant-names

@@ -5,7 +5,7 @@ use Rattle.imap_grammar.specs.Tags.{tag}
 use Rattle.imap_grammar.proofs.Agreement.{stops}
 use Rattle.imap_bytes.specs.Numbers.{number}
 use Rattle.imap_sections.specs.Sections.{section_part}
-use Rattle.imap_structure.proofs.Gathering.{first, next_one, all, stopped, onward}
+use Rattle.imap_envelopes.proofs.Gathering.{first, next_one, all, stopped, onward}
 use Rattle.imap_sections.proofs.at.sections.section_part.Goals as goal
 
 pub numbers-init : goal.numbers-init

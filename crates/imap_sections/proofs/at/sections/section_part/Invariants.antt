@@ -3,7 +3,7 @@ use Rattle.imap_grammar.specs.Rule.{list1, ◌▹◌}
 use Rattle.imap_grammar.specs.Step.{step}
 use Rattle.imap_grammar.specs.Tags.{tag}
 use Rattle.imap_bytes.specs.Numbers.{number}
-use Rattle.imap_structure.proofs.Gathering.{Gathered}
+use Rattle.imap_envelopes.proofs.Gathering.{Gathered}
 use Rattle.imap_sections.proofs.at.sections.section_part.Given as goal
 
 abbrev pub invariant-numbers : goal.invariant-numbers

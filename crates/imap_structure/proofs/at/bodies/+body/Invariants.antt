@@ -3,44 +3,44 @@ use Rattle.imap_grammar.specs.Rule.{some1}
 use Rattle.imap_grammar.specs.Step.{step}
 use Rattle.imap_grammar.specs.Positions.{Rests}
 use Rattle.imap_structure.specs.Bodies.{body}
-use Rattle.imap_structure.specs.Spanned.{body_in}
-use Rattle.imap_structure.proofs.Gathering.{Gathered}
+use Rattle.imap_shapes.specs.BodyValues.{body_seen}
+use Rattle.imap_envelopes.proofs.Gathering.{Gathered}
 use Rattle.imap_structure.proofs.at.bodies.+body.Given as goal
 
 abbrev pub decreases-body : goal.decreases-body
-decreases-body l = 9 * l.level
+decreases-body g l = 9 * l.level
 
 abbrev pub decreases-bracketed_body : goal.decreases-bracketed_body
-decreases-bracketed_body l = 9 * l.level + 8
+decreases-bracketed_body g l = 9 * l.level + 8
 
 abbrev pub decreases-body_type : goal.decreases-body_type
-decreases-body_type l = 9 * l.level + 7
+decreases-body_type g l = 9 * l.level + 7
 
 abbrev pub decreases-quoted_type : goal.decreases-quoted_type
-decreases-quoted_type l = 9 * l.level + 6
+decreases-quoted_type g l = 9 * l.level + 6
 
 abbrev pub decreases-body_type_msg : goal.decreases-body_type_msg
-decreases-body_type_msg l = 9 * l.level + 5
+decreases-body_type_msg g l = 9 * l.level + 5
 
 abbrev pub decreases-body_type_mpart : goal.decreases-body_type_mpart
-decreases-body_type_mpart l = 9 * l.level + 4
+decreases-body_type_mpart g l = 9 * l.level + 4
 
 abbrev pub decreases-some_bodies : goal.decreases-some_bodies
-decreases-some_bodies l = 9 * l.level + 3
+decreases-some_bodies g l = 9 * l.level + 3
 
 abbrev pub decreases-next_body : goal.decreases-next_body
-decreases-next_body l = 9 * l.level + 2
+decreases-next_body g l = 9 * l.level + 2
 
 abbrev pub decreases-spaced_body : goal.decreases-spaced_body
-decreases-spaced_body l = 9 * l.level + 1
+decreases-spaced_body g l = 9 * l.level + 1
 
 abbrev pub invariant-some_bodies-bodies : goal.invariant-some_bodies-bodies
-invariant-some_bodies-bodies l = record {
-  gathered : Gathered (step (some1 (body l.level)) (drop l.p l.m)) (body l.level) (map (body_in l.m) l.items.items) (drop l.q l.m);
-  rests : Rests (λ n xs. map (body_in n) xs) l.q l.items.items;
+invariant-some_bodies-bodies g l = record {
+  gathered : Gathered (step (some1 (body l.level)) (drop l.p l.m)) (body l.level) (map (body_seen (g.K.Keep.text_said l.m) (g.K.Keep.bytes_said l.m)) l.items.items) (drop l.q l.m);
+  rests : Rests (λ n xs. map (body_seen (g.K.Keep.text_said n) (g.K.Keep.bytes_said n)) xs) l.q l.items.items;
   ahead : l.p ≤ l.q;
   within : l.q ≤ length l.m;
 }
 
 abbrev pub decreases-some_bodies-bodies : goal.decreases-some_bodies-bodies
-decreases-some_bodies-bodies l = length l.m - l.q
+decreases-some_bodies-bodies g l = length l.m - l.q

@@ -2,64 +2,64 @@ use Rattle.std.proofs.Common.{refl, sym, subst, drop, arith, ◌<◌}
 use Rattle.std.proofs.lemmas.Result.{err_from_is_err_and}
 use Rattle.imap_grammar.specs.Positions.{GivesAt}
 use Rattle.imap_grammar.proofs.Positions.{rests_more}
-use Rattle.imap_structure.specs.Envelopes.{spaced}
+use Rattle.imap_envelopes.specs.Envelopes.{spaced}
 use Rattle.imap_structure.specs.Extensions.{extension_over, some_extensions, extension_list}
-use Rattle.imap_structure.specs.Spanned.{extension_in}
-use Rattle.imap_structure.proofs.Naming.{something_rests, itself_rests}
+use Rattle.imap_shapes.specs.ExtensionValues.{extension_seen}
+use Rattle.imap_envelopes.proofs.Naming.{something_rests, itself_rests}
 use Rattle.imap_structure.proofs.Seeing.{list_rests}
 use Rattle.imap_structure.proofs.Levels.{list_below}
-use Rattle.imap_structure.proofs.Gathering.{first, next, all, halted, onward, alone, together}
+use Rattle.imap_envelopes.proofs.Gathering.{first, next, all, halted, onward, alone, together}
 use Rattle.imap_structure.proofs.at.extensions.+extension.Goals as goal
 
 pub extension_list-returns-then-level-eq0-clause-steps : goal.extension_list-returns-then-level-eq0-clause-steps
 unfolding extension_list
-extension_list-returns-then-level-eq0-clause-steps t c = rw c.if-level-eq0.true refl
+extension_list-returns-then-level-eq0-clause-steps g t c = rw c.if-level-eq0.true refl
 
 pub extension_list-returns-clause-steps : goal.extension_list-returns-clause-steps
-extension_list-returns-clause-steps t c =
-    subst (λ s. GivesAt (λ x. extension_in c.args.m.now x) c.args.m.now c.bracketed_extensions.result s) (sym (list_below c.args.level (drop c.args.p c.args.m.now) c.if-level-eq0.false)) c.bracketed_extensions.ensures.steps
+extension_list-returns-clause-steps g t c =
+    subst (λ s. GivesAt (λ x. extension_seen (g.K.Keep.text_said c.args.m.now) x) c.args.m.now c.bracketed_extensions.result s) (sym (list_below c.args.level (drop c.args.p c.args.m.now) c.if-level-eq0.false)) c.bracketed_extensions.ensures.steps
 
 pub bracketed_extensions-returns-clause-rests : goal.bracketed_extensions-returns-clause-rests
-bracketed_extensions-returns-clause-rests t c = list_rests _ _ (rests_more _ (omega (arith, c.in_ok-p-3.ensures.inside, c.in_ok-p-4.ensures.inside)) c.in_ok-p-2.ensures.rests)
+bracketed_extensions-returns-clause-rests g t c = list_rests _ _ _ (rests_more _ (omega (arith, c.in_ok-p-3.ensures.inside, c.in_ok-p-4.ensures.inside)) c.in_ok-p-2.ensures.rests)
 
 pub next_extension-returns-in-Ok-maybe-clause-rests : goal.next_extension-returns-in-Ok-maybe-clause-rests
-next_extension-returns-in-Ok-maybe-clause-rests t c = something_rests extension_in _ _ c.in-Ok-maybe.ensures.rests
+next_extension-returns-in-Ok-maybe-clause-rests g t c = something_rests (λ n x. extension_seen (g.K.Keep.text_said n) x) _ _ c.in-Ok-maybe.ensures.rests
 
 pub some_extensions-extensions-init : goal.some_extensions-extensions-init
-some_extensions-extensions-init t c =
+some_extensions-extensions-init g t c =
     let one = extension_over (extension_list c.args.level) in
     record {
       gathered = rw c.in_ok-items.ensures (first one (spaced one) _ _ _ c.in_ok-q.ensures.steps);
-      rests = rw c.in_ok-items.ensures (alone extension_in _ _ c.in_ok-q.ensures.rests);
+      rests = rw c.in_ok-items.ensures (alone (λ n x. extension_seen (g.K.Keep.text_said n) x) _ _ c.in_ok-q.ensures.rests);
       ahead = c.in_ok-q.ensures.ahead.0;
       within = c.in_ok-q.ensures.ahead.1;
     }
 
 pub some_extensions-extensions-smaller : goal.some_extensions-extensions-smaller
-some_extensions-extensions-smaller t c =
+some_extensions-extensions-smaller g t c =
     let more = spaced (extension_over (extension_list c.args.level)) in
     let less : c.extensions.q < c.in_ok-after.after = onward more c.args.m.now _ _ _ (rw c.in-Some.is at c.in_ok-after.ensures.steps) refl in
     omega (arith, less, c.in_ok-after.ensures.ahead)
 
 pub some_extensions-extensions-preserved : goal.some_extensions-extensions-preserved
-some_extensions-extensions-preserved t c =
+some_extensions-extensions-preserved g t c =
     let more = spaced (extension_over (extension_list c.args.level)) in
     record {
-      gathered = rw c.in_ok-push-in-Some.ensures.items (next (extension_in c.args.m.now) _ more _ _ _ c.in-Some.extension c.extensions.invariant.gathered (rw c.in-Some.is at c.in_ok-after.ensures.steps) refl);
-      rests = rw c.in_ok-push-in-Some.ensures.items (together extension_in _ _ _ _ (c.in_ok-after.ensures.ahead.0) c.extensions.invariant.rests (itself_rests extension_in _ _ (rw c.in-Some.is at c.in_ok-after.ensures.rests)));
+      gathered = rw c.in_ok-push-in-Some.ensures.items (next (λ x. extension_seen (g.K.Keep.text_said c.args.m.now) x) _ more _ _ _ c.in-Some.extension c.extensions.invariant.gathered (rw c.in-Some.is at c.in_ok-after.ensures.steps) refl);
+      rests = rw c.in_ok-push-in-Some.ensures.items (together (λ n x. extension_seen (g.K.Keep.text_said n) x) _ _ _ _ (c.in_ok-after.ensures.ahead.0) c.extensions.invariant.rests (itself_rests (λ n x. extension_seen (g.K.Keep.text_said n) x) _ _ (rw c.in-Some.is at c.in_ok-after.ensures.rests)));
       ahead = omega (arith, c.extensions.invariant.ahead, c.in_ok-after.ensures.ahead);
       within = c.in_ok-after.ensures.ahead.1;
     }
 
 pub some_extensions-returns-in-None-clause-steps : goal.some_extensions-returns-in-None-clause-steps
 unfolding some_extensions
-some_extensions-returns-in-None-clause-steps t c = all _ (spaced (extension_over (extension_list c.args.level))) _ _ _ c.extensions.invariant.gathered (rw c.in-None.is at c.in_ok-after.ensures.steps)
+some_extensions-returns-in-None-clause-steps g t c = all _ (spaced (extension_over (extension_list c.args.level))) _ _ _ c.extensions.invariant.gathered (rw c.in-None.is at c.in_ok-after.ensures.steps)
 
 pub some_extensions-returns-in-None-clause-rests : goal.some_extensions-returns-in-None-clause-rests
-some_extensions-returns-in-None-clause-rests t c = record { same = λ n. c.extensions.invariant.rests.same n }
+some_extensions-returns-in-None-clause-rests g t c = record { same = λ n. c.extensions.invariant.rests.same n }
 
 pub some_extensions-returns-in_err-after-clause-steps : goal.some_extensions-returns-in_err-after-clause-steps
 unfolding some_extensions
-some_extensions-returns-in_err-after-clause-steps t c =
+some_extensions-returns-in_err-after-clause-steps g t c =
     let p = err_from_is_err_and c.from_residual-in_err-after.result c.from_residual-in_err-after.ensures.1 in
     rw (p.1, p.2) (halted _ (spaced (extension_over (extension_list c.args.level))) _ _ c.in_err-after.field-0.0 c.extensions.invariant.gathered c.in_err-after.ensures.steps)

@@ -3,37 +3,37 @@ use Rattle.imap_grammar.specs.Rule.{list1}
 use Rattle.imap_grammar.specs.Tags.{sp}
 use Rattle.imap_grammar.specs.Step.{step}
 use Rattle.imap_grammar.specs.Positions.{Rests}
-use Rattle.imap_structure.specs.Envelopes.{spaced}
+use Rattle.imap_envelopes.specs.Envelopes.{spaced}
 use Rattle.imap_structure.specs.Extensions.{extension_over, extension_list}
-use Rattle.imap_structure.specs.Spanned.{extension_in}
-use Rattle.imap_structure.proofs.Gathering.{Gathered}
+use Rattle.imap_shapes.specs.ExtensionValues.{extension_seen}
+use Rattle.imap_envelopes.proofs.Gathering.{Gathered}
 use Rattle.imap_structure.proofs.at.extensions.+extension.Given as goal
 
 abbrev pub decreases-extension : goal.decreases-extension
-decreases-extension l = 6 * l.level + 1
+decreases-extension g l = 6 * l.level + 1
 
 abbrev pub decreases-extension_list : goal.decreases-extension_list
-decreases-extension_list l = 6 * l.level
+decreases-extension_list g l = 6 * l.level
 
 abbrev pub decreases-bracketed_extensions : goal.decreases-bracketed_extensions
-decreases-bracketed_extensions l = 6 * l.level + 5
+decreases-bracketed_extensions g l = 6 * l.level + 5
 
 abbrev pub decreases-some_extensions : goal.decreases-some_extensions
-decreases-some_extensions l = 6 * l.level + 4
+decreases-some_extensions g l = 6 * l.level + 4
 
 abbrev pub decreases-next_extension : goal.decreases-next_extension
-decreases-next_extension l = 6 * l.level + 3
+decreases-next_extension g l = 6 * l.level + 3
 
 abbrev pub decreases-spaced_extension : goal.decreases-spaced_extension
-decreases-spaced_extension l = 6 * l.level + 2
+decreases-spaced_extension g l = 6 * l.level + 2
 
 abbrev pub invariant-some_extensions-extensions : goal.invariant-some_extensions-extensions
-invariant-some_extensions-extensions l = record {
-  gathered : Gathered (step (list1 sp (extension_over (extension_list l.level))) (drop l.p l.m)) (spaced (extension_over (extension_list l.level))) (map (extension_in l.m) l.items.items) (drop l.q l.m);
-  rests : Rests (λ n xs. map (extension_in n) xs) l.q l.items.items;
+invariant-some_extensions-extensions g l = record {
+  gathered : Gathered (step (list1 sp (extension_over (extension_list l.level))) (drop l.p l.m)) (spaced (extension_over (extension_list l.level))) (map (extension_seen (g.K.Keep.text_said l.m)) l.items.items) (drop l.q l.m);
+  rests : Rests (λ n xs. map (extension_seen (g.K.Keep.text_said n)) xs) l.q l.items.items;
   ahead : l.p ≤ l.q;
   within : l.q ≤ length l.m;
 }
 
 abbrev pub decreases-some_extensions-extensions : goal.decreases-some_extensions-extensions
-decreases-some_extensions-extensions l = length l.m - l.q
+decreases-some_extensions-extensions g l = length l.m - l.q

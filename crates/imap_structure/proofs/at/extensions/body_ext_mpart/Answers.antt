@@ -1,18 +1,19 @@
 use Rattle.std.proofs.Common.{refl, arith, ◌≤◌}
 use Rattle.imap_grammar.proofs.Positions.{rests_more}
+use Rattle.imap_envelopes.proofs.Keeping.{kept_rests}
 use Rattle.imap_shapes.specs.ExtensionValues.{ext_mpart_seen}
 use Rattle.imap_structure.proofs.at.extensions.body_ext_mpart.Goals as goal
 
 pub returns-clause-rests : goal.returns-clause-rests
 unfolding ext_mpart_seen
-returns-clause-rests c =
+returns-clause-rests g c =
     let q = c.in_ok-p-5.p in
     let e4 : c.in_ok-p-4.p ≤ q = omega (arith, c.in_ok-p-5.ensures.ahead) in
     let e3 : c.in_ok-p-3.p ≤ q = omega (arith, e4, c.in_ok-p-4.ensures.ahead) in
     let e2 : c.in_ok-p-2.p ≤ q = omega (arith, e3, c.in_ok-p-3.ensures.ahead) in
     let e1 : c.in_ok-p.p ≤ q = omega (arith, e2, c.in_ok-p-2.ensures.ahead) in
-    let first = rests_more q e1 c.in_ok-p.ensures.rests in
+    let param = rests_more q e1 c.in_ok-p.ensures.rests in
     let disposition = rests_more q e2 c.in_ok-p-2.ensures.rests in
     let language = rests_more q e3 c.in_ok-p-3.ensures.rests in
-    let location = rests_more q e4 c.in_ok-p-4.ensures.rests in
-    record { same = λ m. rw (first.same m, disposition.same m, language.same m, location.same m, c.in_ok-p-5.ensures.rests.same m) refl }
+    let location = kept_rests _ _ _ _ _ _ c.in_ok-kept_text.ensures (rests_more q e4 c.in_ok-p-4.ensures.rests) in
+    record { same = λ m. rw (param.same m, disposition.same m, language.same m, location.same m, c.in_ok-p-5.ensures.rests.same m) refl }

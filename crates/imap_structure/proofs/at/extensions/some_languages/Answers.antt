@@ -1,44 +1,49 @@
 use Rattle.std.proofs.Common.{refl, arith, ◌<◌}
 use Rattle.std.proofs.lemmas.Result.{err_from_is_err_and}
 use Rattle.imap_grammar.proofs.Agreement.{stops}
-use Rattle.imap_structure.specs.Envelopes.{spaced}
+use Rattle.imap_envelopes.specs.Envelopes.{spaced}
 use Rattle.imap_bytes.specs.Texts.{string_utf8}
 use Rattle.imap_structure.specs.Extensions.{some_languages}
+use Rattle.imap_envelopes.proofs.Keeping.{kept_rests}
 use Rattle.imap_shapes.specs.Spans.{text_in}
-use Rattle.imap_structure.proofs.Naming.{itself_rests}
-use Rattle.imap_structure.proofs.Gathering.{first, next, all, stopped, onward, alone, together}
+use Rattle.imap_envelopes.proofs.Naming.{itself_rests}
+use Rattle.imap_envelopes.proofs.Gathering.{first, next, all, stopped, onward, alone, together}
 use Rattle.imap_structure.proofs.at.extensions.some_languages.Goals as goal
 
 pub languages-init : goal.languages-init
-languages-init c = record {
-  gathered = rw c.in_ok-items.ensures (first string_utf8 (spaced string_utf8) _ _ _ c.in_ok-q.ensures.steps);
-  rests = rw c.in_ok-items.ensures (alone text_in _ _ c.in_ok-q.ensures.rests);
+languages-init g c = record {
+  gathered = rw (c.in_ok-items.ensures, c.in_ok-first.ensures.is) (first string_utf8 (spaced string_utf8) _ _ _ c.in_ok-q.ensures.steps);
+  rests = rw c.in_ok-items.ensures (alone g.K.Keep.text_said _ _ (kept_rests _ _ _ _ _ _ c.in_ok-first.ensures c.in_ok-q.ensures.rests));
   ahead = c.in_ok-q.ensures.ahead.0;
   within = c.in_ok-q.ensures.ahead.1;
 }
 
 pub languages-smaller : goal.languages-smaller
-languages-smaller c =
+languages-smaller g c =
     let less : c.languages.q < c.in_ok-after.after = onward (spaced string_utf8) c.args.m.now _ _ _ (rw c.in-Some.is at c.in_ok-after.ensures.steps) refl in
     omega (arith, less, c.in_ok-after.ensures.ahead)
 
 pub languages-preserved : goal.languages-preserved
-languages-preserved c = record {
-  gathered = rw c.in_ok-push-in-Some.ensures.items (next (text_in c.args.m.now) _ (spaced string_utf8) _ _ _ c.in-Some.language c.languages.invariant.gathered (rw c.in-Some.is at c.in_ok-after.ensures.steps) refl);
-  rests = rw c.in_ok-push-in-Some.ensures.items (together text_in _ _ _ _ (c.in_ok-after.ensures.ahead.0) c.languages.invariant.rests (itself_rests text_in _ _ (rw c.in-Some.is at c.in_ok-after.ensures.rests)));
-  ahead = omega (arith, c.languages.invariant.ahead, c.in_ok-after.ensures.ahead);
-  within = c.in_ok-after.ensures.ahead.1;
-}
+languages-preserved g c =
+    let kept = c.in_ok-text-in-Some in
+    let steps = rw c.in-Some.is at c.in_ok-after.ensures.steps in
+    let rests = kept_rests _ _ _ _ _ _ kept.ensures (itself_rests text_in _ _ (rw c.in-Some.is at c.in_ok-after.ensures.rests)) in
+    record {
+      gathered = rw c.in_ok-push-in-Some.ensures.items (next (λ x. g.K.Keep.text_said c.args.m.now x) _ (spaced string_utf8) _ _ _ kept.field-0 c.languages.invariant.gathered (rw kept.ensures.is steps) refl);
+      rests = rw c.in_ok-push-in-Some.ensures.items (together g.K.Keep.text_said _ _ _ _ (c.in_ok-after.ensures.ahead.0) c.languages.invariant.rests rests);
+      ahead = omega (arith, c.languages.invariant.ahead, c.in_ok-after.ensures.ahead);
+      within = c.in_ok-after.ensures.ahead.1;
+    }
 
 pub returns-in-None-clause-steps : goal.returns-in-None-clause-steps
 unfolding some_languages
-returns-in-None-clause-steps c = all _ (spaced string_utf8) _ _ _ c.languages.invariant.gathered (rw c.in-None.is at c.in_ok-after.ensures.steps)
+returns-in-None-clause-steps g c = all _ (spaced string_utf8) _ _ _ c.languages.invariant.gathered (rw c.in-None.is at c.in_ok-after.ensures.steps)
 
 pub returns-in-None-clause-rests : goal.returns-in-None-clause-rests
-returns-in-None-clause-rests c = record { same = λ n. c.languages.invariant.rests.same n }
+returns-in-None-clause-rests g c = record { same = λ n. c.languages.invariant.rests.same n }
 
 pub returns-in_err-after-clause-steps : goal.returns-in_err-after-clause-steps
 unfolding some_languages
-returns-in_err-after-clause-steps c =
+returns-in_err-after-clause-steps g c =
     let p = err_from_is_err_and c.from_residual-in_err-after.result c.from_residual-in_err-after.ensures.1 in
     rw (p.1, p.2) (stops _ _ (stopped _ (spaced string_utf8) _ _ c.in_err-after.field-0.0 c.languages.invariant.gathered c.in_err-after.ensures.steps))

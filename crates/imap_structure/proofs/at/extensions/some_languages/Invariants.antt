@@ -1,21 +1,20 @@
 use Rattle.std.proofs.Common.{drop, length, map, ◌≤◌, ◌-◌}
 use Rattle.imap_grammar.specs.Rule.{list1}
 use Rattle.imap_grammar.specs.Tags.{sp}
-use Rattle.imap_structure.specs.Envelopes.{spaced}
+use Rattle.imap_envelopes.specs.Envelopes.{spaced}
 use Rattle.imap_grammar.specs.Step.{step}
 use Rattle.imap_grammar.specs.Positions.{Rests}
 use Rattle.imap_bytes.specs.Texts.{string_utf8}
-use Rattle.imap_shapes.specs.Spans.{text_in}
-use Rattle.imap_structure.proofs.Gathering.{Gathered}
+use Rattle.imap_envelopes.proofs.Gathering.{Gathered}
 use Rattle.imap_structure.proofs.at.extensions.some_languages.Given as goal
 
 abbrev pub invariant-languages : goal.invariant-languages
-invariant-languages l = record {
-  gathered : Gathered (step (list1 sp string_utf8) (drop l.p l.m)) (spaced string_utf8) (map (text_in l.m) l.items.items) (drop l.q l.m);
-  rests : Rests (λ n xs. map (text_in n) xs) l.q l.items.items;
+invariant-languages g l = record {
+  gathered : Gathered (step (list1 sp string_utf8) (drop l.p l.m)) (spaced string_utf8) (map (g.K.Keep.text_said l.m) l.items.items) (drop l.q l.m);
+  rests : Rests (λ n xs. map (g.K.Keep.text_said n) xs) l.q l.items.items;
   ahead : l.p ≤ l.q;
   within : l.q ≤ length l.m;
 }
 
 abbrev pub decreases-languages : goal.decreases-languages
-decreases-languages l = length l.m - l.q
+decreases-languages g l = length l.m - l.q

@@ -1,23 +1,24 @@
 use Rattle.std.proofs.Common.{refl, arith, ◌≤◌, rules}
 use Rattle.imap_grammar.proofs.Positions.{rests_more}
+use Rattle.imap_envelopes.proofs.Keeping.{kept_rests}
 use Rattle.imap_shapes.specs.FieldValues.{fields_seen}
 use Rattle.imap_structure.specs.Fields.{body_fields}
 use Rattle.imap_structure.proofs.at.fields.body_fields.Goals as goal
 
 pub returns-clause-rests : goal.returns-clause-rests
 unfolding fields_seen
-returns-clause-rests c =
+returns-clause-rests g c =
     let q = c.in_ok-p-5.p in
     let e4 : c.in_ok-p-4.p ≤ q = omega (arith, c.in_ok-p-5.ensures.ahead) in
     let e3 : c.in_ok-p-3.p ≤ q = omega (arith, e4, c.in_ok-p-4.ensures.ahead) in
     let e2 : c.in_ok-p-2.p ≤ q = omega (arith, e3, c.in_ok-p-3.ensures.ahead) in
     let e1 : c.in_ok-p.p ≤ q = omega (arith, e2, c.in_ok-p-2.ensures.ahead) in
     let param = rests_more q e1 c.in_ok-p.ensures.rests in
-    let id = rests_more q e2 c.in_ok-p-2.ensures.rests in
-    let description = rests_more q e3 c.in_ok-p-3.ensures.rests in
-    let transfer_encoding = rests_more q e4 c.in_ok-p-4.ensures.rests in
+    let id = kept_rests _ _ _ _ _ _ c.in_ok-kept_text.ensures (rests_more q e2 c.in_ok-p-2.ensures.rests) in
+    let description = kept_rests _ _ _ _ _ _ c.in_ok-kept_text-2.ensures (rests_more q e3 c.in_ok-p-3.ensures.rests) in
+    let transfer_encoding = kept_rests _ _ _ _ _ _ c.in_ok-kept_encoding.ensures (rests_more q e4 c.in_ok-p-4.ensures.rests) in
     record { same = λ m. rw (param.same m, id.same m, description.same m, transfer_encoding.same m) refl }
 
 pub returns-clause-steps : goal.returns-clause-steps
 unfolding body_fields fields_seen
-returns-clause-steps c = search rules depth 2
+returns-clause-steps g c = search rules depth 2

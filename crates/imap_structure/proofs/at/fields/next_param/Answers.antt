@@ -1,5 +1,5 @@
 use Rattle.imap_structure.specs.Spanned.{pair_in}
-use Rattle.imap_structure.proofs.Naming.{something_rests}
+use Rattle.imap_envelopes.proofs.Naming.{something_rests}
 use Rattle.imap_structure.proofs.at.fields.next_param.Goals as goal
 
 pub returns-in-Ok-maybe-clause-rests : goal.returns-in-Ok-maybe-clause-rests

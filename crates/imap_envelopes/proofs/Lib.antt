@@ -1,0 +1,4 @@
+pub mod Naming
+pub mod Gathering
+pub mod Keeping
+pub mod EnvelopeTexts

@@ -1,0 +1,5 @@
+use Rattle.imap_envelopes.proofs.Naming.{part_rests}
+use Rattle.imap_envelopes.proofs.at.texts.string_text.Goals as goal
+
+pub returns-clause-rests : goal.returns-clause-rests
+returns-clause-rests c = part_rests _ _ c.in_ok-q.ensures.inside.0.1 c.in_ok-q.ensures.inside.0.2

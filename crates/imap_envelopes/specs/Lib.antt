@@ -1,0 +1,4 @@
+pub mod Envelopes
+pub mod Spanned
+pub mod Keeping
+pub mod EnvelopeTexts

@@ -1,0 +1,174 @@
+//! Addresses and envelopes at a position, and what is kept of their byte strings.
+
+ghost use Rattle.std.specs.Prelude.{◌≤◌, length, drop, map};
+ghost use Rattle.std.specs.Option.{option_map};
+ghost use Rattle.imap_grammar.specs.Positions.{ExactlyAt, GivesAt, Ahead, RestsOn};
+ghost use Rattle.imap_grammar.specs.Memory.{NeverFails};
+ghost use Rattle.imap_grammar.specs.Step.{step};
+ghost use Rattle.imap_grammar.specs.Rule.{opt};
+ghost use Rattle.imap_envelopes.specs.Envelopes as envelopes;
+ghost use Rattle.imap_envelopes.specs.Envelopes.{spaced};
+ghost use Rattle.imap_envelopes.specs.Spanned.{address_in};
+ghost use Rattle.imap_shapes.specs.EnvelopeValues.{address_seen, addresses_seen, envelope_seen};
+
+use crate::Keep;
+use crate::at::Reached;
+use crate::at::lists::list_of_one;
+use crate::at::texts::{byte_string, spaced_byte_string};
+use crate::kept::{kept_address, kept_bytes};
+use imap_bytes::at::strings::nil;
+use imap_bytes::at::tags::tag;
+use imap_bytes::{first, maybe};
+use imap_shapes::shapes::envelopes::{Address, Envelope};
+use imap_shapes::spans::Span;
+use std::alloc::Global;
+
+/// An address (RFC 3501, section 9: address). No memory.
+#[tactic(auto, unfolding(crate::specs::Envelopes::address))]
+pub fn address(m: &[u8], p: usize) -> Reached<Address<Span>>
+    requires { p ≤ length m.now }
+    ensures steps { ExactlyAt (λ x. address_in m.now x) m.now result (step envelopes.address (drop p m.now)) }
+    ensures ahead { Ahead m.now p result }
+    ensures rests { RestsOn address_in result }
+    ensures no_failure { NeverFails result }
+{
+    let (p, _) = tag(b"(", m, p)?;
+    let (p, name) = byte_string(m, p)?;
+    let (p, adl) = spaced_byte_string(m, p)?;
+    let (p, mailbox) = spaced_byte_string(m, p)?;
+    let (p, host) = spaced_byte_string(m, p)?;
+    let (p, _) = tag(b")", m, p)?;
+    Ok((
+        p,
+        Address {
+            name,
+            adl,
+            mailbox,
+            host,
+        },
+    ))
+}
+
+// An address, and maybe a space.
+#[tactic(auto, unfolding(crate::specs::Envelopes::listed_address))]
+fn listed_address(m: &[u8], p: usize) -> Reached<Address<Span>>
+    requires { p ≤ length m.now }
+    ensures steps { ExactlyAt (λ x. address_in m.now x) m.now result (step envelopes.listed_address (drop p m.now)) }
+    ensures ahead { Ahead m.now p result }
+    ensures rests { RestsOn address_in result }
+{
+    let (q, address) = address(m, p)?;
+    first!(tag(b" ", m, q), _ => address);
+    Ok((q, address))
+}
+
+fn next_address(m: &[u8], p: usize) -> Reached<Option<Address<Span>>>
+    requires { p ≤ length m.now }
+    ensures steps { ExactlyAt (λ x. option_map (address_in m.now) x) m.now result (step (opt envelopes.listed_address) (drop p m.now)) }
+    ensures ahead { Ahead m.now p result }
+    ensures rests { RestsOn (λ n x. option_map (address_in n) x) result }
+{
+    maybe!(listed_address(m, p), p)
+}
+
+#[tactic(auto, unfolding(crate::specs::Envelopes::some_addresses))]
+fn some_addresses<K: Keep>(
+    keep: &K,
+    alloc: Global,
+    m: &[u8],
+    p: usize,
+) -> Reached<Vec<Address<K::Bytes>>>
+    requires inside { p ≤ length m.now }
+    requires serves { K.serves keep.now m.now }
+    ensures steps { GivesAt (λ x. map (address_seen (K.bytes_said m.now)) x.items) m.now result (step envelopes.some_addresses (drop p m.now)) }
+    ensures ahead { Ahead m.now p result }
+    ensures rests { RestsOn (λ n x. map (address_seen (K.bytes_said n)) x.items) result }
+{
+    let (mut q, first) = listed_address(m, p)?;
+    let mut items = list_of_one(alloc, kept_address(keep, m, first))?;
+    'addresses: loop {
+        let (after, next) = next_address(m, q)?;
+        match next {
+            None => return Ok((q, items)),
+            Some(address) => {
+                items.push(kept_address(keep, m, address))?;
+                q = after;
+            }
+        }
+    }
+}
+
+/// `NIL`, or addresses in parentheses (RFC 3501, section 9: env-from).
+#[tactic(auto, unfolding(crate::specs::Envelopes::addresses))]
+fn addresses<K: Keep>(
+    keep: &K,
+    alloc: Global,
+    m: &[u8],
+    p: usize,
+) -> Reached<Option<Vec<Address<K::Bytes>>>>
+    requires inside { p ≤ length m.now }
+    requires serves { K.serves keep.now m.now }
+    ensures steps { GivesAt (λ x. addresses_seen (K.bytes_said m.now) x) m.now result (step envelopes.addresses (drop p m.now)) }
+    ensures ahead { Ahead m.now p result }
+    ensures rests { RestsOn (λ n x. addresses_seen (K.bytes_said n) x) result }
+{
+    first!(nil(m, p), _ => None);
+    let (q, _) = tag(b"(", m, p)?;
+    let (q, list) = some_addresses(keep, alloc, m, q)?;
+    let (q, _) = tag(b")", m, q)?;
+    Ok((q, Some(list)))
+}
+
+fn spaced_addresses<K: Keep>(
+    keep: &K,
+    alloc: Global,
+    m: &[u8],
+    p: usize,
+) -> Reached<Option<Vec<Address<K::Bytes>>>>
+    requires inside { p ≤ length m.now }
+    requires serves { K.serves keep.now m.now }
+    ensures steps { GivesAt (λ x. addresses_seen (K.bytes_said m.now) x) m.now result (step (spaced envelopes.addresses) (drop p m.now)) }
+    ensures ahead { Ahead m.now p result }
+    ensures rests { RestsOn (λ n x. addresses_seen (K.bytes_said n) x) result }
+{
+    let (p, _) = tag(b" ", m, p)?;
+    addresses(keep, alloc, m, p)
+}
+
+/// An envelope (RFC 3501, section 9: envelope). It takes memory for its lists of addresses.
+#[tactic(auto, unfolding(crate::specs::Envelopes::envelope, imap_shapes::specs::EnvelopeValues::envelope_seen))]
+pub fn envelope<K: Keep>(keep: &K, alloc: Global, m: &[u8], p: usize) -> Reached<Envelope<K::Bytes>>
+    requires inside { p ≤ length m.now }
+    requires serves { K.serves keep.now m.now }
+    ensures steps { GivesAt (λ x. envelope_seen (K.bytes_said m.now) x) m.now result (step envelopes.envelope (drop p m.now)) }
+    ensures ahead { Ahead m.now p result }
+    ensures rests { RestsOn (λ n x. envelope_seen (K.bytes_said n) x) result }
+{
+    let (p, _) = tag(b"(", m, p)?;
+    let (p, date) = byte_string(m, p)?;
+    let (p, subject) = spaced_byte_string(m, p)?;
+    let (p, from) = spaced_addresses(keep, alloc, m, p)?;
+    let (p, sender) = spaced_addresses(keep, alloc, m, p)?;
+    let (p, reply_to) = spaced_addresses(keep, alloc, m, p)?;
+    let (p, to) = spaced_addresses(keep, alloc, m, p)?;
+    let (p, cc) = spaced_addresses(keep, alloc, m, p)?;
+    let (p, bcc) = spaced_addresses(keep, alloc, m, p)?;
+    let (p, in_reply_to) = spaced_byte_string(m, p)?;
+    let (p, message_id) = spaced_byte_string(m, p)?;
+    let (p, _) = tag(b")", m, p)?;
+    Ok((
+        p,
+        Envelope {
+            date: kept_bytes(keep, m, date),
+            subject: kept_bytes(keep, m, subject),
+            from,
+            sender,
+            reply_to,
+            to,
+            cc,
+            bcc,
+            in_reply_to: kept_bytes(keep, m, in_reply_to),
+            message_id: kept_bytes(keep, m, message_id),
+        },
+    ))
+}

@@ -1,0 +1,106 @@
+//! Strings at a position, each as a byte string or as a text to be decoded. None takes memory.
+
+ghost use Rattle.std.specs.Prelude.{◌≤◌, length, drop};
+ghost use Rattle.imap_grammar.specs.Positions.{ExactlyAt, Ahead, RestsOn};
+ghost use Rattle.imap_grammar.specs.Memory.{NeverFails};
+ghost use Rattle.imap_grammar.specs.Step.{step};
+ghost use Rattle.imap_bytes.specs.Numbers as numbers;
+ghost use Rattle.imap_bytes.specs.Texts as texts;
+ghost use Rattle.imap_envelopes.specs.Envelopes as envelopes;
+ghost use Rattle.imap_envelopes.specs.Envelopes.{spaced};
+ghost use Rattle.imap_shapes.specs.Spans.{text_in};
+ghost use Rattle.imap_envelopes.specs.Spanned.{maybe_bytes_in, maybe_text_in};
+
+use crate::at::Reached;
+use imap_bytes::at::numbers::number;
+use imap_bytes::at::strings::{nil, nstring, string};
+use imap_bytes::at::tags::tag;
+use imap_bytes::first;
+use imap_shapes::spans::{Span, SpannedText};
+
+/// An nstring, its bytes as they stand (RFC 3501, section 9: nstring).
+#[tactic(auto, using(crate::proofs::Naming::bytes_seen), unfolding(crate::specs::Envelopes::byte_string))]
+pub fn byte_string(m: &[u8], p: usize) -> Reached<Option<Span>>
+    requires { p ≤ length m.now }
+    ensures steps { ExactlyAt (λ x. maybe_bytes_in m.now x) m.now result (step envelopes.byte_string (drop p m.now)) }
+    ensures ahead { Ahead m.now p result }
+    ensures rests { RestsOn maybe_bytes_in result }
+    ensures no_failure { NeverFails result }
+{
+    let (q, bytes) = nstring(m, p)?;
+    Ok((q, bytes))
+}
+
+/// The same behind a space.
+pub fn spaced_byte_string(m: &[u8], p: usize) -> Reached<Option<Span>>
+    requires { p ≤ length m.now }
+    ensures steps { ExactlyAt (λ x. maybe_bytes_in m.now x) m.now result (step (spaced envelopes.byte_string) (drop p m.now)) }
+    ensures ahead { Ahead m.now p result }
+    ensures rests { RestsOn maybe_bytes_in result }
+    ensures no_failure { NeverFails result }
+{
+    let (p, _) = tag(b" ", m, p)?;
+    byte_string(m, p)
+}
+
+/// A string, to be decoded (RFC 3501, section 9: string).
+#[tactic(auto, unfolding(imap_bytes::specs::Texts::string_utf8))]
+pub fn string_text(m: &[u8], p: usize) -> Reached<SpannedText>
+    requires { p ≤ length m.now }
+    ensures steps { ExactlyAt (λ x. text_in m.now x) m.now result (step texts.string_utf8 (drop p m.now)) }
+    ensures ahead { Ahead m.now p result }
+    ensures rests { RestsOn text_in result }
+    ensures no_failure { NeverFails result }
+{
+    let (q, content) = string(m, p)?;
+    Ok((q, SpannedText::Part(content)))
+}
+
+/// The same behind a space.
+pub fn spaced_string_text(m: &[u8], p: usize) -> Reached<SpannedText>
+    requires { p ≤ length m.now }
+    ensures steps { ExactlyAt (λ x. text_in m.now x) m.now result (step (spaced texts.string_utf8) (drop p m.now)) }
+    ensures ahead { Ahead m.now p result }
+    ensures rests { RestsOn text_in result }
+    ensures no_failure { NeverFails result }
+{
+    let (p, _) = tag(b" ", m, p)?;
+    string_text(m, p)
+}
+
+/// An nstring, to be decoded (RFC 3501, section 9: nstring).
+#[tactic(auto, unfolding(imap_bytes::specs::Texts::nstring_utf8))]
+pub fn nstring_text(m: &[u8], p: usize) -> Reached<Option<SpannedText>>
+    requires { p ≤ length m.now }
+    ensures steps { ExactlyAt (λ x. maybe_text_in m.now x) m.now result (step texts.nstring_utf8 (drop p m.now)) }
+    ensures ahead { Ahead m.now p result }
+    ensures rests { RestsOn maybe_text_in result }
+    ensures no_failure { NeverFails result }
+{
+    first!(nil(m, p), _ => None);
+    let (q, text) = string_text(m, p)?;
+    Ok((q, Some(text)))
+}
+
+/// The same behind a space.
+pub fn spaced_nstring_text(m: &[u8], p: usize) -> Reached<Option<SpannedText>>
+    requires { p ≤ length m.now }
+    ensures steps { ExactlyAt (λ x. maybe_text_in m.now x) m.now result (step (spaced texts.nstring_utf8) (drop p m.now)) }
+    ensures ahead { Ahead m.now p result }
+    ensures rests { RestsOn maybe_text_in result }
+    ensures no_failure { NeverFails result }
+{
+    let (p, _) = tag(b" ", m, p)?;
+    nstring_text(m, p)
+}
+
+/// A number behind a space (RFC 3501, section 9: number).
+pub fn spaced_number(m: &[u8], p: usize) -> Reached<u32>
+    requires { p ≤ length m.now }
+    ensures steps { ExactlyAt (λ x. x) m.now result (step (spaced numbers.number) (drop p m.now)) }
+    ensures ahead { Ahead m.now p result }
+    ensures no_failure { NeverFails result }
+{
+    let (p, _) = tag(b" ", m, p)?;
+    number(m, p)
+}

@@ -1,0 +1,96 @@
+//! What is kept of a string.
+
+ghost use Rattle.std.specs.Prelude.{◌≡◌, IfOk};
+ghost use Rattle.imap_grammar.specs.Text.{Bytes, Text, text_of};
+ghost use Rattle.imap_shapes.specs.Spans.{bytes_of, bytes_in, text_in};
+ghost use Rattle.imap_envelopes.specs.Keeping.{Says};
+
+use imap_bytes::texts::decode;
+use imap_shapes::spans::{Span, SpannedText};
+use std::alloc::{AllocError, Global};
+use std::borrow::{CowSlice, CowStr};
+
+/// What a reader keeps of the strings that it finds in a message, so that one reader serves for positions and for values.
+pub trait Keep {
+    /// What is kept of a byte string.
+    type Bytes: Drop;
+    /// What is kept of a text.
+    type Text: Drop;
+
+    /// It keeps strings of this message.
+    ghost serves: { Self → Bytes → Type 0 };
+
+    /// What a byte string that is kept says, where it is looked up in this message.
+    ghost bytes_said: { Bytes → Self.Bytes → Text };
+
+    /// The same of a text.
+    ghost text_said: { Bytes → Self.Text → Text };
+
+    /// Keeps a byte string. No memory.
+    fn bytes(&self, m: &[u8], span: Span) -> Self::Bytes
+        requires { serves self.now m.now }
+        ensures { Says bytes_in bytes_said m.now span result };
+
+    /// Keeps a text. It may take memory; `Err` where there is none.
+    fn text(&self, m: &[u8], text: SpannedText) -> Result<Self::Text, AllocError>
+        requires { serves self.now m.now }
+        ensures { IfOk result (Says text_in text_said m.now text) };
+}
+
+/// Their positions, which are looked up in any message.
+#[derive(Drop)]
+pub struct Positions;
+
+impl Keep for Positions {
+    type Bytes = Span;
+
+    type Text = SpannedText;
+
+    ghost serves = { λ k m. Unit {0} };
+
+    ghost bytes_said = { bytes_in };
+
+    ghost text_said = { text_in };
+
+    fn bytes(&self, _m: &[u8], span: Span) -> Span {
+        span
+    }
+
+    fn text(&self, _m: &[u8], text: SpannedText) -> Result<SpannedText, AllocError> {
+        Ok(text)
+    }
+}
+
+/// What these name in the message that is read: byte strings borrowed, and texts where their bytes are UTF-8.
+#[derive(Drop)]
+pub struct Named<'a> {
+    pub alloc: Global,
+    pub m: &'a [u8],
+}
+
+impl<'a> Keep for Named<'a> {
+    type Bytes = CowSlice<'a, u8>;
+
+    type Text = CowStr<'a>;
+
+    ghost serves = { λ k m. k.m.now ≡ m };
+
+    ghost bytes_said = { λ m t. bytes_of t };
+
+    ghost text_said = { λ m t. text_of t };
+
+    // What it gives is borrowed from the message that it holds, so that it may outlive the loan of m.
+    fn bytes(&self, _m: &[u8], span: Span) -> CowSlice<'a, u8> {
+        CowSlice::Borrowed(span.part(self.m))
+    }
+
+    fn text(&self, _m: &[u8], text: SpannedText) -> Result<CowStr<'a>, AllocError> {
+        match text {
+            SpannedText::Part(span) => decode(self.alloc, span.part(self.m)),
+            SpannedText::Text => Ok(CowStr::Borrowed("TEXT")),
+            SpannedText::Message => Ok(CowStr::Borrowed("MESSAGE")),
+            SpannedText::Rfc822 => Ok(CowStr::Borrowed("RFC822")),
+            SpannedText::Multipart => Ok(CowStr::Borrowed("MULTIPART")),
+        }
+    }
+}

@@ -1,0 +1,87 @@
+//! What is kept of small records of strings.
+
+ghost use Rattle.std.specs.Prelude.{IfOk};
+ghost use Rattle.std.specs.Option.{option_map};
+ghost use Rattle.imap_shapes.specs.Spans.{bytes_in, text_in};
+ghost use Rattle.imap_shapes.specs.EnvelopeValues.{address_seen};
+ghost use Rattle.imap_shapes.specs.FieldValues.{pair_seen, encoding_seen};
+ghost use Rattle.imap_envelopes.specs.Keeping.{Says};
+
+use crate::keep::Keep;
+use imap_shapes::shapes::envelopes::Address;
+use imap_shapes::shapes::fields::ContentEncoding;
+use imap_shapes::spans::{Span, SpannedText};
+use std::alloc::AllocError;
+
+/// Keeps a byte string, if there is one.
+pub fn kept_bytes<K: Keep>(keep: &K, m: &[u8], bytes: Option<Span>) -> Option<K::Bytes>
+    requires { K.serves keep.now m.now }
+    ensures { Says (λ n x. option_map (bytes_in n) x) (λ n x. option_map (K.bytes_said n) x) m.now bytes result }
+{
+    match bytes {
+        None => None,
+        Some(span) => Some(keep.bytes(m, span)),
+    }
+}
+
+/// Keeps an address.
+pub fn kept_address<K: Keep>(keep: &K, m: &[u8], address: Address<Span>) -> Address<K::Bytes>
+    requires { K.serves keep.now m.now }
+    ensures { Says (λ n x. address_seen (bytes_in n) x) (λ n x. address_seen (K.bytes_said n) x) m.now address result }
+{
+    Address {
+        name: kept_bytes(keep, m, address.name),
+        adl: kept_bytes(keep, m, address.adl),
+        mailbox: kept_bytes(keep, m, address.mailbox),
+        host: kept_bytes(keep, m, address.host),
+    }
+}
+
+/// Keeps a text, if there is one.
+pub fn kept_text<K: Keep>(
+    keep: &K,
+    m: &[u8],
+    text: Option<SpannedText>,
+) -> Result<Option<K::Text>, AllocError>
+    requires { K.serves keep.now m.now }
+    ensures { IfOk result (Says (λ n x. option_map (text_in n) x) (λ n x. option_map (K.text_said n) x) m.now text) }
+{
+    match text {
+        None => Ok(None),
+        Some(text) => Ok(Some(keep.text(m, text)?)),
+    }
+}
+
+/// Keeps a parameter: its name and its value.
+pub fn kept_pair<K: Keep>(
+    keep: &K,
+    m: &[u8],
+    pair: (SpannedText, SpannedText),
+) -> Result<(K::Text, K::Text), AllocError>
+    requires { K.serves keep.now m.now }
+    ensures { IfOk result (Says (λ n x. pair_seen (text_in n) x) (λ n x. pair_seen (K.text_said n) x) m.now pair) }
+{
+    let (name, value) = pair;
+    let name = keep.text(m, name)?;
+    let value = keep.text(m, value)?;
+    Ok((name, value))
+}
+
+/// Keeps an encoding.
+pub fn kept_encoding<K: Keep>(
+    keep: &K,
+    m: &[u8],
+    encoding: ContentEncoding<SpannedText>,
+) -> Result<ContentEncoding<K::Text>, AllocError>
+    requires { K.serves keep.now m.now }
+    ensures { IfOk result (Says (λ n x. encoding_seen (text_in n) x) (λ n x. encoding_seen (K.text_said n) x) m.now encoding) }
+{
+    Ok(match encoding {
+        ContentEncoding::SevenBit => ContentEncoding::SevenBit,
+        ContentEncoding::EightBit => ContentEncoding::EightBit,
+        ContentEncoding::Binary => ContentEncoding::Binary,
+        ContentEncoding::Base64 => ContentEncoding::Base64,
+        ContentEncoding::QuotedPrintable => ContentEncoding::QuotedPrintable,
+        ContentEncoding::Other(text) => ContentEncoding::Other(keep.text(m, text)?),
+    })
+}

@@ -1,0 +1,9 @@
+//! Strings of a message as a reader keeps them, and envelopes: their rules, and readers at a position and of slices.
+#![tactic(auto)]
+
+pub mod at;
+pub mod keep;
+pub mod kept;
+pub mod readers;
+
+pub use keep::{Keep, Named, Positions};

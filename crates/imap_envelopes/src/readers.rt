@@ -1,0 +1,37 @@
+//! Envelopes.
+
+ghost use Rattle.imap_grammar.specs.Answer.{Answers, Exactly, Gives};
+ghost use Rattle.imap_grammar.specs.Memory.{NeverFails};
+ghost use Rattle.imap_grammar.specs.Step.{step};
+ghost use Rattle.imap_envelopes.specs.Envelopes as envelopes;
+ghost use Rattle.imap_shapes.specs.EnvelopeValues.{address_seen, envelope_seen};
+ghost use Rattle.imap_shapes.specs.Spans.{bytes_of};
+
+use crate::{Named, at};
+use imap_bytes::IResult;
+use imap_bytes::at::span::rest;
+use imap_shapes::{Address, Envelope};
+use std::alloc::Global;
+
+/// An address: four nstrings in parentheses (RFC 3501, section 9: address). Its byte strings are borrowed. No memory.
+#[tactic(auto, using(imap_grammar::proofs::Agreement::exact_answered))]
+pub fn address(i: &[u8]) -> IResult<&[u8], Address<'_>>
+    ensures steps { Exactly (λ x. address_seen bytes_of x) result (step envelopes.address i.now) }
+    ensures answer { Answers envelopes.address (λ x. address_seen bytes_of x) i.now result }
+    ensures no_failure { NeverFails result }
+{
+    let (q, spans) = at::envelopes::address(i, 0)?;
+    Ok((rest(i, q), spans.value(i)))
+}
+
+/// An envelope: its ten fields in parentheses (RFC 3501, section 9: envelope). Its byte strings are borrowed.
+///
+/// It takes memory for the lists of addresses.
+#[tactic(auto, using(imap_grammar::proofs::Agreement::answered))]
+pub fn envelope(alloc: Global, i: &[u8]) -> IResult<&[u8], Envelope<'_>>
+    ensures steps { Gives (λ x. envelope_seen bytes_of x) result (step envelopes.envelope i.now) }
+    ensures answer { Answers envelopes.envelope (λ x. envelope_seen bytes_of x) i.now result }
+{
+    let (q, envelope) = at::envelopes::envelope(&Named { alloc, m: i }, alloc, i, 0)?;
+    Ok((rest(i, q), envelope))
+}

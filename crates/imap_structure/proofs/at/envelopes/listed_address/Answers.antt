@@ -1,6 +1,0 @@
-use Rattle.std.proofs.Common.{arith}
-use Rattle.imap_grammar.proofs.Positions.{rests_more}
-use Rattle.imap_structure.proofs.at.envelopes.listed_address.Goals as goal
-
-pub returns-clause-rests : goal.returns-clause-rests
-returns-clause-rests c = rests_more _ (omega (arith, c.in-Ok-first.ensures.inside)) c.in_ok-q.ensures.rests

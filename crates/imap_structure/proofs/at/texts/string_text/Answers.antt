@@ -1,5 +1,0 @@
-use Rattle.imap_structure.proofs.Naming.{part_rests}
-use Rattle.imap_structure.proofs.at.texts.string_text.Goals as goal
-
-pub returns-clause-rests : goal.returns-clause-rests
-returns-clause-rests c = part_rests _ _ c.in_ok-q.ensures.inside.0.1 c.in_ok-q.ensures.inside.0.2
