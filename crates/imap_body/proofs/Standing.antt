@@ -24,28 +24,28 @@ abbrev answered : {V : Type 0} → Bytes → V → Step V
 answered rest v = Ok (rest, v)
 
 -- what was read from the start of what is behind p
-pub attribute_named : {S B : Type 0} (text : Bytes → S → Text) (said : Bytes → B → Text) (m from : Bytes) (p size : ℕ) (parts : AttributeKept S B) → from ≡ drop p m → step attribute from ≡ Ok (drop size from, parts_said text said from parts) → Rests (λ n x. parts_said text said n x) size parts
-    → step attribute (drop p m) ≡ Ok (drop (p + size) m, parts_said text said (between m p (p + size)) parts)
-attribute_named text said m from p size parts is reads rests =
+pub attribute_named : {S B : Type 0} (text : Bytes → S → Text) (bytes : Bytes → B → Text) (m from : Bytes) (p size : ℕ) (parts : AttributeKept S B) → from ≡ drop p m → step attribute from ≡ Ok (drop size from, parts_said text bytes from parts) → Rests (λ n x. parts_said text bytes n x) size parts
+    → step attribute (drop p m) ≡ Ok (drop (p + size) m, parts_said text bytes (between m p (p + size)) parts)
+attribute_named text bytes m from p size parts is reads rests =
     let s = stepped m p size in
     let front : take size from ≡ between m p (p + size) = ap (take size) is ∙ s.1 in
     let left : drop size from ≡ drop (p + size) m = ap (drop size) is ∙ s.0 in
-    let named : parts_said text said from parts ≡ parts_said text said (between m p (p + size)) parts = sym (rests.same from) ∙ ap (λ n. parts_said text said n parts) front in
-    ap (step attribute) (sym is) ∙ reads ∙ ap (λ k. answered k (parts_said text said from parts)) left ∙ ap (answered (drop (p + size) m)) named
+    let named : parts_said text bytes from parts ≡ parts_said text bytes (between m p (p + size)) parts = sym (rests.same from) ∙ ap (λ n. parts_said text bytes n parts) front in
+    ap (step attribute) (sym is) ∙ reads ∙ ap (λ k. answered k (parts_said text bytes from parts)) left ∙ ap (answered (drop (p + size) m)) named
 
 -- what one names rests on the bytes before any place that it ends by
 attribute_rests : (s : SpannedAttribute SpannedText Span) (q : ℕ) → s.span.start ≤ s.span.end → s.span.end ≤ q → Rests attribute_in q s
 attribute_rests s q ordered le = record { same = λ m. ap (λ n. parts_in n s.parts) (named_rests s.span q m ordered le) }
 
 -- one that was read at k up to q stands there
-pub ends_there : {S B : Type 0} (text : Bytes → S → Text) (said : Bytes → B → Text) (m : Bytes) (k q : ℕ) (s : SpannedAttribute S B) → step attribute (drop k m) ≡ Ok (drop q m, attribute_said text said m s) → k ≤ q → s.span.start ≡ k → s.span.end ≡ q → EndsAt text said m k q s
-ends_there text said m k q s steps ahead start end =
-    let there = (agrees attribute (drop k m)).yielded (attribute_said text said m s) (drop q m) steps in
-    (record { start = start; ordered = omega (arith, ahead, end); within = omega (arith, end); is = subst (λ n. (meaning attribute).yields (drop k m) (attribute_said text said m s) (drop n m)) (sym end) there }, end)
+pub ends_there : {S B : Type 0} (text : Bytes → S → Text) (bytes : Bytes → B → Text) (m : Bytes) (k q : ℕ) (s : SpannedAttribute S B) → step attribute (drop k m) ≡ Ok (drop q m, attribute_said text bytes m s) → k ≤ q → s.span.start ≡ k → s.span.end ≡ q → EndsAt text bytes m k q s
+ends_there text bytes m k q s steps ahead start end =
+    let there = (agrees attribute (drop k m)).yielded (attribute_said text bytes m s) (drop q m) steps in
+    (record { start = start; ordered = omega (arith, ahead, end); within = omega (arith, end); is = subst (λ n. (meaning attribute).yields (drop k m) (attribute_said text bytes m s) (drop n m)) (sym end) there }, end)
 
 -- a place further on allows as much
-ends_later : {S B : Type 0} (text : Bytes → S → Text) (said : Bytes → B → Text) (m : Bytes) (p q r : ℕ) (s : SpannedAttribute S B) → StandsAt text said m p q s → q ≤ r → StandsAt text said m p r s
-ends_later text said m p q r s h le = record { start = h.start; ordered = h.ordered; within = omega (arith, h.within, le); is = h.is }
+ends_later : {S B : Type 0} (text : Bytes → S → Text) (bytes : Bytes → B → Text) (m : Bytes) (p q r : ℕ) (s : SpannedAttribute S B) → StandsAt text bytes m p q s → q ≤ r → StandsAt text bytes m p r s
+ends_later text bytes m p q r s h le = record { start = h.start; ordered = h.ordered; within = omega (arith, h.within, le); is = h.is }
 
 -- ---- a byte in front
 
@@ -70,27 +70,27 @@ behind_byte b m v p q reads within =
 
 -- they stand one behind another with a byte between, the first from p on, and the last ends at q
 abbrev pub UpTo : {S B : Type 0} → (Bytes → S → Text) → (Bytes → B → Text) → Bytes → ℕ → ℕ → List (SpannedAttribute S B) → Type 0
-UpTo text said m p q [] = p ≡ q + 1
-UpTo text said m p q (s ∷ rest) = StandsAt text said m p s.span.end s × UpTo text said m (s.span.end + 1) q rest
+UpTo text bytes m p q [] = p ≡ q + 1
+UpTo text bytes m p q (s ∷ rest) = StandsAt text bytes m p s.span.end s × UpTo text bytes m (s.span.end + 1) q rest
 
-pub up_to_one : {S B : Type 0} (text : Bytes → S → Text) (said : Bytes → B → Text) (m : Bytes) (p q : ℕ) (s : SpannedAttribute S B) → EndsAt text said m p q s → UpTo text said m p q (s ∷ [])
-up_to_one text said m p q s h = (subst (λ k. StandsAt text said m p k s) (sym h.1) h.0, ap (λ k. k + 1) h.1)
+pub up_to_one : {S B : Type 0} (text : Bytes → S → Text) (bytes : Bytes → B → Text) (m : Bytes) (p q : ℕ) (s : SpannedAttribute S B) → EndsAt text bytes m p q s → UpTo text bytes m p q (s ∷ [])
+up_to_one text bytes m p q s h = (subst (λ k. StandsAt text bytes m p k s) (sym h.1) h.0, ap (λ k. k + 1) h.1)
 
-pub up_to_more : {S B : Type 0} (text : Bytes → S → Text) (said : Bytes → B → Text) (m : Bytes) (p q r : ℕ) (read : List (SpannedAttribute S B)) (s : SpannedAttribute S B) → UpTo text said m p q read → EndsAt text said m (q + 1) r s → UpTo text said m p r (read ++ s ∷ [])
-up_to_more text said m p q r [] s h here = up_to_one text said m p r s (subst (λ k. EndsAt text said m k r s) (sym h) here)
-up_to_more text said m p q r (x ∷ read) s h here = (h.0, up_to_more text said m (x.span.end + 1) q r read s h.1 here)
+pub up_to_more : {S B : Type 0} (text : Bytes → S → Text) (bytes : Bytes → B → Text) (m : Bytes) (p q r : ℕ) (read : List (SpannedAttribute S B)) (s : SpannedAttribute S B) → UpTo text bytes m p q read → EndsAt text bytes m (q + 1) r s → UpTo text bytes m p r (read ++ s ∷ [])
+up_to_more text bytes m p q r [] s h here = up_to_one text bytes m p r s (subst (λ k. EndsAt text bytes m k r s) (sym h) here)
+up_to_more text bytes m p q r (x ∷ read) s h here = (h.0, up_to_more text bytes m (x.span.end + 1) q r read s h.1 here)
 
-begins_before : {S B : Type 0} (text : Bytes → S → Text) (said : Bytes → B → Text) (m : Bytes) (p q : ℕ) (read : List (SpannedAttribute S B)) → UpTo text said m p q read → p ≤ q + 1
-begins_before text said m p q [] h = omega (arith, h)
-begins_before text said m p q (s ∷ read) h = omega (arith, h.0.ordered, begins_before text said m (s.span.end + 1) q read h.1)
+begins_before : {S B : Type 0} (text : Bytes → S → Text) (bytes : Bytes → B → Text) (m : Bytes) (p q : ℕ) (read : List (SpannedAttribute S B)) → UpTo text bytes m p q read → p ≤ q + 1
+begins_before text bytes m p q [] h = omega (arith, h)
+begins_before text bytes m p q (s ∷ read) h = omega (arith, h.0.ordered, begins_before text bytes m (s.span.end + 1) q read h.1)
 
-pub in_turn : {S B : Type 0} (text : Bytes → S → Text) (said : Bytes → B → Text) (m : Bytes) (p q r : ℕ) (read : List (SpannedAttribute S B)) → UpTo text said m p q read → q ≤ r → TurnsAt text said m p r read
-in_turn text said m p q r [] h le = tt
-in_turn text said m p q r (s ∷ read) h le = (ends_later text said m p s.span.end r s h.0 (omega (arith, begins_before text said m (s.span.end + 1) q read h.1, le)), in_turn text said m (s.span.end + 1) q r read h.1 le)
+pub in_turn : {S B : Type 0} (text : Bytes → S → Text) (bytes : Bytes → B → Text) (m : Bytes) (p q r : ℕ) (read : List (SpannedAttribute S B)) → UpTo text bytes m p q read → q ≤ r → TurnsAt text bytes m p r read
+in_turn text bytes m p q r [] h le = tt
+in_turn text bytes m p q r (s ∷ read) h le = (ends_later text bytes m p s.span.end r s h.0 (omega (arith, begins_before text bytes m (s.span.end + 1) q read h.1, le)), in_turn text bytes m (s.span.end + 1) q r read h.1 le)
 
-pub in_turn_later : {S B : Type 0} (text : Bytes → S → Text) (said : Bytes → B → Text) (m : Bytes) (p q r : ℕ) (read : List (SpannedAttribute S B)) → TurnsAt text said m p q read → q ≤ r → TurnsAt text said m p r read
-in_turn_later text said m p q r [] h le = tt
-in_turn_later text said m p q r (s ∷ read) h le = (ends_later text said m p q r s h.0 le, in_turn_later text said m (s.span.end + 1) q r read h.1 le)
+pub in_turn_later : {S B : Type 0} (text : Bytes → S → Text) (bytes : Bytes → B → Text) (m : Bytes) (p q r : ℕ) (read : List (SpannedAttribute S B)) → TurnsAt text bytes m p q read → q ≤ r → TurnsAt text bytes m p r read
+in_turn_later text bytes m p q r [] h le = tt
+in_turn_later text bytes m p q r (s ∷ read) h le = (ends_later text bytes m p q r s h.0 le, in_turn_later text bytes m (s.span.end + 1) q r read h.1 le)
 
 -- what those in turn name rests on the bytes before the place that they end by
 pub in_turn_rests : (m : Bytes) (p q : ℕ) (read : List (SpannedAttribute SpannedText Span)) → InTurn m p q read → Rests (λ n xs. map (attribute_in n) xs) q read

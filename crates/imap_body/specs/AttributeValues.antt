@@ -69,7 +69,7 @@ AttributeSpans = AttributeKept SpannedText Span
 
 -- what it says in m, where its texts and its byte strings are said so
 abbrev pub parts_said : {S B : Type 0} → (Bytes → S → Text) → (Bytes → B → Text) → Bytes → AttributeKept S B → AttributeValue
-parts_said text said m x = attribute_seen (text_in m) (said m) (λ b. boxed_seen (text m) (said m) b) x
+parts_said text bytes m x = attribute_seen (text_in m) (bytes m) (λ b. boxed_seen (text m) (bytes m) b) x
 
 -- what the spans of an attribute name in m
 abbrev pub parts_in : Bytes → AttributeSpans → AttributeValue

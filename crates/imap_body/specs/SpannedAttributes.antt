@@ -19,23 +19,23 @@ use Rattle.imap_body.specs.Attributes.{attribute}
 
 -- What it says in m, its texts and its byte strings being said so: its positions count from where its span starts, and name bytes of the span alone.
 abbrev pub attribute_said : {S B : Type 0} → (Bytes → S → Text) → (Bytes → B → Text) → Bytes → SpannedAttribute S B → AttributeValue
-attribute_said text said m s = parts_said text said (named_in m s.span) s.parts
+attribute_said text bytes m s = parts_said text bytes (named_in m s.span) s.parts
 
 -- What it names in m.
 abbrev pub attribute_in : Bytes → SpannedAttribute SpannedText Span → AttributeValue
 attribute_in m s = attribute_said text_in bytes_in m s
 
 -- It stands in m from p on and ends by q: what is read from p on is what it says, and leaves what is behind its span.
-pub record StandsAt {S B : Type 0} (text : Bytes → S → Text) (said : Bytes → B → Text) (m : Bytes) (p q : ℕ) (s : SpannedAttribute S B) : Type 0 where
+pub record StandsAt {S B : Type 0} (text : Bytes → S → Text) (bytes : Bytes → B → Text) (m : Bytes) (p q : ℕ) (s : SpannedAttribute S B) : Type 0 where
   pub start : s.span.start ≡ p
   pub ordered : p ≤ s.span.end
   pub within : s.span.end ≤ q
-  pub is : (meaning attribute).yields (drop p m) (attribute_said text said m s) (drop s.span.end m)
+  pub is : (meaning attribute).yields (drop p m) (attribute_said text bytes m s) (drop s.span.end m)
 
 -- They stand one behind another with a byte between, the first from p on, and end by q.
 abbrev pub TurnsAt : {S B : Type 0} → (Bytes → S → Text) → (Bytes → B → Text) → Bytes → ℕ → ℕ → List (SpannedAttribute S B) → Type 0
-TurnsAt text said m p q [] = Unit {0}
-TurnsAt text said m p q (s ∷ rest) = StandsAt text said m p q s × TurnsAt text said m (s.span.end + 1) q rest
+TurnsAt text bytes m p q [] = Unit {0}
+TurnsAt text bytes m p q (s ∷ rest) = StandsAt text bytes m p q s × TurnsAt text bytes m (s.span.end + 1) q rest
 
 -- The same of spans.
 abbrev pub InTurn : Bytes → ℕ → ℕ → List (SpannedAttribute SpannedText Span) → Type 0
@@ -43,12 +43,12 @@ InTurn m p q xs = TurnsAt text_in bytes_in m p q xs
 
 -- It stands there, and ends at q.
 abbrev pub EndsAt : {S B : Type 0} → (Bytes → S → Text) → (Bytes → B → Text) → Bytes → ℕ → ℕ → SpannedAttribute S B → Type 0
-EndsAt text said m p q s = StandsAt text said m p q s × (s.span.end ≡ q)
+EndsAt text bytes m p q s = StandsAt text bytes m p q s × (s.span.end ≡ q)
 
 -- What a reader keeps of the attributes that it read from p on, of which s is the rule's answer: they stand in turn, and end by the position that was reached.
 abbrev pub KeepsAt : {S B K : Type 0} → (Bytes → S → Text) → (Bytes → B → Text) → (List (SpannedAttribute S B) → List K → Type 0) → Bytes → ℕ → Reached (Vec K Global) → Step (List AttributeValue) → Type 0
-KeepsAt {S} {B} text said keeps m p (Ok x) s = (read : List (SpannedAttribute S B)) × keeps read x.1.items × (s ≡ Ok (drop x.0 m, map (attribute_said text said m) read)) × TurnsAt text said m p x.0 read
-KeepsAt text said keeps m p (Err e) s = Stops e s
+KeepsAt {S} {B} text bytes keeps m p (Ok x) s = (read : List (SpannedAttribute S B)) × keeps read x.1.items × (s ≡ Ok (drop x.0 m, map (attribute_said text bytes m) read)) × TurnsAt text bytes m p x.0 read
+KeepsAt text bytes keeps m p (Err e) s = Stops e s
 
 -- ---- the positions themselves, whatever message they are of: a span is seen as a text of its two numbers
 

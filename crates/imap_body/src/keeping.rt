@@ -102,6 +102,7 @@ impl<'a> KeepAttribute for Named<'a> {
         Vec::with_capacity(alloc, ROOM)
     }
 
+    #[inline(always)]
     fn add(
         &self,
         alloc: Global,

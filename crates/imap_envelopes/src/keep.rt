@@ -84,6 +84,7 @@ impl<'a> Keep for Named<'a> {
         CowSlice::Borrowed(span.part(self.m))
     }
 
+    #[inline(always)]
     fn text(&self, _m: &[u8], text: SpannedText) -> Result<CowStr<'a>, AllocError> {
         match text {
             SpannedText::Part(span) => decode(self.alloc, span.part(self.m)),

@@ -38,6 +38,7 @@ pub fn kept_address<K: Keep>(keep: &K, m: &[u8], address: Address<Span>) -> Addr
 }
 
 /// Keeps a text, if there is one.
+#[inline(always)]
 pub fn kept_text<K: Keep>(
     keep: &K,
     m: &[u8],
@@ -53,6 +54,7 @@ pub fn kept_text<K: Keep>(
 }
 
 /// Keeps a parameter: its name and its value.
+#[inline(always)]
 pub fn kept_pair<K: Keep>(
     keep: &K,
     m: &[u8],
@@ -68,6 +70,7 @@ pub fn kept_pair<K: Keep>(
 }
 
 /// Keeps an encoding.
+#[inline(always)]
 pub fn kept_encoding<K: Keep>(
     keep: &K,
     m: &[u8],

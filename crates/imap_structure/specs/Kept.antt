@@ -1,10 +1,32 @@
--- What a structure that is kept says.
+-- What a structure that is kept says, and how a reader puts one behind others.
+use Rattle.std.specs.Prelude.{◌≡◌, ℕ, List, [], ◌∷◌, ◌++◌, drop, Result, Ok, Err}
 use Rattle.std.specs.declared.alloc.Global.{Global}
 use Rattle.std.specs.declared.boxed.Box.{Box}
-use Rattle.imap_grammar.specs.Text.{Text}
+use Rattle.imap_grammar.specs.declared.answer.Err.{Err as Fault}
+use Rattle.imap_grammar.specs.Text.{Bytes, Text}
+use Rattle.imap_grammar.specs.Answer.{Stops}
+use Rattle.imap_grammar.specs.Positions.{Rests}
+use Rattle.imap_grammar.specs.Step.{Step}
 use Rattle.imap_shapes.specs.declared.shapes.bodies.BodyStructure.{BodyStructure}
 use Rattle.imap_shapes.specs.BodyValues.{BodyValue, body_seen}
 
 -- in its box
 abbrev pub boxed_seen : {S B : Type 0} → (S → Text) → (B → Text) → Box (BodyStructure S B) Global → BodyValue
 boxed_seen f g b = body_seen f g b.value
+
+-- Behind the old ones there is one more: what the step yields on m, which rests on the bytes before the position that was reached.
+pub record OneMore {A V : Type 0} (view : Bytes → A → V) (m : Bytes) (old new : List A) (q : ℕ) (s : Step V) : Type 0 where
+  pub one : A
+  pub behind : new ≡ old ++ one ∷ []
+  pub read : s ≡ Ok (drop q m, view m one)
+  pub rests : Rests view q one
+
+-- What the step yields was put behind the old ones, unless memory ran out.
+abbrev pub PutsAt : {A V : Type 0} → (Bytes → A → V) → Bytes → List A → List A → Result ℕ Fault → Step V → Type 0
+PutsAt view m old new (Ok q) s = OneMore view m old new q s
+PutsAt view m old new (Err e) s = Stops e s
+
+-- Where nothing was put there, the old ones are as they were.
+abbrev pub Leaves : {A : Type 0} → List A → List A → Result ℕ Fault → Type 0
+Leaves old new (Ok q) = Unit {0}
+Leaves old new (Err e) = new ≡ old

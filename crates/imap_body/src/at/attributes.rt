@@ -1,4 +1,5 @@
-//! Attributes of a message at a position: their texts as spans, and what is kept of their byte strings.
+//! Attributes of a message at a position: what is kept of their byte strings, and of the texts of a body structure. Their own
+//! texts, which are short (flags, labels, a date, identifiers), are spans.
 
 ghost use Rattle.std.specs.Prelude.{◌≡◌, ◌≤◌, ◌<◌, length, drop, position, IfSome};
 ghost use Rattle.imap_grammar.specs.Meaning.{outside};
@@ -482,7 +483,8 @@ fn skipped_value(m: &[u8], p: usize) -> Reached<()>
     Ok((p, ()))
 }
 
-// Any other attribute: its name, and a value that is skipped.
+// Any other attribute: its name, and a value that is skipped. A call of its own: it is rare, and each reader that tells
+// attributes apart would clear the room that it needs.
 #[tactic(auto, unfolding(crate::specs::Attributes::msg_att_unknown))]
 #[inline(never)]
 fn msg_att_unknown<K: Keep>(m: &[u8], p: usize) -> Reached<AttributeKept<K::Text, K::Bytes>>
@@ -638,7 +640,8 @@ fn attribute_of_x<K: Keep>(
 
 /// An attribute (RFC 3501, section 9: msg-att): of the alternatives those are tried, in order, that may start with the first byte.
 ///
-/// It takes memory for lists, envelopes and body structures.
+/// It takes memory for lists, envelopes and body structures; and where values are kept of their strings, for texts of a body
+/// structure that are no UTF-8.
 #[tactic(auto, using(crate::proofs::AttributeFirstBytes::attribute_none, crate::proofs::AttributeFirstBytes::attribute_is_of_b, crate::proofs::AttributeFirstBytes::attribute_is_of_e, crate::proofs::AttributeFirstBytes::attribute_is_of_f, crate::proofs::AttributeFirstBytes::attribute_is_of_i, crate::proofs::AttributeFirstBytes::attribute_is_of_m, crate::proofs::AttributeFirstBytes::attribute_is_of_r, crate::proofs::AttributeFirstBytes::attribute_is_of_t, crate::proofs::AttributeFirstBytes::attribute_is_of_u, crate::proofs::AttributeFirstBytes::attribute_is_of_x, crate::proofs::AttributeFirstBytes::attribute_other))]
 pub fn attribute<K: Keep>(
     keep: &K,

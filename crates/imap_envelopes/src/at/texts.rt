@@ -69,6 +69,7 @@ pub fn spaced_string_text(m: &[u8], p: usize) -> Reached<SpannedText>
 }
 
 /// An nstring, to be decoded (RFC 3501, section 9: nstring).
+#[inline(always)]
 #[tactic(auto, unfolding(imap_bytes::specs::Texts::nstring_utf8))]
 pub fn nstring_text(m: &[u8], p: usize) -> Reached<Option<SpannedText>>
     requires { p ≤ length m.now }

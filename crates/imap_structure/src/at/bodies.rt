@@ -1,14 +1,12 @@
 //! Structures of bodies at a position.
 
-ghost use Rattle.std.specs.Prelude.{◌≡◌, ◌≤◌, IfOk, length, drop, map};
-ghost use Rattle.std.specs.Option.{option_map};
+ghost use Rattle.std.specs.Prelude.{◌≡◌, ◌≤◌, List, [], ◌∷◌, ◌++◌, IfOk, length, drop, map};
 ghost use Rattle.imap_grammar.specs.Positions.{ExactlyAt, GivesAt, Ahead, RestsOn, named_in};
 ghost use Rattle.imap_grammar.specs.Step.{step};
-ghost use Rattle.imap_grammar.specs.Rule.{opt};
 ghost use Rattle.imap_envelopes.specs.Envelopes as envelopes;
 ghost use Rattle.imap_envelopes.specs.Envelopes.{spaced};
 ghost use Rattle.imap_structure.specs.Bodies as bodies;
-ghost use Rattle.imap_structure.specs.Kept.{boxed_seen};
+ghost use Rattle.imap_structure.specs.Kept.{boxed_seen, PutsAt, Leaves};
 ghost use Rattle.imap_shapes.specs.EnvelopeValues.{envelope_seen};
 ghost use Rattle.imap_shapes.specs.BodyValues.{body_seen};
 
@@ -16,11 +14,10 @@ use crate::at::extensions::{body_ext_1part, body_ext_mpart};
 use crate::at::fields::spaced_fields;
 use crate::limits::MAX_BODY_DEPTH;
 use imap_bytes::at::tags::{tag, word};
-use imap_bytes::{Err, Needed, first, maybe};
+use imap_bytes::{Err, Needed, first};
 use imap_envelopes::Keep;
 use imap_envelopes::at::Reached;
 use imap_envelopes::at::envelopes::envelope;
-use imap_envelopes::at::lists::list_of_one;
 use imap_envelopes::at::texts::{spaced_number, spaced_string_text, string_text};
 use imap_shapes::made;
 use imap_shapes::shapes::bodies::{
@@ -30,19 +27,30 @@ use imap_shapes::shapes::envelopes::Envelope;
 use imap_shapes::spans::{Span, SpannedText};
 use std::alloc::{AllocError, Global};
 
-/// A structure as it is kept. Its readers box it where it is made: it is large, and handed on through several calls.
+/// A structure alone. It is boxed, since it is large, and handed on through several calls.
 pub type Boxed<S, B> = Box<BodyStructure<S, B>>;
 
-// A call of its own: `Box::new` gives its value back where there is no memory, and the room that it clears for that
-// would be cleared by each reader that has such a call in it, also where it denies.
+/// Structures. A reader puts the one that it reads behind the others: each call that answers one would copy it.
+pub type Bodies<S, B> = Vec<BodyStructure<S, B>>;
+
+// Drops the last one. It and the next are calls of their own: the room that they clear for a structure would be cleared
+// by each reader that has them in it.
 #[inline(never)]
-fn boxed<S: Drop, B: Drop>(
-    alloc: Global,
-    body: BodyStructure<S, B>,
-) -> Result<Boxed<S, B>, AllocError>
-    ensures { IfOk result (λ b. b.value ≡ body) }
+fn drop_last<T: Drop>(items: &mut Vec<T>)
+    ensures { (others : List T) (last : T) → items.old.items ≡ others ++ last ∷ [] → items.new.items ≡ others }
 {
-    Ok(Box::new(alloc, body)?)
+    drop(items.pop());
+}
+
+// The only one of a list, in a box.
+#[inline(never)]
+fn boxed_only<T: Drop>(alloc: Global, mut items: Vec<T>) -> Result<Box<T>, AllocError>
+    ensures { (only : T) → items.items ≡ only ∷ [] → IfOk result (λ b. b.value ≡ only) }
+{
+    match items.pop() {
+        None => Err(AllocError),
+        Some(item) => Ok(Box::new(alloc, item)?),
+    }
 }
 
 /// A text (RFC 3501, section 9: body-type-text).
@@ -52,45 +60,44 @@ fn body_type_text<K: Keep>(
     alloc: Global,
     m: &[u8],
     p: usize,
-) -> Reached<Boxed<K::Text, K::Bytes>>
+    others: &mut Bodies<K::Text, K::Bytes>,
+) -> Result<usize, Err>
     requires inside { p ≤ length m.now }
     requires serves { K.serves keep.now m.now }
-    ensures steps { GivesAt (λ x. boxed_seen (K.text_said m.now) (K.bytes_said m.now) x) m.now result (step bodies.body_type_text (drop p m.now)) }
-    ensures ahead { Ahead m.now p result }
-    ensures rests { RestsOn (λ n x. boxed_seen (K.text_said n) (K.bytes_said n) x) result }
+    ensures puts { PutsAt (λ n x. body_seen (K.text_said n) (K.bytes_said n) x) m.now others.old.items others.new.items result (step bodies.body_type_text (drop p m.now)) }
+    ensures leaves { Leaves others.old.items others.new.items result }
+    ensures ahead { IfOk result (λ q. (p ≤ q) × (q ≤ length m.now)) }
 {
     let (p, _) = word(b"\"TEXT\"", m, p)?;
+    others.reserve(1)?;
     let (p, subtype) = spaced_string_text(m, p)?;
     let ty = keep.text(m, SpannedText::Text)?;
     let subtype = keep.text(m, subtype)?;
     let (p, fields) = spaced_fields(keep, alloc, m, p)?;
     let (p, lines) = made!(spaced_number(m, p), fields);
     let (p, ext) = made!(body_ext_1part(keep, alloc, m, p), fields);
-    let body = boxed(
-        alloc,
-        BodyStructure::Text {
-            common: BodyContentCommon {
-                ty: ContentType {
-                    ty,
-                    subtype,
-                    params: fields.param,
-                },
-                disposition: ext.disposition,
-                language: ext.language,
-                location: ext.location,
+    others.push_reserved(BodyStructure::Text {
+        common: BodyContentCommon {
+            ty: ContentType {
+                ty,
+                subtype,
+                params: fields.param,
             },
-            other: BodyContentSinglePart {
-                id: fields.id,
-                md5: ext.md5,
-                description: fields.description,
-                transfer_encoding: fields.transfer_encoding,
-                octets: fields.octets,
-            },
-            lines,
-            extension: ext.extension,
+            disposition: ext.disposition,
+            language: ext.language,
+            location: ext.location,
         },
-    )?;
-    Ok((p, body))
+        other: BodyContentSinglePart {
+            id: fields.id,
+            md5: ext.md5,
+            description: fields.description,
+            transfer_encoding: fields.transfer_encoding,
+            octets: fields.octets,
+        },
+        lines,
+        extension: ext.extension,
+    });
+    Ok(p)
 }
 
 /// A single part of any other type (RFC 3501, section 9: body-type-basic).
@@ -100,43 +107,42 @@ fn body_type_basic<K: Keep>(
     alloc: Global,
     m: &[u8],
     p: usize,
-) -> Reached<Boxed<K::Text, K::Bytes>>
+    others: &mut Bodies<K::Text, K::Bytes>,
+) -> Result<usize, Err>
     requires inside { p ≤ length m.now }
     requires serves { K.serves keep.now m.now }
-    ensures steps { GivesAt (λ x. boxed_seen (K.text_said m.now) (K.bytes_said m.now) x) m.now result (step bodies.body_type_basic (drop p m.now)) }
-    ensures ahead { Ahead m.now p result }
-    ensures rests { RestsOn (λ n x. boxed_seen (K.text_said n) (K.bytes_said n) x) result }
+    ensures puts { PutsAt (λ n x. body_seen (K.text_said n) (K.bytes_said n) x) m.now others.old.items others.new.items result (step bodies.body_type_basic (drop p m.now)) }
+    ensures leaves { Leaves others.old.items others.new.items result }
+    ensures ahead { IfOk result (λ q. (p ≤ q) × (q ≤ length m.now)) }
 {
     let (p, ty) = string_text(m, p)?;
     let (p, subtype) = spaced_string_text(m, p)?;
+    others.reserve(1)?;
     let ty = keep.text(m, ty)?;
     let subtype = keep.text(m, subtype)?;
     let (p, fields) = spaced_fields(keep, alloc, m, p)?;
     let (p, ext) = made!(body_ext_1part(keep, alloc, m, p), fields);
-    let body = boxed(
-        alloc,
-        BodyStructure::Basic {
-            common: BodyContentCommon {
-                ty: ContentType {
-                    ty,
-                    subtype,
-                    params: fields.param,
-                },
-                disposition: ext.disposition,
-                language: ext.language,
-                location: ext.location,
+    others.push_reserved(BodyStructure::Basic {
+        common: BodyContentCommon {
+            ty: ContentType {
+                ty,
+                subtype,
+                params: fields.param,
             },
-            other: BodyContentSinglePart {
-                id: fields.id,
-                md5: ext.md5,
-                description: fields.description,
-                transfer_encoding: fields.transfer_encoding,
-                octets: fields.octets,
-            },
-            extension: ext.extension,
+            disposition: ext.disposition,
+            language: ext.language,
+            location: ext.location,
         },
-    )?;
-    Ok((p, body))
+        other: BodyContentSinglePart {
+            id: fields.id,
+            md5: ext.md5,
+            description: fields.description,
+            transfer_encoding: fields.transfer_encoding,
+            octets: fields.octets,
+        },
+        extension: ext.extension,
+    });
+    Ok(p)
 }
 
 fn spaced_envelope<K: Keep>(
@@ -172,17 +178,18 @@ pub fn body<K: Keep>(
     level: u32,
     m: &[u8],
     p: usize,
-) -> Reached<Boxed<K::Text, K::Bytes>>
+    others: &mut Bodies<K::Text, K::Bytes>,
+) -> Result<usize, Err>
     requires inside { p ≤ length m.now }
     requires serves { K.serves keep.now m.now }
-    ensures steps { GivesAt (λ x. boxed_seen (K.text_said m.now) (K.bytes_said m.now) x) m.now result (step (bodies.body level) (drop p m.now)) }
-    ensures ahead { Ahead m.now p result }
-    ensures rests { RestsOn (λ n x. boxed_seen (K.text_said n) (K.bytes_said n) x) result }
+    ensures puts { PutsAt (λ n x. body_seen (K.text_said n) (K.bytes_said n) x) m.now others.old.items others.new.items result (step (bodies.body level) (drop p m.now)) }
+    ensures leaves { Leaves others.old.items others.new.items result }
+    ensures ahead { IfOk result (λ q. (p ≤ q) × (q ≤ length m.now)) }
 {
     if level == 0 {
         return Err(Err::Error);
     }
-    bracketed_body(keep, alloc, level - 1, m, p)
+    bracketed_body(keep, alloc, level - 1, m, p, others)
 }
 
 #[cycle(body)]
@@ -193,17 +200,23 @@ fn bracketed_body<K: Keep>(
     level: u32,
     m: &[u8],
     p: usize,
-) -> Reached<Boxed<K::Text, K::Bytes>>
+    others: &mut Bodies<K::Text, K::Bytes>,
+) -> Result<usize, Err>
     requires inside { p ≤ length m.now }
     requires serves { K.serves keep.now m.now }
-    ensures steps { GivesAt (λ x. boxed_seen (K.text_said m.now) (K.bytes_said m.now) x) m.now result (step (bodies.bracketed_body (bodies.body level)) (drop p m.now)) }
-    ensures ahead { Ahead m.now p result }
-    ensures rests { RestsOn (λ n x. boxed_seen (K.text_said n) (K.bytes_said n) x) result }
+    ensures puts { PutsAt (λ n x. body_seen (K.text_said n) (K.bytes_said n) x) m.now others.old.items others.new.items result (step (bodies.bracketed_body (bodies.body level)) (drop p m.now)) }
+    ensures leaves { Leaves others.old.items others.new.items result }
+    ensures ahead { IfOk result (λ q. (p ≤ q) × (q ≤ length m.now)) }
 {
     let (p, _) = tag(b"(", m, p)?;
-    let (p, content) = body_type(keep, alloc, level, m, p)?;
-    let (p, _) = tag(b")", m, p)?;
-    Ok((p, content))
+    let p = body_type(keep, alloc, level, m, p, others)?;
+    match tag(b")", m, p) {
+        Ok((p, _)) => Ok(p),
+        Err(error) => {
+            drop_last(others);
+            Err(error)
+        }
+    }
 }
 
 // What stands in the parentheses of a body, where the bodies inside have this level.
@@ -215,19 +228,20 @@ fn body_type<K: Keep>(
     level: u32,
     m: &[u8],
     p: usize,
-) -> Reached<Boxed<K::Text, K::Bytes>>
+    others: &mut Bodies<K::Text, K::Bytes>,
+) -> Result<usize, Err>
     requires inside { p ≤ length m.now }
     requires serves { K.serves keep.now m.now }
-    ensures steps { GivesAt (λ x. boxed_seen (K.text_said m.now) (K.bytes_said m.now) x) m.now result (step (bodies.body_type (bodies.body level)) (drop p m.now)) }
-    ensures ahead { Ahead m.now p result }
-    ensures rests { RestsOn (λ n x. boxed_seen (K.text_said n) (K.bytes_said n) x) result }
+    ensures puts { PutsAt (λ n x. body_seen (K.text_said n) (K.bytes_said n) x) m.now others.old.items others.new.items result (step (bodies.body_type (bodies.body level)) (drop p m.now)) }
+    ensures leaves { Leaves others.old.items others.new.items result }
+    ensures ahead { IfOk result (λ q. (p ≤ q) × (q ≤ length m.now)) }
 {
     let (_, i) = m.split_at(p);
     match i.first() {
         None => Err(Err::Incomplete(Needed::Unknown)),
-        Some(b'"') => quoted_type(keep, alloc, level, m, p),
-        Some(b'{') => body_type_basic(keep, alloc, m, p),
-        Some(b'(') => body_type_mpart(keep, alloc, level, m, p),
+        Some(b'"') => quoted_type(keep, alloc, level, m, p, others),
+        Some(b'{') => body_type_basic(keep, alloc, m, p, others),
+        Some(b'(') => body_type_mpart(keep, alloc, level, m, p, others),
         Some(_) => Err(Err::Error),
     }
 }
@@ -240,16 +254,17 @@ fn quoted_type<K: Keep>(
     level: u32,
     m: &[u8],
     p: usize,
-) -> Reached<Boxed<K::Text, K::Bytes>>
+    others: &mut Bodies<K::Text, K::Bytes>,
+) -> Result<usize, Err>
     requires inside { p ≤ length m.now }
     requires serves { K.serves keep.now m.now }
-    ensures steps { GivesAt (λ x. boxed_seen (K.text_said m.now) (K.bytes_said m.now) x) m.now result (step (bodies.quoted_type (bodies.body level)) (drop p m.now)) }
-    ensures ahead { Ahead m.now p result }
-    ensures rests { RestsOn (λ n x. boxed_seen (K.text_said n) (K.bytes_said n) x) result }
+    ensures puts { PutsAt (λ n x. body_seen (K.text_said n) (K.bytes_said n) x) m.now others.old.items others.new.items result (step (bodies.quoted_type (bodies.body level)) (drop p m.now)) }
+    ensures leaves { Leaves others.old.items others.new.items result }
+    ensures ahead { IfOk result (λ q. (p ≤ q) × (q ≤ length m.now)) }
 {
-    first!(body_type_text(keep, alloc, m, p));
-    first!(body_type_msg(keep, alloc, level, m, p));
-    body_type_basic(keep, alloc, m, p)
+    first!(body_type_text(keep, alloc, m, p, others));
+    first!(body_type_msg(keep, alloc, level, m, p, others));
+    body_type_basic(keep, alloc, m, p, others)
 }
 
 /// A message (RFC 3501, section 9: body-type-msg).
@@ -261,14 +276,16 @@ fn body_type_msg<K: Keep>(
     level: u32,
     m: &[u8],
     p: usize,
-) -> Reached<Boxed<K::Text, K::Bytes>>
+    others: &mut Bodies<K::Text, K::Bytes>,
+) -> Result<usize, Err>
     requires inside { p ≤ length m.now }
     requires serves { K.serves keep.now m.now }
-    ensures steps { GivesAt (λ x. boxed_seen (K.text_said m.now) (K.bytes_said m.now) x) m.now result (step (bodies.body_type_msg (bodies.body level)) (drop p m.now)) }
-    ensures ahead { Ahead m.now p result }
-    ensures rests { RestsOn (λ n x. boxed_seen (K.text_said n) (K.bytes_said n) x) result }
+    ensures puts { PutsAt (λ n x. body_seen (K.text_said n) (K.bytes_said n) x) m.now others.old.items others.new.items result (step (bodies.body_type_msg (bodies.body level)) (drop p m.now)) }
+    ensures leaves { Leaves others.old.items others.new.items result }
+    ensures ahead { IfOk result (λ q. (p ≤ q) × (q ≤ length m.now)) }
 {
     let (p, _) = message_word(m, p)?;
+    others.reserve(1)?;
     let ty = keep.text(m, SpannedText::Message)?;
     let subtype = keep.text(m, SpannedText::Rfc822)?;
     let (p, fields) = spaced_fields(keep, alloc, m, p)?;
@@ -276,33 +293,30 @@ fn body_type_msg<K: Keep>(
     let (p, inner) = made!(spaced_body(keep, alloc, level, m, p), envelope, fields);
     let (p, lines) = made!(spaced_number(m, p), inner, envelope, fields);
     let (p, ext) = made!(body_ext_1part(keep, alloc, m, p), inner, envelope, fields);
-    let body = boxed(
-        alloc,
-        BodyStructure::Message {
-            common: BodyContentCommon {
-                ty: ContentType {
-                    ty,
-                    subtype,
-                    params: fields.param,
-                },
-                disposition: ext.disposition,
-                language: ext.language,
-                location: ext.location,
+    others.push_reserved(BodyStructure::Message {
+        common: BodyContentCommon {
+            ty: ContentType {
+                ty,
+                subtype,
+                params: fields.param,
             },
-            other: BodyContentSinglePart {
-                id: fields.id,
-                md5: ext.md5,
-                description: fields.description,
-                transfer_encoding: fields.transfer_encoding,
-                octets: fields.octets,
-            },
-            envelope,
-            body: inner,
-            lines,
-            extension: ext.extension,
+            disposition: ext.disposition,
+            language: ext.language,
+            location: ext.location,
         },
-    )?;
-    Ok((p, body))
+        other: BodyContentSinglePart {
+            id: fields.id,
+            md5: ext.md5,
+            description: fields.description,
+            transfer_encoding: fields.transfer_encoding,
+            octets: fields.octets,
+        },
+        envelope,
+        body: inner,
+        lines,
+        extension: ext.extension,
+    });
+    Ok(p)
 }
 
 #[cycle(body)]
@@ -320,7 +334,7 @@ fn spaced_body<K: Keep>(
     ensures rests { RestsOn (λ n x. boxed_seen (K.text_said n) (K.bytes_said n) x) result }
 {
     let (p, _) = tag(b" ", m, p)?;
-    body(keep, alloc, level, m, p)
+    one_body(keep, alloc, level, m, p)
 }
 
 /// Several parts (RFC 3501, section 9: body-type-mpart).
@@ -332,36 +346,35 @@ fn body_type_mpart<K: Keep>(
     level: u32,
     m: &[u8],
     p: usize,
-) -> Reached<Boxed<K::Text, K::Bytes>>
+    others: &mut Bodies<K::Text, K::Bytes>,
+) -> Result<usize, Err>
     requires inside { p ≤ length m.now }
     requires serves { K.serves keep.now m.now }
-    ensures steps { GivesAt (λ x. boxed_seen (K.text_said m.now) (K.bytes_said m.now) x) m.now result (step (bodies.body_type_mpart (bodies.body level)) (drop p m.now)) }
-    ensures ahead { Ahead m.now p result }
-    ensures rests { RestsOn (λ n x. boxed_seen (K.text_said n) (K.bytes_said n) x) result }
+    ensures puts { PutsAt (λ n x. body_seen (K.text_said n) (K.bytes_said n) x) m.now others.old.items others.new.items result (step (bodies.body_type_mpart (bodies.body level)) (drop p m.now)) }
+    ensures leaves { Leaves others.old.items others.new.items result }
+    ensures ahead { IfOk result (λ q. (p ≤ q) × (q ≤ length m.now)) }
 {
+    others.reserve(1)?;
     let ty = keep.text(m, SpannedText::Multipart)?;
-    let (p, bodies) = some_bodies(keep, alloc, level, m, p)?;
-    let (p, subtype) = made!(spaced_string_text(m, p), bodies);
+    let (p, parts) = some_bodies(keep, alloc, level, m, p)?;
+    let (p, subtype) = made!(spaced_string_text(m, p), parts);
     let subtype = keep.text(m, subtype)?;
-    let (p, ext) = made!(body_ext_mpart(keep, alloc, m, p), bodies);
-    let body = boxed(
-        alloc,
-        BodyStructure::Multipart {
-            common: BodyContentCommon {
-                ty: ContentType {
-                    ty,
-                    subtype,
-                    params: ext.param,
-                },
-                disposition: ext.disposition,
-                language: ext.language,
-                location: ext.location,
+    let (p, ext) = made!(body_ext_mpart(keep, alloc, m, p), parts);
+    others.push_reserved(BodyStructure::Multipart {
+        common: BodyContentCommon {
+            ty: ContentType {
+                ty,
+                subtype,
+                params: ext.param,
             },
-            bodies,
-            extension: ext.extension,
+            disposition: ext.disposition,
+            language: ext.language,
+            location: ext.location,
         },
-    )?;
-    Ok((p, body))
+        bodies: parts,
+        extension: ext.extension,
+    });
+    Ok(p)
 }
 
 #[cycle(body)]
@@ -379,37 +392,39 @@ fn some_bodies<K: Keep>(
     ensures ahead { Ahead m.now p result }
     ensures rests { RestsOn (λ n x. map (body_seen (K.text_said n) (K.bytes_said n)) x.items) result }
 {
-    let (mut q, first) = body(keep, alloc, level, m, p)?;
-    let mut items = list_of_one(alloc, Box::into_inner(first))?;
+    let mut items = Vec::new(alloc);
+    let mut q = made!(body(keep, alloc, level, m, p, &mut items), items);
     'bodies: loop {
-        let (after, next) = next_body(keep, alloc, level, m, q)?;
-        match next {
-            None => return Ok((q, items)),
-            Some(body) => {
-                // Room first: `push` would give a body back where there is none, and clear a place for it.
-                items.reserve(1)?;
-                items.push_reserved(Box::into_inner(body));
-                q = after;
-            }
+        match body(keep, alloc, level, m, q, &mut items) {
+            Ok(after) => q = after,
+            Err(error) => match error {
+                Err::Error => return Ok((q, items)),
+                _ => {
+                    drop(items);
+                    return Err(error);
+                }
+            },
         }
     }
 }
 
 #[cycle(body)]
-fn next_body<K: Keep>(
+fn one_body<K: Keep>(
     keep: &K,
     alloc: Global,
     level: u32,
     m: &[u8],
     p: usize,
-) -> Reached<Option<Boxed<K::Text, K::Bytes>>>
+) -> Reached<Boxed<K::Text, K::Bytes>>
     requires inside { p ≤ length m.now }
     requires serves { K.serves keep.now m.now }
-    ensures steps { GivesAt (λ x. option_map (boxed_seen (K.text_said m.now) (K.bytes_said m.now)) x) m.now result (step (opt (bodies.body level)) (drop p m.now)) }
+    ensures steps { GivesAt (λ x. boxed_seen (K.text_said m.now) (K.bytes_said m.now) x) m.now result (step (bodies.body level) (drop p m.now)) }
     ensures ahead { Ahead m.now p result }
-    ensures rests { RestsOn (λ n x. option_map (boxed_seen (K.text_said n) (K.bytes_said n)) x) result }
+    ensures rests { RestsOn (λ n x. boxed_seen (K.text_said n) (K.bytes_said n) x) result }
 {
-    maybe!(body(keep, alloc, level, m, p), p)
+    let mut bodies = Vec::with_capacity(alloc, 1)?;
+    let p = made!(body(keep, alloc, level, m, p, &mut bodies), bodies);
+    Ok((p, boxed_only(alloc, bodies)?))
 }
 
 /// A body, up to `MAX_BODY_DEPTH` inside one another (RFC 3501, section 9: body).
@@ -426,5 +441,5 @@ pub fn body_structure<K: Keep>(
     ensures ahead { Ahead m.now p result }
     ensures rests { RestsOn (λ n x. boxed_seen (K.text_said n) (K.bytes_said n) x) result }
 {
-    body(keep, alloc, MAX_BODY_DEPTH, m, p)
+    one_body(keep, alloc, MAX_BODY_DEPTH, m, p)
 }

@@ -376,6 +376,7 @@ fn spaced_disposition<K: Keep>(
     body_fld_dsp(keep, alloc, m, p)
 }
 
+#[inline(always)]
 fn maybe_disposition<K: Keep>(
     keep: &K,
     alloc: Global,

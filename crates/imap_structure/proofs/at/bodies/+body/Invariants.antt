@@ -28,11 +28,11 @@ decreases-body_type_mpart g l = 9 * l.level + 4
 abbrev pub decreases-some_bodies : goal.decreases-some_bodies
 decreases-some_bodies g l = 9 * l.level + 3
 
-abbrev pub decreases-next_body : goal.decreases-next_body
-decreases-next_body g l = 9 * l.level + 2
-
 abbrev pub decreases-spaced_body : goal.decreases-spaced_body
-decreases-spaced_body g l = 9 * l.level + 1
+decreases-spaced_body g l = 9 * l.level + 2
+
+abbrev pub decreases-one_body : goal.decreases-one_body
+decreases-one_body g l = 9 * l.level + 1
 
 abbrev pub invariant-some_bodies-bodies : goal.invariant-some_bodies-bodies
 invariant-some_bodies-bodies g l = record {

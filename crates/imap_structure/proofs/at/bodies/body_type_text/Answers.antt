@@ -1,19 +1,20 @@
 use Rattle.std.proofs.Common.{arith, ◌≤◌, refl}
 use Rattle.imap_grammar.proofs.Positions.{rests_more}
 use Rattle.imap_envelopes.proofs.Keeping.{kept_rests}
-use Rattle.imap_structure.proofs.Reading.{text_rests, text_reads, boxed_rests}
+use Rattle.imap_structure.proofs.Reading.{text_rests, text_reads}
 use Rattle.imap_structure.proofs.at.bodies.body_type_text.Goals as goal
 
-pub returns-3-clause-rests : goal.returns-3-clause-rests
-returns-3-clause-rests g c =
+pub returns-3-clause-puts : goal.returns-3-clause-puts
+returns-3-clause-puts g c =
     let q = c.in-Ok-made-2.field-0.0 in
     let e4 : c.in-Ok-made.field-0.0 ≤ q = omega (arith, c.in-Ok-made-2.ensures.ahead) in
     let e3 : c.in_ok-p-3.p ≤ q = omega (arith, e4, c.in-Ok-made.ensures.ahead) in
     let e2 : c.in_ok-p-2.p ≤ q = omega (arith, e3, c.in_ok-p-3.ensures.ahead) in
     let ty = kept_rests _ _ _ q _ _ c.in_ok-ty.ensures (record { same = λ n. refl }) in
     let subtype = kept_rests _ _ _ _ _ _ c.in_ok-subtype.ensures (rests_more q e2 c.in_ok-p-2.ensures.rests) in
-    boxed_rests _ _ q _ _ c.in_ok-body.ensures (text_rests _ _ q _ _ _ _ _ ty subtype (rests_more q e3 c.in_ok-p-3.ensures.rests) c.in-Ok-made-2.ensures.rests)
-
-pub returns-3-clause-steps : goal.returns-3-clause-steps
-returns-3-clause-steps g c =
-    rw c.in_ok-body.ensures (text_reads _ _ _ _ _ _ _ _ _ _ _ _ _ _ c.in_ok-ty.ensures.is c.in_ok-p.ensures.steps (rw c.in_ok-subtype.ensures.is c.in_ok-p-2.ensures.steps) c.in_ok-p-3.ensures.steps c.in-Ok-made.ensures.steps c.in-Ok-made-2.ensures.steps)
+    record {
+      one = _;
+      behind = rw c.push_reserved.ensures.items (rw c.in_ok-reserve.ensures.items refl);
+      read = text_reads _ _ _ _ _ _ _ _ _ _ _ _ _ _ c.in_ok-ty.ensures.is c.in_ok-p.ensures.steps (rw c.in_ok-subtype.ensures.is c.in_ok-p-2.ensures.steps) c.in_ok-p-3.ensures.steps c.in-Ok-made.ensures.steps c.in-Ok-made-2.ensures.steps;
+      rests = text_rests _ _ q _ _ _ _ _ ty subtype (rests_more q e3 c.in_ok-p-3.ensures.rests) c.in-Ok-made-2.ensures.rests;
+    }
