@@ -170,7 +170,11 @@ fn message_word(m: &[u8], p: usize) -> Reached<Span>
     word(b"\"MESSAGE\" \"RFC822\"", m, p)
 }
 
-/// A body, with bodies inside up to `level` deep (RFC 3501, section 9: body). At level 0 it denies without looking.
+/// A body, up to `level` inside one another (RFC 3501, section 9: body), which is put behind the others. At level 0 it denies
+/// without looking.
+///
+/// Where no body is read, the others are as they were. It takes memory for the tree, and, where values are kept of its strings,
+/// for texts that are no UTF-8.
 #[cycle(body)]
 pub fn body<K: Keep>(
     keep: &K,
@@ -427,7 +431,7 @@ fn one_body<K: Keep>(
     Ok((p, boxed_only(alloc, bodies)?))
 }
 
-/// A body, up to `MAX_BODY_DEPTH` inside one another (RFC 3501, section 9: body).
+/// A body alone, up to `MAX_BODY_DEPTH` inside one another (RFC 3501, section 9: body). It takes memory as `body` does.
 #[tactic(auto, unfolding(crate::specs::Bodies::body_structure))]
 pub fn body_structure<K: Keep>(
     keep: &K,
