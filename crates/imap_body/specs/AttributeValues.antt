@@ -7,12 +7,11 @@ use Rattle.std.specs.declared.borrow.CowStr.{CowStr}
 use Rattle.std.specs.declared.boxed.Box.{Box}
 use Rattle.imap_grammar.specs.Text.{Bytes, Text, text_of, lent_text}
 use Rattle.imap_grammar.specs.declared.at.span.Span.{Span}
-use Rattle.imap_items.specs.Spanned.{text_in}
 use Rattle.imap_sections.specs.SectionValues.{PathValue, path_value}
 use Rattle.imap_shapes.specs.Lent.{lent_ntext, lent_envelope, lent_body}
 use Rattle.imap_shapes.specs.EnvelopeValues.{EnvelopeValue, envelope_seen}
 use Rattle.imap_shapes.specs.BodyValues.{BodyValue, body_seen}
-use Rattle.imap_shapes.specs.Spans.{bytes_in, text_in as spanned_in, bytes_of, text_owned, bytes_owned}
+use Rattle.imap_shapes.specs.Spans.{bytes_in, text_in, bytes_of, text_owned, bytes_owned}
 use Rattle.imap_structure.specs.Kept.{boxed_seen}
 use Rattle.imap_shapes.specs.declared.shapes.bodies.BodyStructure.{BodyStructure as Structure}
 use Rattle.imap_shapes.specs.declared.spans.SpannedText.{SpannedText}
@@ -60,20 +59,20 @@ attribute_seen f g h parts.Unknown = Unknown
 
 -- ---- of spans, and of texts
 
--- as a reader keeps it: short texts as spans, and what is kept of the texts of a structure and of byte strings
+-- as a reader keeps it, by what is kept of texts and of byte strings
 abbrev pub AttributeKept : Type 0 → Type 0 → Type 0
-AttributeKept S B = AttributeParts Span B (Box (Structure S B) Global)
+AttributeKept S B = AttributeParts S B (Box (Structure S B) Global)
 
 abbrev pub AttributeSpans : Type 0
 AttributeSpans = AttributeKept SpannedText Span
 
 -- what it says in m, where its texts and its byte strings are said so
 abbrev pub parts_said : {S B : Type 0} → (Bytes → S → Text) → (Bytes → B → Text) → Bytes → AttributeKept S B → AttributeValue
-parts_said text bytes m x = attribute_seen (text_in m) (bytes m) (λ b. boxed_seen (text m) (bytes m) b) x
+parts_said text bytes m x = attribute_seen (text m) (bytes m) (λ b. boxed_seen (text m) (bytes m) b) x
 
 -- what the spans of an attribute name in m
 abbrev pub parts_in : Bytes → AttributeSpans → AttributeValue
-parts_in m x = parts_said spanned_in bytes_in m x
+parts_in m x = parts_said text_in bytes_in m x
 
 abbrev pub attribute_value : {Z : Type 0} → AttributeParts (CowStr Z) (CowSlice ℕ Z) (Structure (CowStr Z) (CowSlice ℕ Z)) → AttributeValue
 attribute_value x = attribute_seen text_of bytes_of (body_seen text_of bytes_of) x

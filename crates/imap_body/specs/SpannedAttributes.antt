@@ -67,7 +67,7 @@ abbrev pub places_of_body : Structure SpannedText Span → BodyValue
 places_of_body = body_seen place_of_text place_of
 
 abbrev pub places_of : AttributeSpans → AttributeValue
-places_of x = attribute_seen place_of place_of (λ b. places_of_body b.value) x
+places_of x = attribute_seen place_of_text place_of (λ b. places_of_body b.value) x
 
 -- where it stands, and the places in it
 abbrev pub spanned_value : SpannedAttribute SpannedText Span → Span × AttributeValue

@@ -2,16 +2,19 @@
 
 ghost use Rattle.std.specs.Prelude.{◌≡◌, ◌≤◌, ◌+◌, ◌++◌, ◌∷◌, [], List, length, drop, map, IfOk, OnOk, IfSome};
 ghost use Rattle.std.specs.Option.{option_map};
-ghost use Rattle.imap_grammar.specs.Positions.{GivesAt, Ahead};
+ghost use Rattle.imap_grammar.specs.Positions.{GivesAt, Ahead, RestsOn};
 ghost use Rattle.imap_grammar.specs.Rule.{list1, opt, ◌▹◌};
 ghost use Rattle.imap_grammar.specs.Step.{step};
 ghost use Rattle.imap_grammar.specs.Tags.{sp};
 ghost use Rattle.imap_grammar.specs.declared.at.span.Span.{Span};
 ghost use Rattle.imap_shapes.specs.declared.spans.SpannedText.{SpannedText};
+ghost use Rattle.imap_shapes.specs.declared.spans.SpannedText.TheVariants.{Part};
 ghost use Rattle.imap_body.specs.declared.spanned.SpannedAttribute.{SpannedAttribute};
 ghost use Rattle.imap_body.specs.AttributeValues.{attribute_value};
 ghost use Rattle.imap_grammar.specs.Text.{text_of};
-ghost use Rattle.imap_shapes.specs.Spans.{bytes_of};
+ghost use Rattle.imap_items.specs.Flags as flags;
+ghost use Rattle.imap_items.specs.Gmail as gmail;
+ghost use Rattle.imap_shapes.specs.Spans.{bytes_of, text_in};
 ghost use Rattle.imap_body.specs.SpannedAttributes.{attribute_said, EndsAt, KeepsAt};
 ghost use Rattle.imap_body.specs.Attributes as rules;
 
@@ -21,7 +24,9 @@ use imap_bytes::at::tags::{blanks0, tag};
 use imap_bytes::maybe;
 use imap_envelopes::at::Reached;
 use imap_envelopes::{Keep, Named, Positions};
+use imap_items::{at, readers};
 use imap_shapes::made;
+use imap_shapes::spans::{Span, SpannedText};
 use std::alloc::{AllocError, Global};
 use std::borrow::{CowSlice, CowStr};
 
@@ -44,6 +49,22 @@ pub(crate) trait KeepAttribute: Keep + Drop {
         requires serves { Self.serves self.now m.now }
         ensures { Self.serves result (drop p m.now) };
 
+    /// What is kept of flags (RFC 3501, section 9: flag-list). It takes memory for the list.
+    fn flags(&self, alloc: Global, m: &[u8], p: usize) -> Reached<Vec<Self::Text>>
+        requires inside { p ≤ length m.now }
+        requires serves { Self.serves self.now m.now }
+        ensures steps { GivesAt (λ x. map (Self.text_said m.now) x.items) m.now result (step flags.flag_list (drop p m.now)) }
+        ensures ahead { Ahead m.now p result }
+        ensures rests { RestsOn (λ n x. map (Self.text_said n) x.items) result };
+
+    /// What is kept of Gmail's labels, behind their word (Gmail's X-GM-EXT-1). It takes memory for the list and for texts that are no UTF-8.
+    fn labels(&self, alloc: Global, m: &[u8], p: usize) -> Reached<Vec<Self::Text>>
+        requires inside { p ≤ length m.now }
+        requires serves { Self.serves self.now m.now }
+        ensures steps { GivesAt (λ x. map (Self.text_said m.now) x.items) m.now result (step gmail.gmail_label_list (drop p m.now)) }
+        ensures ahead { Ahead m.now p result }
+        ensures rests { RestsOn (λ n x. map (Self.text_said n) x.items) result };
+
     /// A list with room for what is kept of a few.
     fn start(&self, alloc: Global) -> Result<Vec<Self::Attribute>, AllocError>
         ensures { IfOk result (λ kept. keeps self.now [] kept.items) };
@@ -51,7 +72,6 @@ pub(crate) trait KeepAttribute: Keep + Drop {
     /// Puts what is kept of it behind others.
     fn add(
         &self,
-        alloc: Global,
         attribute: SpannedAttribute<Self::Text, Self::Bytes>,
         kept: &mut Vec<Self::Attribute>,
     ) -> Result<(), AllocError>
@@ -67,13 +87,32 @@ impl KeepAttribute for Positions {
         Positions
     }
 
+    fn flags(&self, alloc: Global, m: &[u8], p: usize) -> Reached<Vec<SpannedText>>
+        requires inside { p ≤ length m.now }
+        ensures steps { GivesAt (λ x. map (text_in m.now) x.items) m.now result (step flags.flag_list (drop p m.now)) }
+        ensures ahead { Ahead m.now p result }
+        ensures rests { RestsOn (λ n x. map (text_in n) x.items) result }
+    {
+        let (q, spans) = at::flag_list(alloc, m, p)?;
+        Ok((q, texts_of(alloc, &spans)?))
+    }
+
+    fn labels(&self, alloc: Global, m: &[u8], p: usize) -> Reached<Vec<SpannedText>>
+        requires inside { p ≤ length m.now }
+        ensures steps { GivesAt (λ x. map (text_in m.now) x.items) m.now result (step gmail.gmail_label_list (drop p m.now)) }
+        ensures ahead { Ahead m.now p result }
+        ensures rests { RestsOn (λ n x. map (text_in n) x.items) result }
+    {
+        let (q, spans) = at::gmail_label_list(alloc, m, p)?;
+        Ok((q, texts_of(alloc, &spans)?))
+    }
+
     fn start(&self, alloc: Global) -> Result<Vec<SpannedAttribute>, AllocError> {
         Vec::with_capacity(alloc, ROOM_FOR_POSITIONS)
     }
 
     fn add(
         &self,
-        _alloc: Global,
         attribute: SpannedAttribute,
         kept: &mut Vec<SpannedAttribute>,
     ) -> Result<(), AllocError>
@@ -98,6 +137,30 @@ impl<'a> KeepAttribute for Named<'a> {
         }
     }
 
+    fn flags(&self, alloc: Global, m: &[u8], p: usize) -> Reached<Vec<CowStr<'a>>>
+        requires inside { p ≤ length m.now }
+        requires serves { self.now.m.now ≡ m.now }
+        ensures steps { GivesAt (λ x. map text_of x.items) m.now result (step flags.flag_list (drop p m.now)) }
+        ensures ahead { Ahead m.now p result }
+        ensures rests { RestsOn (λ n x. map text_of x.items) result }
+    {
+        let (_, i) = self.m.split_at(p);
+        let (rest, flags) = readers::flag_list(alloc, i)?;
+        Ok((self.m.len() - rest.len(), flags))
+    }
+
+    fn labels(&self, alloc: Global, m: &[u8], p: usize) -> Reached<Vec<CowStr<'a>>>
+        requires inside { p ≤ length m.now }
+        requires serves { self.now.m.now ≡ m.now }
+        ensures steps { GivesAt (λ x. map text_of x.items) m.now result (step gmail.gmail_label_list (drop p m.now)) }
+        ensures ahead { Ahead m.now p result }
+        ensures rests { RestsOn (λ n x. map text_of x.items) result }
+    {
+        let (_, i) = self.m.split_at(p);
+        let (rest, labels) = readers::gmail_label_list(alloc, i)?;
+        Ok((self.m.len() - rest.len(), labels))
+    }
+
     fn start(&self, alloc: Global) -> Result<Vec<AttributeValue<'a>>, AllocError> {
         Vec::with_capacity(alloc, ROOM)
     }
@@ -105,14 +168,24 @@ impl<'a> KeepAttribute for Named<'a> {
     #[inline(always)]
     fn add(
         &self,
-        alloc: Global,
         attribute: SpannedAttribute<CowStr<'a>, CowSlice<'a, u8>>,
         kept: &mut Vec<AttributeValue<'a>>,
     ) -> Result<(), AllocError>
         ensures { (read : List (SpannedAttribute _ _)) → map attribute_value kept.old.items ≡ map (attribute_said (λ n t. text_of t) (λ n t. bytes_of t) self.now.m.now) read → OnOk result (map attribute_value kept.new.items ≡ map (attribute_said (λ n t. text_of t) (λ n t. bytes_of t) self.now.m.now) (read ++ attribute.entry ∷ [])) }
     {
-        attribute.push_value(alloc, self.m, kept)
+        attribute.push_value(kept)
     }
+}
+
+// The texts that spans are.
+fn texts_of(alloc: Global, spans: &Vec<Span>) -> Result<Vec<SpannedText>, AllocError>
+    ensures { IfOk result (λ v. v.items ≡ map (λ s. Part s) spans.now.items) }
+{
+    let mut texts = Vec::with_capacity(alloc, spans.len())?;
+    for span in spans {
+        texts.push(SpannedText::Part(*span))?;
+    }
+    Ok(texts)
 }
 
 fn spaced_attribute<K: KeepAttribute>(
@@ -160,13 +233,13 @@ fn some_attributes<K: KeepAttribute>(
     // The list first: an attribute that is read before it is taken apart, and put together to be handed on.
     let mut kept = keep.start(alloc)?;
     let (mut q, first) = made!(spanned_attribute(keep, alloc, m, p), kept);
-    keep.add(alloc, first, &mut kept)?;
+    keep.add(first, &mut kept)?;
     'attributes: loop {
         let (after, next) = next_attribute(keep, alloc, m, q)?;
         match next {
             None => return Ok((q, kept)),
             Some(attribute) => {
-                keep.add(alloc, attribute, &mut kept)?;
+                keep.add(attribute, &mut kept)?;
                 q = after;
             }
         }

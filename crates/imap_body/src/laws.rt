@@ -140,7 +140,7 @@ fn spans_equality()
     ensures attribute { Tells ⟦<AttributeSpans as PartialEq>⟧.eq (λ x. lent_attribute (places_of x)) }
 {
     laws::equality::<SpannedText, Span>();
-    attributes_equality::<Span, Span, Box<Structure<SpannedText, Span>>>();
+    attributes_equality::<SpannedText, Span, Box<Structure<SpannedText, Span>>>();
 }
 
 /// `==` tells whether two values say the same: texts by their bytes, whichever lie in the input. What is kept as positions it tells by these, field by field, whatever they name in a message.

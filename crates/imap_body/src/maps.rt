@@ -5,7 +5,7 @@ ghost use Rattle.std.specs.Option.{option_map};
 ghost use Rattle.imap_grammar.specs.Text.{Text};
 ghost use Rattle.imap_sections.specs.SectionValues.{path_value};
 ghost use Rattle.imap_shapes.specs.BodyValues.{BodyValue};
-ghost use Rattle.imap_body.specs.AttributeValues.{attribute_seen, BodyStructure, InternalDate, EmailId, ThreadId, GmailLabels};
+ghost use Rattle.imap_body.specs.AttributeValues.{attribute_seen, BodyStructure};
 
 use crate::types::attributes::AttributeParts as Parts;
 use imap_sections::SectionPath;
@@ -103,14 +103,9 @@ impl<S: Drop, B: Drop, Y: Drop> Parts<S, B, Y> {
 }
 
 impl<S: Drop, B: Drop, Y: Drop> Parts<S, B, Box<Y>> {
-    /// Puts this attribute behind the others, with each text changed by c. Its byte strings and its body structure stay.
-    pub(crate) fn push_named<C: Change<S>>(
-        self,
-        alloc: Global,
-        c: &C,
-        others: &mut Vec<Parts<C::To, B, Y>>,
-    ) -> Result<(), AllocError>
-        ensures { (h : B → Text) (k : Y → BodyValue) → OnOk result (map (attribute_seen C.after h k) others.new.items ≡ map (attribute_seen C.after h k) others.old.items ++ attribute_seen (C.before c.now) h (λ b. k b.value) self ∷ []) }
+    /// Puts this attribute behind the others, its body structure out of its box.
+    pub(crate) fn push_unboxed(self, others: &mut Vec<Parts<S, B, Y>>) -> Result<(), AllocError>
+        ensures { (f : S → Text) (h : B → Text) (k : Y → BodyValue) → OnOk result (map (attribute_seen f h k) others.new.items ≡ map (attribute_seen f h k) others.old.items ++ attribute_seen f h (λ b. k b.value) self ∷ []) }
     {
         others.reserve(1)?;
         match self {
@@ -123,23 +118,21 @@ impl<S: Drop, B: Drop, Y: Drop> Parts<S, B, Box<Y>> {
                 index,
                 contents,
             }),
-            Parts::BodyStructure(body) => return push_unboxed(body, others),
+            Parts::BodyStructure(body) => return push_structure(body, others),
             Parts::Envelope(envelope) => others.push_reserved(Parts::Envelope(envelope)),
-            Parts::Flags(spans) => others.push_reserved(Parts::Flags(mapped_list(
-                alloc, c, &spans,
-            )?)),
-            Parts::InternalDate(date) => return push_date(c, date, others),
+            Parts::Flags(flags) => others.push_reserved(Parts::Flags(flags)),
+            Parts::InternalDate(date) => others.push_reserved(Parts::InternalDate(date)),
             Parts::ModSeq(n) => others.push_reserved(Parts::ModSeq(n)),
             Parts::Rfc822(message) => others.push_reserved(Parts::Rfc822(message)),
             Parts::Rfc822Header(header) => others.push_reserved(Parts::Rfc822Header(header)),
             Parts::Rfc822Size(n) => others.push_reserved(Parts::Rfc822Size(n)),
             Parts::Rfc822Text(text) => others.push_reserved(Parts::Rfc822Text(text)),
             Parts::Uid(n) => others.push_reserved(Parts::Uid(n)),
-            Parts::GmailLabels(labels) => return push_labels(alloc, c, labels, others),
+            Parts::GmailLabels(labels) => others.push_reserved(Parts::GmailLabels(labels)),
             Parts::GmailMsgId(n) => others.push_reserved(Parts::GmailMsgId(n)),
             Parts::GmailThrId(n) => others.push_reserved(Parts::GmailThrId(n)),
-            Parts::EmailId(id) => return push_email_id(c, id, others),
-            Parts::ThreadId(id) => return push_thread_id(c, id, others),
+            Parts::EmailId(id) => others.push_reserved(Parts::EmailId(id)),
+            Parts::ThreadId(id) => others.push_reserved(Parts::ThreadId(id)),
             Parts::Unknown => others.push_reserved(Parts::Unknown),
         }
         Ok(())
@@ -160,9 +153,9 @@ fn push_body<S: Drop, B: Drop, Y, E: BodyChange<Y>>(
     Ok(())
 }
 
-// The same of one that lies in its box, and stays as it is. So the rarer kinds with texts, too, are put there by a call each.
+// The same of one that lies in its box, and stays as it is.
 #[inline(never)]
-fn push_unboxed<S: Drop, B: Drop, Y: Drop>(
+fn push_structure<S: Drop, B: Drop, Y: Drop>(
     body: Box<Y>,
     others: &mut Vec<Parts<S, B, Y>>,
 ) -> Result<(), AllocError>
@@ -170,58 +163,5 @@ fn push_unboxed<S: Drop, B: Drop, Y: Drop>(
 {
     others.reserve(1)?;
     others.push_reserved(Parts::BodyStructure(Box::into_inner(body)));
-    Ok(())
-}
-
-#[inline(never)]
-fn push_date<S: Drop, B: Drop, Y: Drop, C: Change<S>>(
-    c: &C,
-    date: S,
-    others: &mut Vec<Parts<C::To, B, Y>>,
-) -> Result<(), AllocError>
-    ensures { (h : B → Text) (k : Y → BodyValue) → OnOk result (map (attribute_seen C.after h k) others.new.items ≡ map (attribute_seen C.after h k) others.old.items ++ InternalDate (C.before c.now date) ∷ []) }
-{
-    others.reserve(1)?;
-    others.push_reserved(Parts::InternalDate(c.change(&date)?));
-    Ok(())
-}
-
-#[inline(never)]
-fn push_email_id<S: Drop, B: Drop, Y: Drop, C: Change<S>>(
-    c: &C,
-    id: S,
-    others: &mut Vec<Parts<C::To, B, Y>>,
-) -> Result<(), AllocError>
-    ensures { (h : B → Text) (k : Y → BodyValue) → OnOk result (map (attribute_seen C.after h k) others.new.items ≡ map (attribute_seen C.after h k) others.old.items ++ EmailId (C.before c.now id) ∷ []) }
-{
-    others.reserve(1)?;
-    others.push_reserved(Parts::EmailId(c.change(&id)?));
-    Ok(())
-}
-
-#[inline(never)]
-fn push_thread_id<S: Drop, B: Drop, Y: Drop, C: Change<S>>(
-    c: &C,
-    id: Option<S>,
-    others: &mut Vec<Parts<C::To, B, Y>>,
-) -> Result<(), AllocError>
-    ensures { (h : B → Text) (k : Y → BodyValue) → OnOk result (map (attribute_seen C.after h k) others.new.items ≡ map (attribute_seen C.after h k) others.old.items ++ ThreadId (option_map (C.before c.now) id) ∷ []) }
-{
-    others.reserve(1)?;
-    others.push_reserved(Parts::ThreadId(mapped_text(c, &id)?));
-    Ok(())
-}
-
-#[inline(never)]
-fn push_labels<S: Drop, B: Drop, Y: Drop, C: Change<S>>(
-    alloc: Global,
-    c: &C,
-    labels: Vec<S>,
-    others: &mut Vec<Parts<C::To, B, Y>>,
-) -> Result<(), AllocError>
-    ensures { (h : B → Text) (k : Y → BodyValue) → OnOk result (map (attribute_seen C.after h k) others.new.items ≡ map (attribute_seen C.after h k) others.old.items ++ GmailLabels (map (C.before c.now) labels.items) ∷ []) }
-{
-    others.reserve(1)?;
-    others.push_reserved(Parts::GmailLabels(mapped_list(alloc, c, &labels)?));
     Ok(())
 }

@@ -47,20 +47,11 @@ impl SpannedAttribute {
 }
 
 impl<'a> SpannedAttribute<CowStr<'a>, CowSlice<'a, u8>> {
-    /// Puts the attribute that it names in m behind others, what is kept of its strings as it is.
-    pub(crate) fn push_value(
-        self,
-        alloc: Global,
-        m: &'a [u8],
-        values: &mut Vec<AttributeValue<'a>>,
-    ) -> Result<(), AllocError>
-        ensures { OnOk result (map attribute_value values.new.items ≡ map attribute_value values.old.items ++ attribute_said (λ n t. text_of t) (λ n t. bytes_of t) m.now self.entry ∷ []) }
+    /// Puts the attribute behind others, what is kept of its strings as it is: no message is looked up any more.
+    pub(crate) fn push_value(self, values: &mut Vec<AttributeValue<'a>>) -> Result<(), AllocError>
+        ensures { OnOk result (map attribute_value values.new.items ≡ map attribute_value values.old.items ++ attribute_said (λ n t. text_of t) (λ n t. bytes_of t) [] self.entry ∷ []) }
     {
-        let texts = NamedTexts {
-            alloc,
-            m: self.span.part(m),
-        };
-        self.parts.push_named(alloc, &texts, values)
+        self.parts.push_unboxed(values)
     }
 }
 

@@ -1,5 +1,4 @@
-//! Attributes of a message at a position: what is kept of their byte strings, and of the texts of a body structure. Their own
-//! texts, which are short (flags, labels, a date, identifiers), are spans.
+//! Attributes of a message at a position: what is kept of their strings.
 
 ghost use Rattle.std.specs.Prelude.{◌≡◌, ◌≤◌, ◌<◌, length, drop, position, IfSome};
 ghost use Rattle.imap_grammar.specs.Meaning.{outside};
@@ -10,6 +9,7 @@ ghost use Rattle.imap_items.specs.Spanned.{text_in};
 ghost use Rattle.imap_body.specs.AttributeValues.{parts_said};
 ghost use Rattle.imap_body.specs.Attributes as rules;
 
+use crate::keeping::KeepAttribute;
 use crate::types::attributes::{AttributeKept, AttributeParts};
 use imap_bytes::at::numbers::{number, number_64};
 use imap_bytes::at::span::Span;
@@ -17,14 +17,13 @@ use imap_bytes::at::strings::{astring_chars, atom, nil, nstring, string};
 use imap_bytes::at::tags::{cut0, cut1, maybe_space, tag, word};
 use imap_bytes::strings::as_utf8;
 use imap_bytes::{Err, Needed, first, maybe};
-use imap_envelopes::Keep;
 use imap_envelopes::at::Reached;
 use imap_envelopes::at::envelopes::envelope;
 use imap_envelopes::at::texts::{byte_string, spaced_byte_string};
 use imap_envelopes::kept::kept_bytes;
-use imap_items::at::{flag_list, gmail_label_list};
 use imap_sections::at::sections::section;
 use imap_shapes::made;
+use imap_shapes::spans::SpannedText;
 use imap_structure::at::bodies::body_structure;
 use std::alloc::Global;
 
@@ -49,7 +48,7 @@ fn maybe_origin(m: &[u8], p: usize) -> Reached<Option<u32>>
 }
 
 #[tactic(auto, unfolding(crate::specs::Attributes::section_contents))]
-fn section_contents<K: Keep>(
+fn section_contents<K: KeepAttribute>(
     keep: &K,
     alloc: Global,
     m: &[u8],
@@ -76,7 +75,7 @@ fn section_contents<K: Keep>(
 
 /// A section of a message's body (RFC 3501, section 7.4.2: `BODY[<section>]<<origin octet>>`).
 #[tactic(auto, unfolding(crate::specs::Attributes::msg_att_body_section))]
-pub fn msg_att_body_section<K: Keep>(
+pub fn msg_att_body_section<K: KeepAttribute>(
     keep: &K,
     alloc: Global,
     m: &[u8],
@@ -93,7 +92,7 @@ pub fn msg_att_body_section<K: Keep>(
 }
 
 #[tactic(auto, using(crate::proofs::Resting::structure_rests), unfolding(crate::specs::Attributes::structure))]
-fn structure<K: Keep>(
+fn structure<K: KeepAttribute>(
     keep: &K,
     alloc: Global,
     m: &[u8],
@@ -112,7 +111,7 @@ fn structure<K: Keep>(
 
 // `BODY` is read once, whether a section or `STRUCTURE` stands behind it.
 #[tactic(auto, unfolding(crate::specs::Attributes::body_attribute))]
-fn body_attribute<K: Keep>(
+fn body_attribute<K: KeepAttribute>(
     keep: &K,
     alloc: Global,
     m: &[u8],
@@ -130,7 +129,11 @@ fn body_attribute<K: Keep>(
 }
 
 #[tactic(auto, unfolding(crate::specs::Attributes::whole_message))]
-fn whole_message<K: Keep>(keep: &K, m: &[u8], p: usize) -> Reached<AttributeKept<K::Text, K::Bytes>>
+fn whole_message<K: KeepAttribute>(
+    keep: &K,
+    m: &[u8],
+    p: usize,
+) -> Reached<AttributeKept<K::Text, K::Bytes>>
     requires inside { p ≤ length m.now }
     requires serves { K.serves keep.now m.now }
     ensures steps { ExactlyAt (λ x. parts_said K.text_said K.bytes_said m.now x) m.now result (step rules.whole_message (drop p m.now)) }
@@ -143,7 +146,7 @@ fn whole_message<K: Keep>(keep: &K, m: &[u8], p: usize) -> Reached<AttributeKept
 }
 
 #[tactic(auto, unfolding(crate::specs::Attributes::message_header))]
-fn message_header<K: Keep>(
+fn message_header<K: KeepAttribute>(
     keep: &K,
     m: &[u8],
     p: usize,
@@ -161,7 +164,7 @@ fn message_header<K: Keep>(
 }
 
 #[tactic(auto, unfolding(crate::specs::Attributes::message_size))]
-fn message_size<K: Keep>(m: &[u8], p: usize) -> Reached<AttributeKept<K::Text, K::Bytes>>
+fn message_size<K: KeepAttribute>(m: &[u8], p: usize) -> Reached<AttributeKept<K::Text, K::Bytes>>
     requires { p ≤ length m.now }
     ensures steps { ExactlyAt (λ x. parts_said K.text_said K.bytes_said m.now x) m.now result (step rules.message_size (drop p m.now)) }
     ensures ahead { Ahead m.now p result }
@@ -173,7 +176,11 @@ fn message_size<K: Keep>(m: &[u8], p: usize) -> Reached<AttributeKept<K::Text, K
 }
 
 #[tactic(auto, unfolding(crate::specs::Attributes::message_text))]
-fn message_text<K: Keep>(keep: &K, m: &[u8], p: usize) -> Reached<AttributeKept<K::Text, K::Bytes>>
+fn message_text<K: KeepAttribute>(
+    keep: &K,
+    m: &[u8],
+    p: usize,
+) -> Reached<AttributeKept<K::Text, K::Bytes>>
     requires inside { p ≤ length m.now }
     requires serves { K.serves keep.now m.now }
     ensures steps { ExactlyAt (λ x. parts_said K.text_said K.bytes_said m.now x) m.now result (step rules.message_text (drop p m.now)) }
@@ -186,7 +193,11 @@ fn message_text<K: Keep>(keep: &K, m: &[u8], p: usize) -> Reached<AttributeKept<
 }
 
 #[tactic(auto, unfolding(crate::specs::Attributes::message_part))]
-fn message_part<K: Keep>(keep: &K, m: &[u8], p: usize) -> Reached<AttributeKept<K::Text, K::Bytes>>
+fn message_part<K: KeepAttribute>(
+    keep: &K,
+    m: &[u8],
+    p: usize,
+) -> Reached<AttributeKept<K::Text, K::Bytes>>
     requires inside { p ≤ length m.now }
     requires serves { K.serves keep.now m.now }
     ensures steps { ExactlyAt (λ x. parts_said K.text_said K.bytes_said m.now x) m.now result (step rules.message_part (drop p m.now)) }
@@ -201,7 +212,7 @@ fn message_part<K: Keep>(keep: &K, m: &[u8], p: usize) -> Reached<AttributeKept<
 
 // `RFC822` is read once, whether the whole message or a part of it is meant.
 #[tactic(auto, unfolding(crate::specs::Attributes::message_attribute))]
-fn message_attribute<K: Keep>(
+fn message_attribute<K: KeepAttribute>(
     keep: &K,
     m: &[u8],
     p: usize,
@@ -219,7 +230,7 @@ fn message_attribute<K: Keep>(
 
 #[tactic(auto, using(crate::proofs::Resting::envelope_rests), unfolding(crate::specs::Attributes::msg_att_envelope))]
 #[inline(never)] // Its slots are large.
-fn msg_att_envelope<K: Keep>(
+fn msg_att_envelope<K: KeepAttribute>(
     keep: &K,
     alloc: Global,
     m: &[u8],
@@ -248,35 +259,43 @@ fn date(m: &[u8], p: usize) -> Reached<Span>
 }
 
 #[tactic(auto, unfolding(crate::specs::Attributes::msg_att_internal_date))]
-fn msg_att_internal_date<K: Keep>(m: &[u8], p: usize) -> Reached<AttributeKept<K::Text, K::Bytes>>
-    requires { p ≤ length m.now }
-    ensures steps { ExactlyAt (λ x. parts_said K.text_said K.bytes_said m.now x) m.now result (step rules.msg_att_internal_date (drop p m.now)) }
+fn msg_att_internal_date<K: KeepAttribute>(
+    keep: &K,
+    m: &[u8],
+    p: usize,
+) -> Reached<AttributeKept<K::Text, K::Bytes>>
+    requires inside { p ≤ length m.now }
+    requires serves { K.serves keep.now m.now }
+    ensures steps { GivesAt (λ x. parts_said K.text_said K.bytes_said m.now x) m.now result (step rules.msg_att_internal_date (drop p m.now)) }
     ensures ahead { Ahead m.now p result }
     ensures rests { RestsOn (λ n x. parts_said K.text_said K.bytes_said n x) result }
 {
     let (p, _) = word(b"INTERNALDATE ", m, p)?;
     let (p, date) = date(m, p)?;
+    let date = keep.text(m, SpannedText::Part(date))?;
     Ok((p, AttributeParts::InternalDate(date)))
 }
 
 #[tactic(auto, unfolding(crate::specs::Attributes::msg_att_flags))]
-fn msg_att_flags<K: Keep>(
+fn msg_att_flags<K: KeepAttribute>(
+    keep: &K,
     alloc: Global,
     m: &[u8],
     p: usize,
 ) -> Reached<AttributeKept<K::Text, K::Bytes>>
-    requires { p ≤ length m.now }
+    requires inside { p ≤ length m.now }
+    requires serves { K.serves keep.now m.now }
     ensures steps { GivesAt (λ x. parts_said K.text_said K.bytes_said m.now x) m.now result (step rules.msg_att_flags (drop p m.now)) }
     ensures ahead { Ahead m.now p result }
     ensures rests { RestsOn (λ n x. parts_said K.text_said K.bytes_said n x) result }
 {
     let (p, _) = word(b"FLAGS ", m, p)?;
-    let (p, flags) = flag_list(alloc, m, p)?;
+    let (p, flags) = keep.flags(alloc, m, p)?;
     Ok((p, AttributeParts::Flags(flags)))
 }
 
 #[tactic(auto, unfolding(crate::specs::Attributes::msg_att_uid))]
-fn msg_att_uid<K: Keep>(m: &[u8], p: usize) -> Reached<AttributeKept<K::Text, K::Bytes>>
+fn msg_att_uid<K: KeepAttribute>(m: &[u8], p: usize) -> Reached<AttributeKept<K::Text, K::Bytes>>
     requires { p ≤ length m.now }
     ensures steps { ExactlyAt (λ x. parts_said K.text_said K.bytes_said m.now x) m.now result (step rules.msg_att_uid (drop p m.now)) }
     ensures ahead { Ahead m.now p result }
@@ -288,7 +307,10 @@ fn msg_att_uid<K: Keep>(m: &[u8], p: usize) -> Reached<AttributeKept<K::Text, K:
 }
 
 #[tactic(auto, unfolding(crate::specs::Attributes::msg_att_mod_seq))]
-fn msg_att_mod_seq<K: Keep>(m: &[u8], p: usize) -> Reached<AttributeKept<K::Text, K::Bytes>>
+fn msg_att_mod_seq<K: KeepAttribute>(
+    m: &[u8],
+    p: usize,
+) -> Reached<AttributeKept<K::Text, K::Bytes>>
     requires { p ≤ length m.now }
     ensures steps { ExactlyAt (λ x. parts_said K.text_said K.bytes_said m.now x) m.now result (step rules.msg_att_mod_seq (drop p m.now)) }
     ensures ahead { Ahead m.now p result }
@@ -302,22 +324,27 @@ fn msg_att_mod_seq<K: Keep>(m: &[u8], p: usize) -> Reached<AttributeKept<K::Text
 }
 
 #[tactic(auto, unfolding(crate::specs::Attributes::msg_att_gmail_labels))]
-fn msg_att_gmail_labels<K: Keep>(
+fn msg_att_gmail_labels<K: KeepAttribute>(
+    keep: &K,
     alloc: Global,
     m: &[u8],
     p: usize,
 ) -> Reached<AttributeKept<K::Text, K::Bytes>>
-    requires { p ≤ length m.now }
+    requires inside { p ≤ length m.now }
+    requires serves { K.serves keep.now m.now }
     ensures steps { GivesAt (λ x. parts_said K.text_said K.bytes_said m.now x) m.now result (step rules.msg_att_gmail_labels (drop p m.now)) }
     ensures ahead { Ahead m.now p result }
     ensures rests { RestsOn (λ n x. parts_said K.text_said K.bytes_said n x) result }
 {
-    let (p, labels) = gmail_label_list(alloc, m, p)?;
+    let (p, labels) = keep.labels(alloc, m, p)?;
     Ok((p, AttributeParts::GmailLabels(labels)))
 }
 
 #[tactic(auto, unfolding(crate::specs::Attributes::msg_att_gmail_msgid, imap_items::specs::Gmail::gmail_msgid))]
-fn msg_att_gmail_msgid<K: Keep>(m: &[u8], p: usize) -> Reached<AttributeKept<K::Text, K::Bytes>>
+fn msg_att_gmail_msgid<K: KeepAttribute>(
+    m: &[u8],
+    p: usize,
+) -> Reached<AttributeKept<K::Text, K::Bytes>>
     requires { p ≤ length m.now }
     ensures steps { ExactlyAt (λ x. parts_said K.text_said K.bytes_said m.now x) m.now result (step rules.msg_att_gmail_msgid (drop p m.now)) }
     ensures ahead { Ahead m.now p result }
@@ -329,7 +356,10 @@ fn msg_att_gmail_msgid<K: Keep>(m: &[u8], p: usize) -> Reached<AttributeKept<K::
 }
 
 #[tactic(auto, unfolding(crate::specs::Attributes::msg_att_gmail_thrid, imap_items::specs::Gmail::gmail_thrid))]
-fn msg_att_gmail_thrid<K: Keep>(m: &[u8], p: usize) -> Reached<AttributeKept<K::Text, K::Bytes>>
+fn msg_att_gmail_thrid<K: KeepAttribute>(
+    m: &[u8],
+    p: usize,
+) -> Reached<AttributeKept<K::Text, K::Bytes>>
     requires { p ≤ length m.now }
     ensures steps { ExactlyAt (λ x. parts_said K.text_said K.bytes_said m.now x) m.now result (step rules.msg_att_gmail_thrid (drop p m.now)) }
     ensures ahead { Ahead m.now p result }
@@ -378,27 +408,39 @@ fn bracketed_id(m: &[u8], p: usize) -> Reached<Span>
 }
 
 #[tactic(auto, unfolding(crate::specs::Attributes::msg_att_email_id))]
-fn msg_att_email_id<K: Keep>(m: &[u8], p: usize) -> Reached<AttributeKept<K::Text, K::Bytes>>
-    requires { p ≤ length m.now }
-    ensures steps { ExactlyAt (λ x. parts_said K.text_said K.bytes_said m.now x) m.now result (step rules.msg_att_email_id (drop p m.now)) }
+fn msg_att_email_id<K: KeepAttribute>(
+    keep: &K,
+    m: &[u8],
+    p: usize,
+) -> Reached<AttributeKept<K::Text, K::Bytes>>
+    requires inside { p ≤ length m.now }
+    requires serves { K.serves keep.now m.now }
+    ensures steps { GivesAt (λ x. parts_said K.text_said K.bytes_said m.now x) m.now result (step rules.msg_att_email_id (drop p m.now)) }
     ensures ahead { Ahead m.now p result }
     ensures rests { RestsOn (λ n x. parts_said K.text_said K.bytes_said n x) result }
 {
     let (p, _) = word(b"EMAILID ", m, p)?;
     let (p, id) = bracketed_id(m, p)?;
+    let id = keep.text(m, SpannedText::Part(id))?;
     Ok((p, AttributeParts::EmailId(id)))
 }
 
 #[tactic(auto, unfolding(crate::specs::Attributes::msg_att_thread_id))]
-fn msg_att_thread_id<K: Keep>(m: &[u8], p: usize) -> Reached<AttributeKept<K::Text, K::Bytes>>
-    requires { p ≤ length m.now }
-    ensures steps { ExactlyAt (λ x. parts_said K.text_said K.bytes_said m.now x) m.now result (step rules.msg_att_thread_id (drop p m.now)) }
+fn msg_att_thread_id<K: KeepAttribute>(
+    keep: &K,
+    m: &[u8],
+    p: usize,
+) -> Reached<AttributeKept<K::Text, K::Bytes>>
+    requires inside { p ≤ length m.now }
+    requires serves { K.serves keep.now m.now }
+    ensures steps { GivesAt (λ x. parts_said K.text_said K.bytes_said m.now x) m.now result (step rules.msg_att_thread_id (drop p m.now)) }
     ensures ahead { Ahead m.now p result }
     ensures rests { RestsOn (λ n x. parts_said K.text_said K.bytes_said n x) result }
 {
     let (p, _) = word(b"THREADID ", m, p)?;
     first!(nil(m, p), _ => AttributeParts::ThreadId(None));
     let (p, id) = bracketed_id(m, p)?;
+    let id = keep.text(m, SpannedText::Part(id))?;
     Ok((p, AttributeParts::ThreadId(Some(id))))
 }
 
@@ -487,7 +529,10 @@ fn skipped_value(m: &[u8], p: usize) -> Reached<()>
 // attributes apart would clear the room that it needs.
 #[tactic(auto, unfolding(crate::specs::Attributes::msg_att_unknown))]
 #[inline(never)]
-fn msg_att_unknown<K: Keep>(m: &[u8], p: usize) -> Reached<AttributeKept<K::Text, K::Bytes>>
+fn msg_att_unknown<K: KeepAttribute>(
+    m: &[u8],
+    p: usize,
+) -> Reached<AttributeKept<K::Text, K::Bytes>>
     requires { p ≤ length m.now }
     ensures steps { ExactlyAt (λ x. parts_said K.text_said K.bytes_said m.now x) m.now result (step rules.msg_att_unknown (drop p m.now)) }
     ensures ahead { Ahead m.now p result }
@@ -504,7 +549,7 @@ fn msg_att_unknown<K: Keep>(m: &[u8], p: usize) -> Reached<AttributeKept<K::Text
 
 #[tactic(auto, unfolding(crate::specs::Attributes::attribute_of_b))]
 #[inline(never)]
-fn attribute_of_b<K: Keep>(
+fn attribute_of_b<K: KeepAttribute>(
     keep: &K,
     alloc: Global,
     m: &[u8],
@@ -522,7 +567,7 @@ fn attribute_of_b<K: Keep>(
 
 #[tactic(auto, unfolding(crate::specs::Attributes::attribute_of_e))]
 #[inline(never)]
-fn attribute_of_e<K: Keep>(
+fn attribute_of_e<K: KeepAttribute>(
     keep: &K,
     alloc: Global,
     m: &[u8],
@@ -535,41 +580,48 @@ fn attribute_of_e<K: Keep>(
     ensures rests { RestsOn (λ n x. parts_said K.text_said K.bytes_said n x) result }
 {
     first!(msg_att_envelope(keep, alloc, m, p));
-    first!(msg_att_email_id::<K>(m, p));
+    first!(msg_att_email_id(keep, m, p));
     msg_att_unknown::<K>(m, p)
 }
 
 #[tactic(auto, unfolding(crate::specs::Attributes::attribute_of_f))]
 #[inline(never)]
-fn attribute_of_f<K: Keep>(
+fn attribute_of_f<K: KeepAttribute>(
+    keep: &K,
     alloc: Global,
     m: &[u8],
     p: usize,
 ) -> Reached<AttributeKept<K::Text, K::Bytes>>
-    requires { p ≤ length m.now }
+    requires inside { p ≤ length m.now }
+    requires serves { K.serves keep.now m.now }
     ensures steps { GivesAt (λ x. parts_said K.text_said K.bytes_said m.now x) m.now result (step rules.attribute_of_f (drop p m.now)) }
     ensures ahead { Ahead m.now p result }
     ensures rests { RestsOn (λ n x. parts_said K.text_said K.bytes_said n x) result }
 {
-    first!(msg_att_flags::<K>(alloc, m, p));
+    first!(msg_att_flags(keep, alloc, m, p));
     msg_att_unknown::<K>(m, p)
 }
 
 #[tactic(auto, unfolding(crate::specs::Attributes::attribute_of_i))]
 #[inline(never)]
-fn attribute_of_i<K: Keep>(m: &[u8], p: usize) -> Reached<AttributeKept<K::Text, K::Bytes>>
-    requires { p ≤ length m.now }
+fn attribute_of_i<K: KeepAttribute>(
+    keep: &K,
+    m: &[u8],
+    p: usize,
+) -> Reached<AttributeKept<K::Text, K::Bytes>>
+    requires inside { p ≤ length m.now }
+    requires serves { K.serves keep.now m.now }
     ensures steps { GivesAt (λ x. parts_said K.text_said K.bytes_said m.now x) m.now result (step rules.attribute_of_i (drop p m.now)) }
     ensures ahead { Ahead m.now p result }
     ensures rests { RestsOn (λ n x. parts_said K.text_said K.bytes_said n x) result }
 {
-    first!(msg_att_internal_date::<K>(m, p));
+    first!(msg_att_internal_date(keep, m, p));
     msg_att_unknown::<K>(m, p)
 }
 
 #[tactic(auto, unfolding(crate::specs::Attributes::attribute_of_m))]
 #[inline(never)]
-fn attribute_of_m<K: Keep>(m: &[u8], p: usize) -> Reached<AttributeKept<K::Text, K::Bytes>>
+fn attribute_of_m<K: KeepAttribute>(m: &[u8], p: usize) -> Reached<AttributeKept<K::Text, K::Bytes>>
     requires { p ≤ length m.now }
     ensures steps { GivesAt (λ x. parts_said K.text_said K.bytes_said m.now x) m.now result (step rules.attribute_of_m (drop p m.now)) }
     ensures ahead { Ahead m.now p result }
@@ -581,7 +633,7 @@ fn attribute_of_m<K: Keep>(m: &[u8], p: usize) -> Reached<AttributeKept<K::Text,
 
 #[tactic(auto, unfolding(crate::specs::Attributes::attribute_of_r))]
 #[inline(never)]
-fn attribute_of_r<K: Keep>(
+fn attribute_of_r<K: KeepAttribute>(
     keep: &K,
     m: &[u8],
     p: usize,
@@ -598,19 +650,24 @@ fn attribute_of_r<K: Keep>(
 
 #[tactic(auto, unfolding(crate::specs::Attributes::attribute_of_t))]
 #[inline(never)]
-fn attribute_of_t<K: Keep>(m: &[u8], p: usize) -> Reached<AttributeKept<K::Text, K::Bytes>>
-    requires { p ≤ length m.now }
+fn attribute_of_t<K: KeepAttribute>(
+    keep: &K,
+    m: &[u8],
+    p: usize,
+) -> Reached<AttributeKept<K::Text, K::Bytes>>
+    requires inside { p ≤ length m.now }
+    requires serves { K.serves keep.now m.now }
     ensures steps { GivesAt (λ x. parts_said K.text_said K.bytes_said m.now x) m.now result (step rules.attribute_of_t (drop p m.now)) }
     ensures ahead { Ahead m.now p result }
     ensures rests { RestsOn (λ n x. parts_said K.text_said K.bytes_said n x) result }
 {
-    first!(msg_att_thread_id::<K>(m, p));
+    first!(msg_att_thread_id(keep, m, p));
     msg_att_unknown::<K>(m, p)
 }
 
 #[tactic(auto, unfolding(crate::specs::Attributes::attribute_of_u))]
 #[inline(never)]
-fn attribute_of_u<K: Keep>(m: &[u8], p: usize) -> Reached<AttributeKept<K::Text, K::Bytes>>
+fn attribute_of_u<K: KeepAttribute>(m: &[u8], p: usize) -> Reached<AttributeKept<K::Text, K::Bytes>>
     requires { p ≤ length m.now }
     ensures steps { GivesAt (λ x. parts_said K.text_said K.bytes_said m.now x) m.now result (step rules.attribute_of_u (drop p m.now)) }
     ensures ahead { Ahead m.now p result }
@@ -622,17 +679,19 @@ fn attribute_of_u<K: Keep>(m: &[u8], p: usize) -> Reached<AttributeKept<K::Text,
 
 #[tactic(auto, unfolding(crate::specs::Attributes::attribute_of_x))]
 #[inline(never)]
-fn attribute_of_x<K: Keep>(
+fn attribute_of_x<K: KeepAttribute>(
+    keep: &K,
     alloc: Global,
     m: &[u8],
     p: usize,
 ) -> Reached<AttributeKept<K::Text, K::Bytes>>
-    requires { p ≤ length m.now }
+    requires inside { p ≤ length m.now }
+    requires serves { K.serves keep.now m.now }
     ensures steps { GivesAt (λ x. parts_said K.text_said K.bytes_said m.now x) m.now result (step rules.attribute_of_x (drop p m.now)) }
     ensures ahead { Ahead m.now p result }
     ensures rests { RestsOn (λ n x. parts_said K.text_said K.bytes_said n x) result }
 {
-    first!(msg_att_gmail_labels::<K>(alloc, m, p));
+    first!(msg_att_gmail_labels(keep, alloc, m, p));
     first!(msg_att_gmail_msgid::<K>(m, p));
     first!(msg_att_gmail_thrid::<K>(m, p));
     msg_att_unknown::<K>(m, p)
@@ -640,10 +699,10 @@ fn attribute_of_x<K: Keep>(
 
 /// An attribute (RFC 3501, section 9: msg-att): of the alternatives those are tried, in order, that may start with the first byte.
 ///
-/// It takes memory for lists, envelopes and body structures; and where values are kept of their strings, for texts of a body
-/// structure that are no UTF-8.
+/// It takes memory for lists, envelopes and body structures; and where values are kept of their strings, for texts that are no
+/// UTF-8.
 #[tactic(auto, using(crate::proofs::AttributeFirstBytes::attribute_none, crate::proofs::AttributeFirstBytes::attribute_is_of_b, crate::proofs::AttributeFirstBytes::attribute_is_of_e, crate::proofs::AttributeFirstBytes::attribute_is_of_f, crate::proofs::AttributeFirstBytes::attribute_is_of_i, crate::proofs::AttributeFirstBytes::attribute_is_of_m, crate::proofs::AttributeFirstBytes::attribute_is_of_r, crate::proofs::AttributeFirstBytes::attribute_is_of_t, crate::proofs::AttributeFirstBytes::attribute_is_of_u, crate::proofs::AttributeFirstBytes::attribute_is_of_x, crate::proofs::AttributeFirstBytes::attribute_other))]
-pub fn attribute<K: Keep>(
+pub fn attribute<K: KeepAttribute>(
     keep: &K,
     alloc: Global,
     m: &[u8],
@@ -660,13 +719,13 @@ pub fn attribute<K: Keep>(
         None => Err(Err::Incomplete(Needed::Unknown)),
         Some(b'b' | b'B') => attribute_of_b(keep, alloc, m, p),
         Some(b'e' | b'E') => attribute_of_e(keep, alloc, m, p),
-        Some(b'f' | b'F') => attribute_of_f::<K>(alloc, m, p),
-        Some(b'i' | b'I') => attribute_of_i::<K>(m, p),
+        Some(b'f' | b'F') => attribute_of_f(keep, alloc, m, p),
+        Some(b'i' | b'I') => attribute_of_i(keep, m, p),
         Some(b'm' | b'M') => attribute_of_m::<K>(m, p),
         Some(b'r' | b'R') => attribute_of_r(keep, m, p),
-        Some(b't' | b'T') => attribute_of_t::<K>(m, p),
+        Some(b't' | b'T') => attribute_of_t(keep, m, p),
         Some(b'u' | b'U') => attribute_of_u::<K>(m, p),
-        Some(b'x' | b'X') => attribute_of_x::<K>(alloc, m, p),
+        Some(b'x' | b'X') => attribute_of_x(keep, alloc, m, p),
         Some(_) => msg_att_unknown::<K>(m, p),
     }
 }

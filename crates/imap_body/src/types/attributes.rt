@@ -53,8 +53,8 @@ pub enum AttributeParts<S, B, Y> {
 /// An attribute of a message (RFC 3501, section 9: msg-att).
 pub type AttributeValue<'a> = AttributeParts<CowStr<'a>, CowSlice<'a, u8>, BodyStructure<'a>>;
 
-/// An attribute as a reader keeps it: short texts as spans, and what is kept of the texts of a structure and of byte strings.
-pub type AttributeKept<S, B> = AttributeParts<Span, B, Box<bodies::BodyStructure<S, B>>>;
+/// An attribute as a reader keeps it, by what is kept of texts and of byte strings. Its body structure is boxed.
+pub type AttributeKept<S, B> = AttributeParts<S, B, Box<bodies::BodyStructure<S, B>>>;
 
 /// An attribute as spans of a message.
 pub type AttributeSpans = AttributeKept<SpannedText, Span>;

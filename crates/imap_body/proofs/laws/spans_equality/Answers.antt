@@ -8,4 +8,4 @@ returns-clause-body_structure c = c.equality.ensures.body_structure place_of_tex
 
 pub returns-clause-attribute : goal.returns-clause-attribute
 returns-clause-attribute c =
-    c.attributes_equality.ensures place_of place_of (λ b. places_of_body b.value) places_tell places_tell (field (λ b. b.value) (c.equality.ensures.body_structure place_of_text place_of text_places_tell places_tell))
+    c.attributes_equality.ensures place_of_text place_of (λ b. places_of_body b.value) text_places_tell places_tell (field (λ b. b.value) (c.equality.ensures.body_structure place_of_text place_of text_places_tell places_tell))

@@ -4,4 +4,4 @@ use Rattle.imap_shapes.specs.BodyValues.{body_seen}
 use Rattle.imap_body.proofs.spanned.SpannedAttribute+CowStr+CowSlice+u8.push_value.Goals as goal
 
 pub returns : goal.returns
-returns c = rw c.part.ensures at c.push_named.ensures bytes_of (body_seen text_of bytes_of)
+returns c = c.push_unboxed.ensures text_of bytes_of (body_seen text_of bytes_of)

@@ -1,5 +1,4 @@
-use Rattle.std.proofs.Common.{rules}
 use Rattle.imap_body.proofs.spanned.SpannedAttribute.value.Goals as goal
 
 pub returns : goal.returns
-returns c = search rules depth 2
+returns c = rw c.part.ensures at c.value.ensures
