@@ -13,6 +13,7 @@ use imap_grammar::at::span::rest;
 ///
 /// It is judged behind the byte that ends its digits: a larger one is `Error`, digits up to the end of the input wait.
 #[tactic(auto, using(imap_grammar::proofs::Agreement::exact_answered), unfolding(crate::specs::Numbers::number))]
+#[inline(always)]
 pub fn number(i: &[u8]) -> IResult<&[u8], u32>
     ensures steps { Exactly (λ x. x) result (step numbers.number i.now) }
     ensures answer { Answers numbers.number (λ x. x) i.now result }
