@@ -8,6 +8,7 @@ pub mod Consumption
 pub mod Tables
 pub mod Loops
 pub mod Runs
+mod Lanes
 pub mod Decoding
 pub mod Joins
 pub mod Under

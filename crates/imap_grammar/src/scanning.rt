@@ -1,10 +1,13 @@
 //! Where a run of bytes of one class ends (RFC 3501, section 9: each `1*` of a class).
 
-ghost use Rattle.std.specs.Prelude.{◌≡◌, ◌<◌, ℕ, Bool, length, position, IfSome};
+ghost use Rattle.std.specs.Prelude.{◌≡◌, ◌<◌, ◌≤◌, ◌==◌, if◌then◌else◌, ℕ, Bool, length, take, position, IfSome};
+ghost use Rattle.std.specs.Int.{w64, trailing_zeros};
+ghost use Rattle.std.specs.List.{position_or_len};
 ghost use Rattle.imap_grammar.specs.Classes as classes;
 ghost use Rattle.imap_grammar.specs.Meaning.{outside};
 
 use crate::classes::{is_astring_char, is_atom_char, is_quoted_char, is_text_char};
+use std::simd::prelude::*;
 
 /// A class of bytes, as a type.
 pub trait Class {
@@ -15,6 +18,26 @@ pub trait Class {
         ensures { result ≡ class c };
 }
 
+/// A class whose runs are mostly long: sixteen bytes are looked at at once.
+pub trait LongRuns: Class {
+    /// Which of the first sixteen bytes is the first that is not of the class; 16 where each is of it. No memory.
+    fn sixteen_end(i: &[u8]) -> usize
+        requires { 16 ≤ length i.now }
+        ensures { result ≡ position_or_len (outside Self.class) (take 16 i.now) };
+}
+
+// Which of sixteen bits is the lowest that is set; 16 where none is.
+#[inline(always)]
+fn lowest_set(bits: u64) -> usize
+    ensures { result ≡ (if bits == 0 then 16 else trailing_zeros w64 bits) }
+{
+    if bits == 0 {
+        16
+    } else {
+        bits.trailing_zeros() as usize
+    }
+}
+
 /// The class of text-chars.
 pub struct TextChar;
 
@@ -23,6 +46,17 @@ impl Class for TextChar {
 
     fn has(c: u8) -> bool {
         is_text_char(c)
+    }
+}
+
+impl LongRuns for TextChar {
+    #[inline(always)]
+    fn sixteen_end(i: &[u8]) -> usize {
+        let bytes = u8x16::from_slice(i);
+        let outside = bytes.simd_eq(u8x16::splat(0))
+            | bytes.simd_eq(u8x16::splat(b'\n'))
+            | bytes.simd_eq(u8x16::splat(b'\r'));
+        lowest_set(outside.to_bitmask())
     }
 }
 
@@ -56,6 +90,19 @@ impl Class for QuotedChar {
 
     fn has(c: u8) -> bool {
         is_quoted_char(c)
+    }
+}
+
+impl LongRuns for QuotedChar {
+    #[inline(always)]
+    fn sixteen_end(i: &[u8]) -> usize {
+        let bytes = u8x16::from_slice(i);
+        let outside = bytes.simd_eq(u8x16::splat(0))
+            | bytes.simd_eq(u8x16::splat(b'\n'))
+            | bytes.simd_eq(u8x16::splat(b'\r'))
+            | bytes.simd_eq(u8x16::splat(b'"'))
+            | bytes.simd_eq(u8x16::splat(b'\\'));
+        lowest_set(outside.to_bitmask())
     }
 }
 
@@ -94,6 +141,31 @@ pub fn run_end<C: Class>(i: &[u8]) -> Option<usize>
         left = more;
     }
     match run_end_bytewise::<C>(left) {
+        Some(k) => Some(n + k),
+        None => None,
+    }
+}
+
+/// The same of a class whose runs are mostly long. No memory.
+///
+/// Sixteen bytes are looked at in each turn, and what is left by `run_end`.
+#[inline(always)]
+pub fn long_run_end<C: LongRuns>(i: &[u8]) -> Option<usize>
+    ensures at { result ≡ position (outside C.class) i.now }
+    ensures within { IfSome result (λ n. n < length i.now) }
+{
+    let mut n = 0;
+    let mut left = i;
+    'sixteens: while left.len() >= 16 {
+        let k = C::sixteen_end(left);
+        if k < 16 {
+            return Some(n + k);
+        }
+        n += 16;
+        let (_, more) = left.split_at(16);
+        left = more;
+    }
+    match run_end::<C>(left) {
         Some(k) => Some(n + k),
         None => None,
     }

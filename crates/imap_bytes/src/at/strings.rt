@@ -15,7 +15,7 @@ use crate::strings::as_utf8;
 use imap_grammar::at::span::Span;
 use imap_grammar::at::tags::{cut0, cut1, tag, word};
 use imap_grammar::lists::tried;
-use imap_grammar::scanning::{AstringChar, AtomChar, QuotedChar, run_end};
+use imap_grammar::scanning::{AstringChar, AtomChar, QuotedChar, long_run_end, run_end};
 use imap_grammar::{Err, Needed, first};
 
 #[inline(always)]
@@ -25,7 +25,7 @@ fn plain(m: &[u8], p: usize) -> Result<(usize, Span), Err>
     ensures inside { Inside m.now p result }
 {
     let (_, i) = m.split_at(p);
-    cut1(run_end::<QuotedChar>(i), m, p)
+    cut1(long_run_end::<QuotedChar>(i), m, p)
 }
 
 #[tactic(auto, unfolding(crate::specs::Strings::quoted_part))]

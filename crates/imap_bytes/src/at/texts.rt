@@ -12,7 +12,7 @@ ghost use Rattle.imap_bytes.specs.Texts as texts;
 use imap_grammar::Err;
 use imap_grammar::at::span::Span;
 use imap_grammar::at::tags::cut0;
-use imap_grammar::scanning::{TextChar, run_end};
+use imap_grammar::scanning::{TextChar, long_run_end};
 
 /// Text-chars, maybe none.
 pub fn text_chars(m: &[u8], p: usize) -> Result<(usize, Span), Err>
@@ -22,7 +22,7 @@ pub fn text_chars(m: &[u8], p: usize) -> Result<(usize, Span), Err>
     ensures no_failure { NeverFails result }
 {
     let (_, i) = m.split_at(p);
-    cut0(run_end::<TextChar>(i), m, p)
+    cut0(long_run_end::<TextChar>(i), m, p)
 }
 
 /// Text-chars up to the first other byte, maybe none, as the span of the text (RFC 3501, section 9: text).
