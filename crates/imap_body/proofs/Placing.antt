@@ -1,5 +1,5 @@
--- Where a reader of what stands behind a position stopped, as a position; and what texts say that are spans.
-use Rattle.std.proofs.Common.{◌≡◌, ℕ, ◌-◌, ◌≤◌, List, [], ◌∷◌, length, drop, map, Ok, refl, ap}
+-- Where a reader of slices stopped, as a position; and what texts say that are spans.
+use Rattle.std.proofs.Common.{◌≡◌, ℕ, ◌-◌, ◌≤◌, List, [], ◌∷◌, length, drop, map, Ok, refl, ap, arith}
 use Rattle.imap_grammar.specs.Rule.{Rule}
 use Rattle.imap_grammar.specs.Step.{step}
 use Rattle.imap_grammar.specs.Text.{Bytes}
@@ -10,10 +10,14 @@ use Rattle.imap_items.specs.Spanned.{text_in as span_in}
 use Rattle.imap_shapes.specs.declared.spans.SpannedText.TheVariants.{Part}
 use Rattle.imap_shapes.specs.Spans.{text_in}
 
-pub placed : {V : Type 0} (r : Rule V) (m left : Bytes) (p : ℕ) (v : V) → p ≤ length m → step r (drop p m) ≡ Ok (left, v) → (length left ≤ length m) × (drop (length m - length left) m ≡ left) × (p ≤ length m - length left)
-placed r m left p v le e =
-    let cut = shrinks r (drop p m) v left ((agrees r (drop p m)).yielded v left e) in
-    ended m (drop p m) left cut.0 p le refl cut.1
+-- what a reader of k behind p left, as a position of m, where k is m
+pub placed : {V : Type 0} (r : Rule V) (m k left : Bytes) (p : ℕ) (v : V) → k ≡ m → p ≤ length m → step r (drop p k) ≡ Ok (left, v)
+    → (length left ≤ length k) × (step r (drop p m) ≡ Ok (drop (length k - length left) m, v)) × (p ≤ length k - length left) × (length k - length left ≤ length m)
+placed r m k left p v same le e =
+    let here : step r (drop p m) ≡ Ok (left, v) = rw same at e in
+    let cut = shrinks r (drop p m) v left ((agrees r (drop p m)).yielded v left here) in
+    let at = ended m (drop p m) left cut.0 p le refl cut.1 in
+    rw same (at.0, rw at.1 here, at.2, omega arith)
 
 pub spans_said : (m : Bytes) (spans : List Span) → map (text_in m) (map (λ s. Part s) spans) ≡ map (span_in m) spans
 spans_said m [] = refl

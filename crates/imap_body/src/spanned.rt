@@ -3,10 +3,8 @@
 ghost use Rattle.std.specs.Prelude.{◌≡◌, ◌≤◌, ◌+◌, ◌++◌, ◌∷◌, [], length, drop, map, IfOk, OnOk};
 ghost use Rattle.imap_grammar.specs.Positions.{AnswersAt, GivesAt, Ahead, RestsOn};
 ghost use Rattle.imap_grammar.specs.Step.{step};
-ghost use Rattle.imap_body.specs.AttributeValues.{attribute_value, parts_in};
+ghost use Rattle.imap_body.specs.AttributeValues.{attribute_value, kept_value, parts_in};
 ghost use Rattle.imap_body.specs.SpannedAttributes.{attribute_in, attribute_said, EndsAt, InTurn};
-ghost use Rattle.imap_grammar.specs.Text.{text_of};
-ghost use Rattle.imap_shapes.specs.Spans.{bytes_of};
 ghost use Rattle.imap_body.specs.Attributes as rules;
 
 use crate::at::attributes::attribute;
@@ -47,9 +45,9 @@ impl SpannedAttribute {
 }
 
 impl<'a> SpannedAttribute<CowStr<'a>, CowSlice<'a, u8>> {
-    /// Puts the attribute behind others, what is kept of its strings as it is: no message is looked up any more.
+    /// Puts the attribute behind others: what was kept of its strings is what they are. It takes memory where the list has no room.
     pub(crate) fn push_value(self, values: &mut Vec<AttributeValue<'a>>) -> Result<(), AllocError>
-        ensures { OnOk result (map attribute_value values.new.items ≡ map attribute_value values.old.items ++ attribute_said (λ n t. text_of t) (λ n t. bytes_of t) [] self.entry ∷ []) }
+        ensures { OnOk result (map attribute_value values.new.items ≡ map attribute_value values.old.items ++ kept_value self.entry.parts ∷ []) }
     {
         self.parts.push_unboxed(values)
     }

@@ -75,7 +75,7 @@ fn tagged(alloc: Global, i: &[u8]) -> IResult<&[u8], Response<'_>>
     let (rest, tag_text) = request_tag(i)?;
     let (rest, _) = tag(b" ", rest)?;
     let (rest, status) = status(rest)?;
-    let (rest, outcome) = spaced_outcome(alloc, rest)?;
+    let (rest, outcome) = made!(spaced_outcome(alloc, rest));
     let (rest, _) = made!(tag(b"\r\n", rest), outcome);
     let tag = RequestId(String::from_str(alloc, tag_text)?);
     Ok((

@@ -21,6 +21,7 @@ use imap_bytes::IResult;
 use imap_data::{Acl, Capability, ListRights, MailboxDatum, MyRights, Quota, QuotaRoot, Status};
 use imap_extensions::{IdMap, owned_id_map};
 use imap_items::owned::owned_capabilities;
+use imap_shapes::made;
 use std::alloc::{AllocError, Global};
 use std::borrow::CowStr;
 use std::collections::HashMap;
@@ -128,34 +129,34 @@ impl<'a> Response<'a> {
     {
         Ok(match self {
             Response::Capabilities(capabilities) => {
-                Response::Capabilities(owned_capabilities(alloc, capabilities)?)
+                Response::Capabilities(made!(owned_capabilities(alloc, capabilities)))
             }
-            Response::Continue(outcome) => Response::Continue(outcome.into_owned(alloc)?),
+            Response::Continue(outcome) => Response::Continue(made!(outcome.into_owned(alloc))),
             Response::Done {
                 tag,
                 status,
                 outcome,
             } => Response::Done {
+                outcome: made!(outcome.into_owned(alloc), tag),
                 tag,
                 status,
-                outcome: outcome.into_owned(alloc)?,
             },
             Response::Data { status, outcome } => Response::Data {
                 status,
-                outcome: outcome.into_owned(alloc)?,
+                outcome: made!(outcome.into_owned(alloc)),
             },
             Response::Expunge(number) => Response::Expunge(number),
             Response::Vanished { earlier, uids } => Response::Vanished { earlier, uids },
             Response::Fetch(number, attributes) => {
-                Response::Fetch(number, owned_attributes(alloc, attributes)?)
+                Response::Fetch(number, made!(owned_attributes(alloc, attributes)))
             }
-            Response::MailboxData(datum) => Response::MailboxData(datum.into_owned(alloc)?),
-            Response::Quota(quota) => Response::Quota(quota.into_owned(alloc)?),
-            Response::QuotaRoot(root) => Response::QuotaRoot(root.into_owned(alloc)?),
-            Response::Id(id) => Response::Id(owned_id(alloc, id)?),
-            Response::Acl(acl) => Response::Acl(acl.into_owned(alloc)?),
-            Response::ListRights(rights) => Response::ListRights(rights.into_owned(alloc)?),
-            Response::MyRights(rights) => Response::MyRights(rights.into_owned(alloc)?),
+            Response::MailboxData(datum) => Response::MailboxData(made!(datum.into_owned(alloc))),
+            Response::Quota(quota) => Response::Quota(made!(quota.into_owned(alloc))),
+            Response::QuotaRoot(root) => Response::QuotaRoot(made!(root.into_owned(alloc))),
+            Response::Id(id) => Response::Id(made!(owned_id(alloc, id))),
+            Response::Acl(acl) => Response::Acl(made!(acl.into_owned(alloc))),
+            Response::ListRights(rights) => Response::ListRights(made!(rights.into_owned(alloc))),
+            Response::MyRights(rights) => Response::MyRights(made!(rights.into_owned(alloc))),
         })
     }
 

@@ -1,18 +1,36 @@
 //! Attributes of a message.
 
-ghost use Rattle.std.specs.Prelude.{map};
+ghost use Rattle.std.specs.Prelude.{◌≡◌, ◌≤◌, length, drop, map, IfOk, IfErr};
 ghost use Rattle.imap_grammar.specs.Answer.{Answers, Gives};
 ghost use Rattle.imap_grammar.specs.Step.{step};
-ghost use Rattle.imap_body.specs.AttributeValues.{attribute_value};
+ghost use Rattle.imap_grammar.specs.declared.answer.Err.TheVariants.{Failure};
+ghost use Rattle.imap_body.specs.AttributeValues.{attribute_value, parts_in};
 ghost use Rattle.imap_body.specs.Attributes as rules;
 
 use crate::at;
 use crate::keeping::kept_list;
-use crate::types::attributes::AttributeValue;
+use crate::types::attributes::{AttributeSpans, AttributeValue};
 use imap_bytes::IResult;
 use imap_bytes::at::span::rest;
 use imap_envelopes::{Named, Positions};
+use imap_shapes::made;
 use std::alloc::Global;
+
+// The attribute that these positions in i name, and what follows q.
+fn named<'a>(
+    alloc: Global,
+    i: &'a [u8],
+    q: usize,
+    spans: AttributeSpans,
+) -> IResult<&'a [u8], AttributeValue<'a>>
+    requires { q ≤ length i.now }
+    ensures is { IfOk result (λ x. (x.0.now ≡ drop q i.now) × (attribute_value x.1 ≡ parts_in i.now spans)) }
+    ensures memory { IfErr result (λ e. e ≡ Failure) }
+{
+    let value = spans.value(alloc, i);
+    drop(spans);
+    Ok((rest(i, q), value?))
+}
 
 /// A section of a message's body, maybe from an index on, and its contents (RFC 3501, section 7.4.2: `BODY[<section>]<<origin octet>>`).
 ///
@@ -22,10 +40,8 @@ pub fn msg_att_body_section(alloc: Global, i: &[u8]) -> IResult<&[u8], Attribute
     ensures steps { Gives (λ x. attribute_value x) result (step rules.msg_att_body_section i.now) }
     ensures answer { Answers rules.msg_att_body_section (λ x. attribute_value x) i.now result }
 {
-    let (q, spans) = at::attributes::msg_att_body_section(&Positions, alloc, i, 0)?;
-    let value = spans.value(alloc, i);
-    drop(spans);
-    Ok((rest(i, q), value?))
+    let (q, spans) = made!(at::attributes::msg_att_body_section(&Positions, alloc, i, 0));
+    named(alloc, i, q, spans)
 }
 
 /// An attribute of a message (RFC 3501, section 9: msg-att; RFC 7162, section 7; RFC 8474, section 7; Gmail's X-GM-EXT-1). Any other,
@@ -37,10 +53,8 @@ pub fn attribute(alloc: Global, i: &[u8]) -> IResult<&[u8], AttributeValue<'_>>
     ensures steps { Gives (λ x. attribute_value x) result (step rules.attribute i.now) }
     ensures answer { Answers rules.attribute (λ x. attribute_value x) i.now result }
 {
-    let (q, spans) = at::attributes::attribute(&Positions, alloc, i, 0)?;
-    let value = spans.value(alloc, i);
-    drop(spans);
-    Ok((rest(i, q), value?))
+    let (q, spans) = made!(at::attributes::attribute(&Positions, alloc, i, 0));
+    named(alloc, i, q, spans)
 }
 
 /// The attributes of a message in parentheses, one or more, by one space (RFC 3501, section 9: msg-att).
@@ -51,6 +65,6 @@ pub fn attribute_list(alloc: Global, i: &[u8]) -> IResult<&[u8], Vec<AttributeVa
     ensures steps { Gives (λ x. map attribute_value x.items) result (step rules.attribute_list i.now) }
     ensures answer { Answers rules.attribute_list (λ x. map attribute_value x.items) i.now result }
 {
-    let (q, values) = kept_list(&Named { alloc, m: i }, alloc, i, 0)?;
+    let (q, values) = made!(kept_list(&Named { alloc, m: i }, alloc, i, 0));
     Ok((rest(i, q), values))
 }

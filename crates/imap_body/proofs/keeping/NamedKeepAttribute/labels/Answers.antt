@@ -1,4 +1,3 @@
-use Rattle.std.proofs.Common.{sym, arith}
 use Rattle.std.proofs.lemmas.Result.{err_from_is_err_and}
 use Rattle.imap_items.specs.Gmail.{gmail_label_list}
 use Rattle.imap_body.proofs.Placing.{placed}
@@ -13,18 +12,12 @@ returns-in_err-rest-clause-steps c =
     rw (p.1, p.2) (rw (c.split_at.ensures.back, c.requires.serves) at c.in_err-rest.ensures.steps)
 
 pub overflow_sub-result : goal.overflow_sub-result
-overflow_sub-result c =
-    let here = rw c.split_at.ensures.back at c.in_ok-rest.ensures.steps in
-    (placed gmail_label_list c.args.self.now.m.now c.in_ok-rest.rest.now c.args.p _ (rw c.requires.serves c.requires.inside) here).0
+overflow_sub-result c = (placed gmail_label_list _ _ _ c.args.p _ c.requires.serves c.requires.inside (rw c.split_at.ensures.back at c.in_ok-rest.ensures.steps)).0
 
 pub returns-clause-steps : goal.returns-clause-steps
-returns-clause-steps c =
-    let here = rw c.split_at.ensures.back at c.in_ok-rest.ensures.steps in
-    let at = placed gmail_label_list c.args.self.now.m.now c.in_ok-rest.rest.now c.args.p _ (rw c.requires.serves c.requires.inside) here in
-    rw (sym c.requires.serves) (rw at.1 here)
+returns-clause-steps c = (placed gmail_label_list _ _ _ c.args.p _ c.requires.serves c.requires.inside (rw c.split_at.ensures.back at c.in_ok-rest.ensures.steps)).1
 
 pub returns-clause-ahead : goal.returns-clause-ahead
 returns-clause-ahead c =
-    let here = rw c.split_at.ensures.back at c.in_ok-rest.ensures.steps in
-    let at = placed gmail_label_list c.args.self.now.m.now c.in_ok-rest.rest.now c.args.p _ (rw c.requires.serves c.requires.inside) here in
-    rw (sym c.requires.serves) (at.2, omega arith)
+    let at = placed gmail_label_list _ _ _ c.args.p _ c.requires.serves c.requires.inside (rw c.split_at.ensures.back at c.in_ok-rest.ensures.steps) in
+    (at.2, at.3)
