@@ -7,7 +7,7 @@ use imap_proto::Response;
 use imap_proto::imap_core::IResult;
 use std::alloc::{AllocError, Global};
 use std::borrow::CowStr;
-use std::fmt::Debug;
+use std::fmt::{Debug, Display};
 use std::process::Abort;
 
 /// Inputs, each with what a reader answers.
@@ -65,11 +65,24 @@ pub fn says_bytes(alloc: Global, answer: IResult<&[u8], &[u8]>, want: &str) -> b
     }
 }
 
+/// Whether `Response::parse` answers so.
+pub fn parses(alloc: Global, line: &[u8], want: &str) -> bool {
+    says(alloc, Response::parse(alloc, line), want)
+}
+
+/// Whether this is the text of a value.
+pub fn displays<T: Display + Drop>(alloc: Global, value: T, want: &str) -> bool {
+    match format!(in alloc; "{value}") {
+        Ok(text) => text.as_str() == want,
+        Err(_) => false,
+    }
+}
+
 /// Asserts that `Response::parse` answers each line of the tables as its row says, and that the line may be cut anywhere.
 pub fn assert_lines(rt: &impl Abort, alloc: Global, tables: &[Rows]) {
     for rows in tables {
         for (line, want) in *rows {
-            assert!(rt; says(alloc, Response::parse(alloc, line), want), "{want}");
+            assert!(rt; parses(alloc, line, want), "{want}");
             assert!(rt; may_be_cut(alloc, line), "{want}");
         }
     }

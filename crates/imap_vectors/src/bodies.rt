@@ -8,6 +8,7 @@ use imap_proto::rfc3501::body_structure::{
 };
 use std::alloc::{AllocError, Global};
 use std::borrow::CowStr;
+use std::process::Abort;
 use std::test::*;
 
 /// The fields of a body, in order.
@@ -192,13 +193,15 @@ fn extensions_of_bodies(rt: HostRuntime) {
     }
 }
 
+fn assert_bodies(rt: &impl Abort, alloc: Global, rows: Rows) {
+    for (input, want) in rows {
+        assert!(rt; says(alloc, body_structure(alloc, input), want), "{want}");
+        assert!(rt; says(alloc, owned_body(alloc, input), want), "{want}");
+    }
+}
+
 #[test]
 fn bodies(rt: HostRuntime) {
-    let alloc = rt.alloc();
-    for rows in [SINGLE_PARTS, MESSAGES_AND_MULTIPARTS] {
-        for (input, want) in rows {
-            assert!(rt; says(alloc, body_structure(alloc, input), want), "{want}");
-            assert!(rt; says(alloc, owned_body(alloc, input), want), "{want}");
-        }
-    }
+    assert_bodies(&rt, rt.alloc(), SINGLE_PARTS);
+    assert_bodies(&rt, rt.alloc(), MESSAGES_AND_MULTIPARTS);
 }

@@ -4,8 +4,7 @@ ghost use Rattle.std.specs.Prelude.{◌≡◌, codes};
 ghost use Rattle.imap_proto.specs.LineTexts.{canonical_bytes};
 ghost use Rattle.imap_vectors.specs.CanonicalRows as value;
 
-use crate::answers::says;
-use imap_proto::Response;
+use crate::answers::parses;
 use std::alloc::{AllocError, Global};
 use std::test::*;
 
@@ -111,13 +110,9 @@ fn reads_back(alloc: Global, row: &Row) -> Result<bool, AllocError> {
     followed.extend_from_slice(b"xy")?;
     let says_followed = format!(in alloc; "{} then \"xy\"", row.says)?;
     Ok(
-        says(alloc, Response::parse(alloc, row.line), row.says)
-            && says(alloc, Response::parse(alloc, row.canonical), row.says)
-            && says(
-                alloc,
-                Response::parse(alloc, followed.as_slice()),
-                says_followed.as_str(),
-            ),
+        parses(alloc, row.line, row.says)
+            && parses(alloc, row.canonical, row.says)
+            && parses(alloc, followed.as_slice(), says_followed.as_str()),
     )
 }
 
@@ -129,9 +124,9 @@ fn canonical_texts(rt: HostRuntime) {
         assert!(rt; matches!(reads_back(alloc, row), Ok(true)), "{}", row.says);
     }
     assert!(rt;
-        says(
+        parses(
             alloc,
-            Response::parse(alloc, BRACKETED),
+            BRACKETED,
             r#"Data { status: Ok, outcome: Outcome { code: None, information: Some("[BADCHARSET ({5}") } } then "abcdex""#,
         ),
         "bracket",

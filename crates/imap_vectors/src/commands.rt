@@ -1,5 +1,6 @@
 //! Commands.
 
+use crate::answers::displays;
 use imap_proto::builders::command::{
     AttrMacro, Attribute, BuildError, Command, CommandBuilder, State,
 };
@@ -142,7 +143,7 @@ fn refused_arguments(rt: HostRuntime) {
 }
 
 #[test]
-fn texts_of_refusals(rt: HostRuntime) -> Result<(), Fail> {
+fn texts_of_refusals(rt: HostRuntime) {
     let rows = [
         (BuildError::CarriageReturn, "carriage return in an argument"),
         (BuildError::LineFeed, "line feed in an argument"),
@@ -150,7 +151,6 @@ fn texts_of_refusals(rt: HostRuntime) -> Result<(), Fail> {
         (BuildError::OutOfMemory, "out of memory"),
     ];
     for (refusal, want) in rows {
-        assert_eq!(rt; format!(in rt.alloc(); "{refusal}")?.as_str(), want);
+        assert!(rt; displays(rt.alloc(), refusal, want), "{want}");
     }
-    Ok(())
 }

@@ -1,11 +1,10 @@
 //! Fetches that are kept, and attributes as positions: what they tell of their message, and of another one in its place.
 
-use crate::answers::{says, says_at};
+use crate::answers::{parses, says, says_at};
 use crate::{codes, extensions, fetches, mailboxes, statuses};
 use imap_body::AttributeValue;
 use imap_body::spanned::{SpannedAttribute, attribute_list_at};
 use imap_body::spans::Span;
-use imap_proto::Response;
 use imap_proto::imap_core::Err;
 use imap_proto::kept::KeptFetch;
 use std::alloc::{AllocError, Global};
@@ -71,7 +70,7 @@ pub fn is_kept(alloc: Global, line: &[u8], want: &str) -> bool {
 fn is_not_kept(alloc: Global, line: &[u8], want: &str) -> bool {
     match KeptFetch::keep(alloc, line) {
         Ok(Some(_)) => false,
-        Ok(None) => says(alloc, Response::parse(alloc, line), want),
+        Ok(None) => parses(alloc, line, want),
         Err(error) => says(alloc, Err::<(&[u8], u32), _>(error), want),
     }
 }
@@ -145,7 +144,7 @@ fn is_kept_so(alloc: Global, want: &KeptLine) -> bool {
                 && kept.len() == want.attributes
                 && kept.bytes().len() == want.bytes
                 && tells(alloc, &kept, want.line, want.told)
-                && says(alloc, Response::parse(alloc, kept.bytes()), want.alone)
+                && parses(alloc, kept.bytes(), want.alone)
         }
         _ => false,
     }

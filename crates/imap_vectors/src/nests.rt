@@ -85,22 +85,50 @@ const DEPTHS: [(u32, Ending); 3] = [
     (101, Ending::Denied),
 ];
 
+// How the reading of a body ends that is nested so.
+fn ending_of_body(
+    alloc: Global,
+    start: &[u8],
+    nest: &Nest,
+    levels: u32,
+    end: &[u8],
+) -> Result<Ending, AllocError> {
+    let body = nested(alloc, start, nest, levels, end)?;
+    Ok(ending_of(body_structure(alloc, &body)))
+}
+
+// How the reading of extension data ends that has so many lists inside one another.
+fn ending_of_lists(alloc: Global, levels: u32) -> Result<Ending, AllocError> {
+    let lists = nested(alloc, b"", &LISTS, levels, b"")?;
+    Ok(ending_of(body_extension(alloc, &lists)))
+}
+
 #[test]
 fn nesting(rt: HostRuntime) -> Result<(), Fail> {
     let alloc = rt.alloc();
     for (levels, want) in DEPTHS {
-        for nest in [&MULTIPARTS, &MESSAGES] {
-            let line = nested(alloc, b"", nest, levels, b"")?;
-            assert!(rt; ending_of(body_structure(alloc, &line)) == want, "{levels}");
-        }
-        let line = nested(alloc, b"", &LISTS, levels, b"")?;
-        assert!(rt; ending_of(body_extension(alloc, &line)) == want, "{levels}");
-        let line = nested(alloc, BEFORE_LISTS, &LISTS, levels, b")")?;
-        assert!(rt; ending_of(body_structure(alloc, &line)) == want, "{levels}");
+        let multiparts = ending_of_body(alloc, b"", &MULTIPARTS, levels, b"")?;
+        let messages = ending_of_body(alloc, b"", &MESSAGES, levels, b"")?;
+        assert!(rt; multiparts == want && messages == want, "{levels} bodies");
+        let alone = ending_of_lists(alloc, levels)?;
+        let in_a_body = ending_of_body(alloc, BEFORE_LISTS, &LISTS, levels, b")")?;
+        assert!(rt; alone == want && in_a_body == want, "{levels} lists");
     }
-    assert!(rt; MAX_BODY_DEPTH == 100);
-    assert!(rt; MAX_EXTENSION_DEPTH == 100);
+    assert!(rt; MAX_BODY_DEPTH == 100 && MAX_EXTENSION_DEPTH == 100);
     Ok(())
+}
+
+/// What stands before and behind what is nested in a line.
+const LINES: [(&[u8], &Nest, &[u8]); 3] = [
+    (BEFORE_BODY_IN_LINE, &MULTIPARTS, b")\r\n"),
+    (BEFORE_BODY_IN_LINE, &MESSAGES, b")\r\n"),
+    (BEFORE_LISTS_IN_LINE, &LISTS, b"))\r\n"),
+];
+
+// Whether the parsing of a line ends so, and what is kept of the line is told as what is parsed.
+fn line_ends(alloc: Global, line: &[u8], want: Ending) -> Result<bool, AllocError> {
+    let parsed = told(alloc, Response::parse(alloc, line))?;
+    Ok(ending_of(Response::parse(alloc, line)) == want && is_kept(alloc, line, parsed.as_str()))
 }
 
 // A body that nests too deep is tried as an unknown attribute, which ends at the first closing bracket: so the line is denied.
@@ -108,18 +136,9 @@ fn nesting(rt: HostRuntime) -> Result<(), Fail> {
 fn nesting_in_lines(rt: HostRuntime) -> Result<(), Fail> {
     let alloc = rt.alloc();
     for (levels, want) in DEPTHS {
-        for (start, nest, end) in [
-            (BEFORE_BODY_IN_LINE, &MULTIPARTS, b")\r\n".as_slice()),
-            (BEFORE_BODY_IN_LINE, &MESSAGES, b")\r\n"),
-            (BEFORE_LISTS_IN_LINE, &LISTS, b"))\r\n"),
-        ] {
+        for (start, nest, end) in LINES {
             let line = nested(alloc, start, nest, levels, end)?;
-            assert!(rt;
-                ending_of(Response::parse(alloc, &line)) == want,
-                "{levels}"
-            );
-            let parsed = told(alloc, Response::parse(alloc, &line))?;
-            assert!(rt; is_kept(alloc, &line, parsed.as_str()), "{levels}");
+            assert!(rt; line_ends(alloc, &line, want)?, "{levels}");
         }
     }
     Ok(())

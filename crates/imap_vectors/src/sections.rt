@@ -68,6 +68,14 @@ fn sections(rt: HostRuntime) {
     }
     for (input, want) in TEXTS {
         assert!(rt; says(alloc, section_msgtext(input), want), "{want}");
+    }
+    assert!(rt; says(alloc, section_msgtext(b"MIME]"), "Error"));
+}
+
+#[test]
+fn types_of_sections(rt: HostRuntime) {
+    let alloc = rt.alloc();
+    for (input, want) in TEXTS {
         assert!(rt; says(alloc, MessageSection::parse(input), want), "{want}");
     }
     for (input, want) in TEXTS_OF_PARTS {
@@ -79,5 +87,4 @@ fn sections(rt: HostRuntime) {
             "{want}"
         );
     }
-    assert!(rt; says(alloc, section_msgtext(b"MIME]"), "Error"));
 }

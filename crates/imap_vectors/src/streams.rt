@@ -2,7 +2,7 @@
 
 ghost use Rattle.std.specs.Prelude.{◌<◌};
 
-use crate::answers::{Rows, assert_lines, says};
+use crate::answers::{Rows, assert_lines, parses};
 use imap_proto::Response;
 use imap_proto::imap_core::{Err, IResult};
 use imap_proto::stream::{Feed, read_pieces};
@@ -53,9 +53,9 @@ fn open_brackets(rt: HostRuntime) -> Result<(), Fail> {
     for _ in 0..10_000 {
         line.push(b'(')?;
     }
-    assert!(rt; says(alloc, Response::parse(alloc, &line), "Incomplete(Unknown)"));
+    assert!(rt; parses(alloc, &line, "Incomplete(Unknown)"));
     line.extend_from_slice(b"))\r\n")?;
-    assert!(rt; says(alloc, Response::parse(alloc, &line), "Fetch(1, [Unknown])"));
+    assert!(rt; parses(alloc, &line, "Fetch(1, [Unknown])"));
     Ok(())
 }
 
@@ -154,32 +154,55 @@ fn tells<T: Debug + Drop>(alloc: Global, value: T, want: &str) -> Result<bool, A
     Ok(text.as_str() == want)
 }
 
-// Whether the next call gives this.
-fn gives(alloc: Global, feed: &mut Feed, want: &str) -> Result<bool, AllocError> {
-    tells(alloc, feed.next(), want)
+/// What is done with a feed, or asked of it.
+enum Step {
+    /// These bytes are fed.
+    Feed(&'static [u8]),
+    /// The next call gives what is told so.
+    Next(&'static str),
+    /// These bytes are held.
+    Held(&'static [u8]),
+}
+
+const STEPS: &[Step] = &[
+    Step::Held(b""),
+    Step::Next("Ok(None)"),
+    Step::Feed(b"a1 O"),
+    Step::Next("Ok(None)"),
+    Step::Held(b"a1 O"),
+    Step::Feed(b"K\r\n* X\r\n"),
+    Step::Next(
+        r#"Ok(Some(Done { tag: RequestId("a1"), status: Ok, outcome: Outcome { code: None, information: None } }))"#,
+    ),
+    Step::Next("Err(Denied)"),
+    Step::Held(b"* X\r\n"),
+    Step::Feed(b"a2 OK\r\n"),
+    Step::Next("Err(Denied)"),
+    Step::Held(b"* X\r\na2 OK\r\n"),
+];
+
+fn holds(feed: &Feed, want: &[u8]) -> bool {
+    feed.held() == want
+}
+
+// Whether the feed does so.
+fn does(alloc: Global, feed: &mut Feed, step: &Step) -> Result<bool, AllocError> {
+    match step {
+        Step::Feed(bytes) => {
+            feed.feed(bytes)?;
+            Ok(true)
+        }
+        Step::Next(want) => tells(alloc, feed.next(), want),
+        Step::Held(want) => Ok(holds(feed, want)),
+    }
 }
 
 #[test]
 fn feeding(rt: HostRuntime) -> Result<(), Fail> {
     let alloc = rt.alloc();
     let mut feed = Feed::new(alloc);
-    assert!(rt; feed.held().is_empty());
-    assert!(rt; gives(alloc, &mut feed, "Ok(None)")?);
-    feed.feed(b"a1 O")?;
-    assert!(rt; gives(alloc, &mut feed, "Ok(None)")?);
-    assert!(rt; feed.held() == b"a1 O".as_slice());
-    feed.feed(b"K\r\n* X\r\n")?;
-    assert!(rt;
-        gives(
-            alloc,
-            &mut feed,
-            r#"Ok(Some(Done { tag: RequestId("a1"), status: Ok, outcome: Outcome { code: None, information: None } }))"#
-        )?
-    );
-    assert!(rt; gives(alloc, &mut feed, "Err(Denied)")?);
-    assert!(rt; feed.held() == b"* X\r\n".as_slice());
-    feed.feed(b"a2 OK\r\n")?;
-    assert!(rt; gives(alloc, &mut feed, "Err(Denied)")?);
-    assert!(rt; feed.held().len() == 12);
+    for (k, step) in STEPS.iter().enumerate() {
+        assert!(rt; does(alloc, &mut feed, step)?, "step {k}");
+    }
     Ok(())
 }

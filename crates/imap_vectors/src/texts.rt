@@ -1,6 +1,6 @@
 //! Texts that bytes are decoded to, each with its mark, and the texts of faults.
 
-use crate::answers::{Marked, Rows, says, says_marked, with_mark};
+use crate::answers::{Marked, Rows, displays, says, says_marked, with_mark};
 use imap_proto::Response;
 use imap_proto::bodystructure::PartsError;
 use imap_proto::imap_core::{
@@ -8,6 +8,8 @@ use imap_proto::imap_core::{
 };
 use imap_proto::rfc3501::{AttributeValue, MailboxDatum};
 use std::alloc::{AllocError, Global};
+use std::borrow::CowStr;
+use std::collections::HashMap;
 use std::test::*;
 
 const TEXTS: Rows = &[
@@ -36,27 +38,30 @@ const ASTRINGS: Rows = &[
 
 #[test]
 fn decoded(rt: HostRuntime) {
+    let alloc = rt.alloc();
     for (input, want) in TEXTS {
+        assert!(rt; says_marked(alloc, text(alloc, input), want), "{want}");
+    }
+    for (input, want) in ASTRINGS {
         assert!(rt;
-            says_marked(rt.alloc(), text(rt.alloc(), input), want),
+            says_marked(alloc, astring_utf8(alloc, input), want),
             "{want}"
         );
     }
+}
+
+#[test]
+fn decoded_strings(rt: HostRuntime) {
+    let alloc = rt.alloc();
     for (input, want) in STRINGS {
         assert!(rt;
-            says_marked(rt.alloc(), string_utf8(rt.alloc(), input), want),
+            says_marked(alloc, string_utf8(alloc, input), want),
             "{want}"
         );
     }
     for (input, want) in QUOTED {
         assert!(rt;
-            says_marked(rt.alloc(), quoted_utf8(rt.alloc(), input), want),
-            "{want}"
-        );
-    }
-    for (input, want) in ASTRINGS {
-        assert!(rt;
-            says_marked(rt.alloc(), astring_utf8(rt.alloc(), input), want),
+            says_marked(alloc, quoted_utf8(alloc, input), want),
             "{want}"
         );
     }
@@ -81,6 +86,26 @@ fn decoded_or_nil(rt: HostRuntime) {
     assert!(rt; says(rt.alloc(), nstring_utf8(rt.alloc(), b"a"), "Error"));
 }
 
+// Adds the texts of a list.
+fn add_list<'a>(texts: &mut Vec<Marked<'a>>, list: &'a Vec<CowStr<'_>>) -> Result<(), AllocError> {
+    for text in list {
+        texts.push(with_mark(text))?;
+    }
+    Ok(())
+}
+
+// Adds the texts of the pairs of an identity.
+fn add_pairs<'a>(
+    texts: &mut Vec<Marked<'a>>,
+    pairs: &'a HashMap<CowStr<'_>, CowStr<'_>>,
+) -> Result<(), AllocError> {
+    for (key, value) in pairs {
+        texts.push(with_mark(key))?;
+        texts.push(with_mark(value))?;
+    }
+    Ok(())
+}
+
 // Adds the texts of an attribute of a message: dates, flags, labels and ids.
 fn add_texts<'a>(
     texts: &mut Vec<Marked<'a>>,
@@ -90,11 +115,7 @@ fn add_texts<'a>(
         AttributeValue::InternalDate(text)
         | AttributeValue::EmailId(text)
         | AttributeValue::ThreadId(Some(text)) => texts.push(with_mark(text))?,
-        AttributeValue::Flags(list) | AttributeValue::GmailLabels(list) => {
-            for text in list {
-                texts.push(with_mark(text))?;
-            }
-        }
+        AttributeValue::Flags(list) | AttributeValue::GmailLabels(list) => add_list(texts, list)?,
         _ => {}
     }
     Ok(())
@@ -116,19 +137,14 @@ fn add_all<'a>(texts: &mut Vec<Marked<'a>>, response: &'a Response<'_>) -> Resul
             }
         }
         Response::Id(Some(pairs)) => {
-            for (key, value) in pairs {
-                texts.push(with_mark(key))?;
-                texts.push(with_mark(value))?;
-            }
+            add_pairs(texts, pairs)?;
         }
         Response::MailboxData(MailboxDatum::MetadataSolicited { mailbox, .. }) => {
             texts.push(with_mark(mailbox))?;
         }
         Response::MailboxData(MailboxDatum::MetadataUnsolicited { mailbox, values }) => {
             texts.push(with_mark(mailbox))?;
-            for entry in values {
-                texts.push(with_mark(entry))?;
-            }
+            add_list(texts, values)?;
         }
         Response::Fetch(_, attributes) => {
             for attribute in attributes {
@@ -201,7 +217,7 @@ fn lent_and_owned(rt: HostRuntime) {
 }
 
 #[test]
-fn texts_of_faults(rt: HostRuntime) -> Result<(), Fail> {
+fn texts_of_faults(rt: HostRuntime) {
     let rows = [
         (Err::Incomplete(Needed::Unknown), "more bytes are needed"),
         (Err::Incomplete(Needed::Size(3)), "more bytes are needed"),
@@ -209,19 +225,17 @@ fn texts_of_faults(rt: HostRuntime) -> Result<(), Fail> {
         (Err::Failure, "out of memory"),
     ];
     for (fault, want) in rows {
-        assert_eq!(rt; format!(in rt.alloc(); "{fault}")?.as_str(), want);
+        assert!(rt; displays(rt.alloc(), fault, want), "{want}");
     }
-    Ok(())
 }
 
 #[test]
-fn texts_of_faults_of_parts(rt: HostRuntime) -> Result<(), Fail> {
+fn texts_of_faults_of_parts(rt: HostRuntime) {
     let rows = [
         (PartsError::OutOfMemory, "out of memory"),
         (PartsError::TooManyParts, "too many parts"),
     ];
     for (fault, want) in rows {
-        assert_eq!(rt; format!(in rt.alloc(); "{fault}")?.as_str(), want);
+        assert!(rt; displays(rt.alloc(), fault, want), "{want}");
     }
-    Ok(())
 }
