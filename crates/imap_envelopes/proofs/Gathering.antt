@@ -1,14 +1,14 @@
 -- A loop that reads one more as often as there is one, and keeps what it read.
-use Rattle.std.proofs.Common.{◌≡◌, ℕ, ◌<◌, ◌≤◌, true, List, [], ◌∷◌, ◌++◌, map, take, drop, Some, None, Ok, Err, refl, sym, ap, ◌∙◌, append_assoc}
+use Rattle.std.proofs.Common.{arith, length, ◌≡◌, ℕ, ◌<◌, ◌≤◌, true, List, [], ◌∷◌, ◌++◌, map, take, drop, Some, None, Ok, Err, refl, sym, ap, ◌∙◌, append_assoc}
 use Rattle.std.proofs.lemmas.List.{append-nil, map-append}
 use Rattle.imap_grammar.specs.declared.answer.Err.{Err as Fault}
 use Rattle.imap_grammar.specs.declared.answer.Err.TheVariants.{Incomplete, Error, Failure}
 use Rattle.imap_grammar.specs.Answer.{Stops}
-use Rattle.imap_grammar.specs.Rule.{Rule, gives, opt, many, ◌⨾◌}
-use Rattle.imap_grammar.specs.Step.{Step, ◌>>=◌, step, beside}
+use Rattle.imap_grammar.specs.Rule.{Rule, gives, opt, many, some1, ◌⨾◌}
+use Rattle.imap_grammar.specs.Step.{Step, ◌>>=◌, step, beside, or_else, many_step}
 use Rattle.imap_grammar.specs.Positions.{Rests}
 use Rattle.imap_grammar.proofs.Consumption.{consumes}
-use Rattle.imap_grammar.proofs.Loops.{onto, onto_nothing, more, smaller, end, after_start, after_fault}
+use Rattle.imap_grammar.proofs.Loops.{onto, onto_nothing, reads_more, reads_end, more, smaller, end, after_start, after_fault}
 use Rattle.imap_grammar.proofs.Positions.{further, rests_more}
 
 -- Of a list that s reads, vs were read, and the rest of it is still to be read by `more` from k on.
@@ -46,6 +46,34 @@ pub halted : {V : Type 0} (s : Step (List V)) (a : Rule V) (vs : List V) (k : Li
 halted s a vs k Error g here = stopped s a vs k Error g here
 halted s a vs k (Incomplete n) g here = stopped s a vs k (Incomplete n) g here
 halted s a vs k Failure g here = tt
+
+-- ---- one or more are as many as there are, of which there is one
+
+abbrev pub not_none : {V : Type 0} → Step (List V) → Step (List V)
+not_none (Ok (k, [])) = Err Error
+not_none (Ok (k, v ∷ vs)) = Ok (k, v ∷ vs)
+not_none (Err e) = Err e
+
+one_before : {V : Type 0} (x : V) (s : Step (List V)) → ((s >>= beside x) >>= λ y. Ok (y.0, y.1.0 ∷ y.1.1)) ≡ not_none (onto (x ∷ []) s)
+one_before x (Ok y) = refl
+one_before x (Err e) = refl
+
+by_the_first : {V : Type 0} (a : Rule V) (m : List ℕ) (s : Step V) → step a m ≡ s → consumes a ≡ true → step (some1 a) m ≡ not_none (step (many a) m)
+unfolding many_step
+by_the_first a m (Ok y) is c =
+    let less = smaller a m y.0 y.1 (ap (λ s. or_else (s >>= λ x. Ok (x.0, Some x.1)) (Ok (m, None))) is) c in
+    ap (λ s. (s >>= λ x. step (many a) x.0 >>= beside x.1) >>= λ x. Ok (x.0, x.1.0 ∷ x.1.1)) is
+    ∙ one_before y.1 (step (many a) y.0) ∙ sym (ap not_none (reads_more a m m y.0 [] y.1 (onto_nothing (step (many a) m)) is less))
+by_the_first a m (Err Error) is c = rw (reads_end a m m [] (onto_nothing (step (many a) m)) is, is) refl
+by_the_first a m (Err (Incomplete n)) is c = rw is refl
+by_the_first a m (Err Failure) is c = rw is refl
+
+pub some_are : {V : Type 0} (a : Rule V) (m : List ℕ) → consumes a ≡ true → step (some1 a) m ≡ not_none (step (many a) m)
+some_are a m c = by_the_first a m (step a m) refl c
+
+pub one_there : {A V : Type 0} (view : A → V) (k : List ℕ) (xs : List A) → 1 ≤ length xs → not_none (Ok (k, map view xs)) ≡ Ok (k, map view xs)
+one_there view k [] few = absurd (omega (arith, few))
+one_there view k (x ∷ xs) few = refl
 
 -- what was read goes further
 pub onward : {V : Type 0} (a : Rule V) (m : List ℕ) (p q : ℕ) (x : V) → step (opt a) (drop p m) ≡ Ok (drop q m, Some x) → consumes a ≡ true → p < q

@@ -13,12 +13,11 @@ ghost use Rattle.imap_shapes.specs.EnvelopeValues.{address_seen, addresses_seen,
 
 use crate::Keep;
 use crate::at::Reached;
-use crate::at::lists::list_of_one;
 use crate::at::texts::{byte_string, spaced_byte_string};
 use crate::kept::{kept_address, kept_bytes};
 use imap_bytes::at::strings::nil;
 use imap_bytes::at::tags::tag;
-use imap_bytes::{first, maybe};
+use imap_bytes::{Err, first, maybe};
 use imap_shapes::shapes::envelopes::{Address, Envelope};
 use imap_shapes::spans::Span;
 use std::alloc::Global;
@@ -84,12 +83,18 @@ fn some_addresses<K: Keep>(
     ensures ahead { Ahead m.now p result }
     ensures rests { RestsOn (λ n x. map (address_seen (K.bytes_said n)) x.items) result }
 {
-    let (mut q, first) = listed_address(m, p)?;
-    let mut items = list_of_one(alloc, kept_address(keep, m, first))?;
+    // The first is read in the loop, too, so that an address is read in one place, whose calls the compiler takes in.
+    let mut items = Vec::new(alloc);
+    let mut q = p;
     'addresses: loop {
         let (after, next) = next_address(m, q)?;
         match next {
-            None => return Ok((q, items)),
+            None => {
+                if items.len() == 0 {
+                    return Err(Err::Error);
+                }
+                return Ok((q, items));
+            }
             Some(address) => {
                 items.push(kept_address(keep, m, address))?;
                 q = after;

@@ -1,5 +1,5 @@
 use Rattle.std.proofs.Common.{drop, length, map, ◌≤◌, ◌-◌}
-use Rattle.imap_grammar.specs.Rule.{some1}
+use Rattle.imap_grammar.specs.Rule.{many}
 use Rattle.imap_grammar.specs.Step.{step}
 use Rattle.imap_grammar.specs.Positions.{Rests}
 use Rattle.imap_envelopes.specs.Envelopes.{listed_address}
@@ -9,7 +9,7 @@ use Rattle.imap_envelopes.proofs.at.envelopes.some_addresses.Given as goal
 
 abbrev pub invariant-addresses : goal.invariant-addresses
 invariant-addresses g l = record {
-  gathered : Gathered (step (some1 listed_address) (drop l.p l.m)) listed_address (map (address_seen (g.K.Keep.bytes_said l.m)) l.items.items) (drop l.q l.m);
+  gathered : Gathered (step (many listed_address) (drop l.p l.m)) listed_address (map (address_seen (g.K.Keep.bytes_said l.m)) l.items.items) (drop l.q l.m);
   rests : Rests (λ n xs. map (address_seen (g.K.Keep.bytes_said n)) xs) l.q l.items.items;
   ahead : l.p ≤ l.q;
   within : l.q ≤ length l.m;
