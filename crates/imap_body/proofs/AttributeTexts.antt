@@ -1,5 +1,5 @@
 -- Attributes of a message read back.
-use Rattle.std.proofs.Common.{◌≡◌, ◌<◌, ◌++◌, length, IsTrue, true, Option, None, Some, sym, subst, refl, inl, inr, codes, map, arith}
+use Rattle.std.proofs.Common.{◌≡◌, ◌++◌, IsTrue, true, Option, None, Some, sym, subst, refl, inl, inr, codes, map, arith}
 use lib.Utf8.{encode}
 use Rattle.std.specs.Str.{is_utf8}
 use Rattle.std.proofs.lemmas.Str.{is_utf8-from_IsUtf8}
@@ -10,11 +10,11 @@ use Rattle.imap_grammar.specs.Text.{Bytes, Text, as_text, lent_text}
 use Rattle.imap_grammar.specs.Tags.{same_letter, word, sp, maybe_space}
 use Rattle.imap_grammar.specs.Pieces.{written, plain, ntext}
 use Rattle.imap_grammar.specs.ReadBack.{ReadsBack, Spells, Keeps, Apart, Any, Starts, Closes, EndsItem, as_is}
-use Rattle.imap_grammar.specs.Spelling.{all_of}
+use Rattle.imap_grammar.specs.Spelling.{all_of, some_of}
 use Rattle.imap_grammar.proofs.Yields.{Yields, right_yields, named_yields}
 use Rattle.imap_grammar.proofs.Reading.{reads-gives, reads-opt, reads-after, reads-before, reads-seq, reads-follow, reads-test, reads-run1, after-on, first, apart-where, apart-alt, apart-gives, denials, denies-after, denies-behind, denies-tag, test-has, test-on, run1-has, tag-on, takes-absent, Begins, begun, ends_item-in, ◌⨾ʳ◌, ◌▹ʳ◌}
 use Rattle.imap_grammar.proofs.ReadingLists.{takes-text, takes-word, reads-nonempty_list_of}
-use Rattle.imap_grammar.proofs.Spelling.{◌⨾ˢ◌, ◌▹ˢ◌, ◌◃ˢ◌, ◌orˢ◌, spells-gives, spells-wider, spells-where, spells-names, spells-nothing, spells-word, spells-tag, spells-test, spells-run, spells-run0, spells-maybe_space, spells-nonempty_list_of}
+use Rattle.imap_grammar.proofs.Spelling.{◌⨾ˢ◌, ◌▹ˢ◌, ◌◃ˢ◌, ◌orˢ◌, spells-gives, spells-wider, spells-where, spells-names, spells-nothing, spells-word, spells-tag, spells-test, spells-run, spells-run0, spells-run1, spells-maybe_space, spells-nonempty_list_of}
 use Rattle.imap_bytes.proofs.ReadingTexts.{not_digit, reads-number, reads-number_64, reads-string_utf8, reads-nil_or, nil_or-none}
 use Rattle.imap_bytes.proofs.SpellingTexts.{spells-number, spells-number_64, spells-string_utf8, spells-nil_or, spells-nstring}
 use Rattle.imap_bytes.specs.Strings.{atom, string, nstring}
@@ -257,18 +257,15 @@ name_spells = record {
   consumed = λ m v rest y.
       let has = test-has is_utf8 (run1 is_atom_char) m v rest y in
       let run = run1-has is_atom_char m v rest has.0 in
-      (v, run.0, (run.1, run.3, has.1));
+      (v, run.0, ((run.1, run.3), has.1));
 }
-
-bare_spells : Spells (run1 is_bare) (λ _ c. all_of is_bare c × (0 < length c))
-bare_spells = record { consumed = λ m v rest y. let run = run1-has is_bare m v rest y in (v, run.0, (run.1, run.3)) }
 
 value_spells : Spells skipped_value (λ _. is_any_value)
 unfolding skipped_value skipped_brackets skipped_nstring skipped_bare
 value_spells =
     spells-gives _ (spells-wider (spells-tag "(" ▹ˢ spells-wider (spells-run0 is_inside) (λ v c h. subst (all_of is_inside) (sym h.0) h.1) ◃ˢ spells-tag ")") (λ v c h. inl h))
     orˢ spells-gives _ (spells-wider spells-nstring (λ v c h. inr (inl (v, h))))
-    orˢ spells-gives _ (spells-wider bare_spells (λ v c h. inr (inr h)))
+    orˢ spells-gives _ (spells-wider (spells-run1 is_bare) (λ v c h. inr (inr (subst (some_of is_bare) (sym h.0) h.1))))
 
 unknown_spells : Spells msg_att_unknown spells_attribute
 unfolding msg_att_unknown

@@ -1,11 +1,11 @@
 -- The text of an attribute of a message: its word and its value.
-use Rattle.std.specs.Prelude.{ℕ, ◌<◌, ◌⊎◌, List, [], length, Option, None, Some, IsTrue}
+use Rattle.std.specs.Prelude.{ℕ, ◌⊎◌, List, [], Option, None, Some, IsTrue}
 use Rattle.std.specs.Str.{is_utf8}
 use Rattle.imap_grammar.specs.Classes.{is_atom_char}
 use Rattle.imap_grammar.specs.Text.{Bytes, Text}
 use Rattle.imap_grammar.specs.Pieces.{Pieces, ◌then◌, words, space, number_text, plain, literal_text, ntext, list_text}
 use Rattle.imap_grammar.specs.ReadBack.{Texts}
-use Rattle.imap_grammar.specs.Spelling.{this, exactly, in_any_case, ◌and◌, all_of, maybe, nil_or, spells_number, spells_nstring, spells_string_text, spells_some_list}
+use Rattle.imap_grammar.specs.Spelling.{this, exactly, in_any_case, ◌and◌, all_of, some_of, maybe, nil_or, spells_number, spells_nstring, spells_string_text, spells_some_list}
 use Rattle.imap_items.specs.FlagTexts.{canonical_flag_list, spells_flag_list}
 use Rattle.imap_items.specs.GmailTexts.{canonical_label_list, canonical_msgid, canonical_thrid, spells_label_list, spells_msgid, spells_thrid}
 use Rattle.imap_envelopes.specs.EnvelopeTexts.{canonical_envelope, behind_space, spells_bytes, spells_envelope}
@@ -63,13 +63,13 @@ spells_id id = exactly "(" and this id.bytes and exactly ")"
 
 -- any name: atom-chars that are UTF-8
 abbrev pub is_name : Texts
-is_name c = all_of is_atom_char c × (0 < length c) × IsTrue (is_utf8 c)
+is_name c = some_of is_atom_char c × IsTrue (is_utf8 c)
 
 -- any value: in brackets up to the first `)`, an nstring, or bytes other than SP and `)`; line ends may be among them
 abbrev pub is_any_value : Texts
 is_any_value c =
     (exactly "(" and all_of is_inside and exactly ")") c
-    ⊎ (((v : Option Bytes) × spells_nstring v c) ⊎ (all_of is_bare c × (0 < length c)))
+    ⊎ (((v : Option Bytes) × spells_nstring v c) ⊎ some_of is_bare c)
 
 abbrev pub spells_attribute : AttributeValue → Texts
 spells_attribute (BodySection path origin contents) = in_any_case "BODY" and spells_section path and spells_origin origin and behind_space (spells_bytes contents)

@@ -23,7 +23,7 @@ pub fn number(i: &[u8]) -> IResult<&[u8], u32>
     Ok((rest(i, q), n))
 }
 
-/// A number below 2^64, leading zeros allowed (RFC 4551, section 4: mod-sequence-value).
+/// A number below 2^64, leading zeros allowed (RFC 4551, section 4: mod-sequence-value). It is judged as `number` is.
 #[tactic(auto, using(imap_grammar::proofs::Agreement::exact_answered), unfolding(crate::specs::Numbers::number_64))]
 pub fn number_64(i: &[u8]) -> IResult<&[u8], u64>
     ensures steps { Exactly (λ x. x) result (step numbers.number_64 i.now) }

@@ -1,4 +1,4 @@
--- The arguments of a command: which are refused, and how they are quoted (RFC 3501 section 9).
+-- The arguments of a command: which are refused, and how they are quoted (RFC 3501, section 9).
 use Rattle.std.specs.Prelude.{◌≡◌, ◌==◌, ◌||◌, ℕ, List, [], ◌∷◌, ◌++◌, if◌then◌else◌, codes, Option, None, Some, Result, Ok, Err}
 use Rattle.std.specs.List.{flat_map}
 use Rattle.std.specs.Option.{option_or}

@@ -85,7 +85,7 @@ closing params = codes ")"
 closing attributes = codes ")"
 closing state = []
 
--- what a call adds to a command in a typed state (RFC 3501 section 6; `CONDSTORE` and `CHANGEDSINCE`
+-- what a call adds to a command in a typed state (RFC 3501, section 6; `CONDSTORE` and `CHANGEDSINCE`
 -- of RFC 4551 sections 3.7 and 3.3.1)
 abbrev pub added : Stage → Call → List ℕ
 added state check = codes "CHECK"

@@ -1,4 +1,4 @@
--- The words of a FETCH (RFC 3501 section 6.4.5, RFC 4551 section 3.3.2, Gmail's extensions).
+-- The words of a FETCH (RFC 3501, section 6.4.5, RFC 4551, section 3.3.2, Gmail's extensions).
 use Rattle.std.specs.Prelude.{ℕ, List, codes}
 use Rattle.imap_command.specs.declared.words.AttrMacro.{AttrMacro}
 use Rattle.imap_command.specs.declared.words.AttrMacro.TheVariants as group

@@ -63,7 +63,7 @@ fn judge(argument: &str) -> Result<(), BuildError>
     Ok(())
 }
 
-// Adds the argument as a quoted string (RFC 3501 section 9, `quoted`).
+// Adds the argument as a quoted string (RFC 3501, section 9: quoted).
 fn push_quoted(out: &mut Vec<u8>, argument: &str) -> Result<(), AllocError>
     ensures { OnOk result (out.new.items ≡ out.old.items ++ quoted argument.now) }
 {

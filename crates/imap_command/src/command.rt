@@ -1,6 +1,6 @@
 //! Finished commands.
 
-/// The states of a connection (RFC 3501 section 3).
+/// The states of a connection (RFC 3501, section 3).
 #[derive(Clone, Copy, Debug, PartialEq, Eq)]
 pub enum State {
     /// The client has yet to say who it is.

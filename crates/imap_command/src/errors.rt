@@ -6,7 +6,8 @@ use std::alloc::AllocError;
 use thiserror::Error;
 
 /// Why a command isn't built. The first three name the first byte of the arguments, the first
-/// argument first, that a quoted string can't have (RFC 3501 section 9, `TEXT-CHAR`).
+/// argument first, that a quoted string can't have (RFC 3501, section 9: quoted). Bytes from 128 on
+/// pass as they are, though a quoted string there has seven bits.
 #[derive(Debug, Drop, Error, PartialEq, Eq)]
 pub enum BuildError {
     /// Byte 13.

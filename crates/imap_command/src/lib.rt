@@ -1,4 +1,4 @@
-//! Commands of an IMAP client (RFC 3501 section 6), each built by calls that the types allow.
+//! Commands of an IMAP client (RFC 3501, section 6), each built by calls that the types allow.
 //!
 //! A [`CommandBuilder`] begins a command, later calls add to it, and the finished [`Command`] holds
 //! its text without tag and line end, and the state that it leads to. A call that takes memory

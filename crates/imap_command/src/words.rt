@@ -3,22 +3,24 @@
 ghost use Rattle.std.specs.Prelude.{◌≡◌};
 ghost use Rattle.imap_command.specs.Words.{attribute_word, macro_word};
 
-/// A group of attributes (RFC 3501 section 6.4.5).
+/// A group of attributes (RFC 3501, section 6.4.5).
 #[derive(Clone, Copy, Debug, PartialEq, Eq)]
 pub enum AttrMacro {
     /// `ALL`: flags, internal date, size and envelope.
     All,
     /// `FAST`: flags, internal date and size.
     Fast,
-    /// `FULL`: flags, internal date, size, envelope and body.
+    /// `FULL`: flags, internal date, size, envelope and body. The parser denies most answers to it,
+    /// as to `Attribute::Body`.
     Full,
 }
 
-/// An attribute of a message: of RFC 3501 section 6.4.5, `ModSeq` of RFC 4551 section 3.3.2, and
+/// An attribute of a message: of RFC 3501, section 6.4.5, `ModSeq` of RFC 4551, section 3.3.2, and
 /// three of Gmail's.
 #[derive(Clone, Copy, Debug, PartialEq, Eq)]
 pub enum Attribute {
-    /// `BODY`: the structure of the body, without its extensions.
+    /// `BODY`: the structure of the body, without its extensions. The parser has no rule for that,
+    /// and denies most lines that have it.
     Body,
     /// `ENVELOPE`: the parsed header.
     Envelope,

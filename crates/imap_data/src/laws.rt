@@ -1,6 +1,5 @@
 //! Laws of the rules and types of this crate, as contracts of functions that do nothing.
 
-ghost use Rattle.std.specs.Prelude.{ℕ, ◌≡◌};
 ghost use Rattle.imap_grammar.specs.Stable.{Stable};
 ghost use Rattle.imap_grammar.specs.Equality.{Tells, HashesAlike};
 ghost use Rattle.imap_grammar.specs.Copying.{CopiesFreely};

@@ -64,7 +64,9 @@ impl Keep for Positions {
 /// What these name in the message that is read: byte strings borrowed, and texts where their bytes are UTF-8.
 #[derive(Drop)]
 pub struct Named<'a> {
+    /// Where memory is taken for texts whose bytes are no UTF-8.
     pub alloc: Global,
+    /// The message that is read.
     pub m: &'a [u8],
 }
 

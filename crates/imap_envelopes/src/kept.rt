@@ -13,7 +13,7 @@ use imap_shapes::shapes::fields::ContentEncoding;
 use imap_shapes::spans::{Span, SpannedText};
 use std::alloc::AllocError;
 
-/// Keeps a byte string, if there is one.
+/// Keeps a byte string, if there is one. No memory.
 pub fn kept_bytes<K: Keep>(keep: &K, m: &[u8], bytes: Option<Span>) -> Option<K::Bytes>
     requires { K.serves keep.now m.now }
     ensures { Says (λ n x. option_map (bytes_in n) x) (λ n x. option_map (K.bytes_said n) x) m.now bytes result }
@@ -24,7 +24,7 @@ pub fn kept_bytes<K: Keep>(keep: &K, m: &[u8], bytes: Option<Span>) -> Option<K:
     }
 }
 
-/// Keeps an address.
+/// Keeps an address. No memory.
 pub fn kept_address<K: Keep>(keep: &K, m: &[u8], address: Address<Span>) -> Address<K::Bytes>
     requires { K.serves keep.now m.now }
     ensures { Says (λ n x. address_seen (bytes_in n) x) (λ n x. address_seen (K.bytes_said n) x) m.now address result }
@@ -37,7 +37,7 @@ pub fn kept_address<K: Keep>(keep: &K, m: &[u8], address: Address<Span>) -> Addr
     }
 }
 
-/// Keeps a text, if there is one.
+/// Keeps a text, if there is one. It may take memory; `Err` where there is none.
 #[inline(always)]
 pub fn kept_text<K: Keep>(
     keep: &K,
@@ -53,7 +53,7 @@ pub fn kept_text<K: Keep>(
     }
 }
 
-/// Keeps a parameter: its name and its value.
+/// Keeps a parameter: its name and its value. It may take memory; `Err` where there is none.
 #[inline(always)]
 pub fn kept_pair<K: Keep>(
     keep: &K,
@@ -69,7 +69,7 @@ pub fn kept_pair<K: Keep>(
     Ok((name, value))
 }
 
-/// Keeps an encoding.
+/// Keeps an encoding. It may take memory; `Err` where there is none.
 #[inline(always)]
 pub fn kept_encoding<K: Keep>(
     keep: &K,

@@ -22,7 +22,7 @@ pub mod Starts
 pub mod Positions
 pub mod PositionJoins
 pub mod PositionUnder
-pub mod PositionRests
+pub mod PositionItems
 pub mod Sliced
 pub mod Reading
 pub mod ReadingWords

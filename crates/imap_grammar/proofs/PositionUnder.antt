@@ -10,13 +10,13 @@ use Rattle.imap_grammar.specs.Rule.{Rule, meaning, many, some1, list0, list1, op
 use Rattle.imap_grammar.specs.Step.{Step, step}
 use Rattle.imap_grammar.specs.Answer.{Stops}
 use Rattle.imap_grammar.specs.Tags.{tag, sp, blanks0}
-use Rattle.imap_grammar.specs.Lists.{or_memory, separator, some1_means, list1_means, list0_means, list_means, nonempty_list_means, delimited_means, opt_opt_means, list_of, nonempty_list_of, delimited, opt_opt_of}
+use Rattle.imap_grammar.specs.Lists.{or_memory, separator, list1_means, list0_means, list_means, nonempty_list_means, delimited_means, opt_opt_means, list_of, nonempty_list_of, delimited, opt_opt_of}
 use Rattle.imap_grammar.specs.Positions.{Reached, ExactlyAt, GivesAt, Ahead}
 use Rattle.imap_grammar.specs.PositionLists.{called_at, Advances, KeepsAhead, AllowsAt, FollowsAt}
 use Rattle.imap_grammar.proofs.Agreement.{agrees, stops}
 use Rattle.imap_grammar.proofs.Consumption.{consumes, less}
 use Rattle.imap_grammar.proofs.Positions.{further}
-use Rattle.imap_grammar.proofs.Under.{Under, Kept, All, error_kept, enclosed_under, many_under, some1_under, list1_under, list0_under, opt_opt_under}
+use Rattle.imap_grammar.proofs.Under.{Under, Kept, All, error_kept, enclosed_under, many_under, list1_under, list0_under, opt_opt_under}
 
 -- each call at a position of m gives the step of the rule there
 abbrev pub KeepsAt : {O V : Type 0} → (ℕ → Reached O → Type 0) → List ℕ → (O → V) → Rule V → Type 0
@@ -47,12 +47,6 @@ pub repeated_at : {O V : Type 0} {answers : ℕ → Reached O → Type 0} {m : L
 unfolding meaning
 repeated_at {answers = answers} {m = m} {p = p} {result = result} v b h says =
     under_gives_at (map v) (many_means (called_at m answers)) (many b) (λ x. x.items) m p result (many_under v (called_at m answers) (meaning b) (under_at answers m v b says)) h.met
-
-pub repeated_once_at : {O V : Type 0} {answers : ℕ → Reached O → Type 0} {m : List ℕ} {p : ℕ} {result : Reached (Vec O)} (v : O → V) (b : Rule V)
-    → FollowsAt (λ a. or_memory (some1_means a)) answers (λ x. x.items) m p result → KeepsAt answers m v b → GivesAt (λ x. map v x.items) m result (step (some1 b) (drop p m))
-unfolding meaning
-repeated_once_at {answers = answers} {m = m} {p = p} {result = result} v b h says =
-    under_gives_at (map v) (some1_means (called_at m answers)) (some1 b) (λ x. x.items) m p result (some1_under v (called_at m answers) (meaning b) (under_at answers m v b says)) h.met
 
 pub separated_at : {O V : Type 0} {answers : ℕ → Reached O → Type 0} {m : List ℕ} {p : ℕ} {result : Reached (Vec O)} (between : Separator) (v : O → V) (b : Rule V)
     → FollowsAt (λ a. or_memory (list1_means (meaning (separator between)) a)) answers (λ x. x.items) m p result → KeepsAt answers m v b → GivesAt (λ x. map v x.items) m result (step (list1 (separator between) b) (drop p m))

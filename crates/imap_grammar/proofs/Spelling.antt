@@ -9,7 +9,7 @@ use Rattle.imap_grammar.specs.Classes.{is_blank}
 use Rattle.imap_grammar.specs.Tags.{tag, word, maybe_space, blanks0, blanks1, crlf}
 use Rattle.imap_grammar.specs.Lists.{list_of, nonempty_list_of}
 use Rattle.imap_grammar.specs.ReadBack.{Texts, Spells}
-use Rattle.imap_grammar.specs.Spelling.{this, exactly, in_any_case, ◌and◌, all_of, as_it_is, maybe, blanks, some_blanks, each_of, with_between, spells_list, spells_some_list}
+use Rattle.imap_grammar.specs.Spelling.{this, exactly, in_any_case, ◌and◌, all_of, some_of, as_it_is, maybe, blanks, some_blanks, each_of, with_between, spells_list, spells_some_list}
 use Rattle.imap_grammar.proofs.Yields.{Yields}
 use Rattle.imap_grammar.proofs.Reading.{test-has}
 use Rattle.imap_grammar.proofs.ReadingWords.{exact}
@@ -114,16 +114,15 @@ pub spells-run0 : (p : ℕ → Bool) → Spells (run0 p) (as_it_is (all_of p))
 unfolding meaning
 spells-run0 p = record { consumed = λ m v rest y. (v, y.0, (refl, y.1)) }
 
-pub spells-run1 : (p : ℕ → Bool) → Spells (run1 p) (as_it_is (all_of p))
+pub spells-run1 : (p : ℕ → Bool) → Spells (run1 p) (as_it_is (some_of p))
 unfolding meaning
-spells-run1 p = record { consumed = λ m v rest y. (v, y.0.0, (refl, y.0.1)) }
+spells-run1 p = record { consumed = λ m v rest y. (v, y.0.0, (refl, (y.0.1, y.1))) }
 
 pub spells-blanks0 : Spells blanks0 (λ _. blanks)
 spells-blanks0 = spells-wider (spells-run0 is_blank) (λ v c h. subst blanks (sym h.0) h.1)
 
 pub spells-blanks1 : Spells blanks1 (λ _. some_blanks)
-unfolding meaning
-spells-blanks1 = record { consumed = λ m v rest y. (v, y.0.0, (y.0.1, y.1)) }
+spells-blanks1 = spells-wider (spells-run1 is_blank) (λ v c h. subst some_blanks (sym h.0) h.1)
 
 -- the bytes that a rule takes, as they are
 pub spells-taken : {A : Type 0} {a : Rule A} → Spells (raw a) this

@@ -1,4 +1,4 @@
--- What the first byte says of a rule, for every rule; choices by their first byte; sequences that begin alike.
+-- What the first byte says of a rule, for every rule; choices by their first byte.
 use Rattle.std.proofs.Common.{◌≡◌, ◌≢◌, ℕ, zero, suc, ◌<◌, ◌⊎◌, Bool, true, false, List, [], ◌∷◌, get_or, Option, None, Some, Ok, Err, refl, sym, ap, ◌∙◌, inl, inr, arith}
 use Prim.Native.String.{String}
 use Rattle.std.specs.Prelude.{not, ◌&&◌, ◌||◌, ◌==◌, slice_get, codes}
@@ -8,9 +8,9 @@ use Rattle.imap_grammar.specs.declared.answer.Err.TheVariants.{Incomplete, Error
 use Rattle.imap_grammar.specs.declared.answer.Needed.TheVariants.{Unknown}
 use Rattle.imap_grammar.specs.Meaning.{Denies, Waits, differs}
 use Rattle.imap_grammar.specs.Rule.{Rule, meaning, tag_by, run0, run1, seq, alt, gives, tested, raw, nothing, never, many, counted}
-use Rattle.imap_grammar.specs.Step.{Step, step, ◌>>=◌, beside, and_then, or_else}
+use Rattle.imap_grammar.specs.Step.{Step, step, ◌>>=◌, and_then, or_else}
 use Rattle.imap_grammar.specs.Classes.{is_digit}
-use Rattle.imap_grammar.specs.Starts.{may_start, word_starts, wants_byte, Starts, SameAnswers, SameSteps, by_either, factored}
+use Rattle.imap_grammar.specs.Starts.{may_start, word_starts, wants_byte, Starts}
 use Rattle.imap_grammar.proofs.Agreement.{agrees}
 
 word_denies : (same : ℕ → ℕ → Bool) (word m : List ℕ) (b : ℕ) → word_starts same word b ≡ false → differs same word (b ∷ m) ≡ true
@@ -279,30 +279,3 @@ by_bytes_but_digits bytes r (b ∷ m) lt h not_digit = by_class (is_other_than_d
 
 pub by_other_than_digits : {V : Type 0} (k : String) (r s : Rule V) → Alike (any_in (is_other_than_digits (codes k))) r s → AtOtherThanDigits k r s
 by_other_than_digits k r s alike m lt h d = by_bytes_but_digits (codes k) r m lt h d ∙ alike m ∙ sym (by_bytes_but_digits (codes k) s m lt h d)
-
--- ---- two sequences that begin alike
-
-pub factored_is : {A B C D : Type 0} (a : Rule A) (b : Rule B) (c : Rule C) (f : A × B → D) (g : A × C → D) → SameSteps (alt (gives f (seq a b)) (gives g (seq a c))) (factored a b c f g)
-factored_is {A} {B} {C} {D} a b c f g m = front (step a m)
-  where
-    behind : (x : A) (s : Step B) (t : Step C) → or_else ((s >>= beside x) >>= λ v. Ok (v.0, f v.1)) ((t >>= beside x) >>= λ v. Ok (v.0, g v.1)) ≡ ((or_else (s >>= λ v. Ok (v.0, inl v.1)) (t >>= λ v. Ok (v.0, inr v.1)) >>= beside x) >>= λ v. Ok (v.0, by_either f g v.1))
-    behind x (Ok y) t = refl
-    behind x (Err (Incomplete n)) t = refl
-    behind x (Err Failure) t = refl
-    behind x (Err Error) (Ok z) = refl
-    behind x (Err Error) (Err e) = refl
-
-    front : (s : Step A) → or_else (and_then s (step b) >>= λ v. Ok (v.0, f v.1)) (and_then s (step c) >>= λ v. Ok (v.0, g v.1)) ≡ (and_then s (step (alt (gives (λ (y : B). inl y) b) (gives (λ (z : C). inr z) c))) >>= λ v. Ok (v.0, by_either f g v.1))
-    front (Ok x) = behind x.1 (step b x.0) (step c x.0)
-    front (Err Error) = refl
-    front (Err (Incomplete n)) = refl
-    front (Err Failure) = refl
-
--- rules with the same step answer alike
-pub same_answers : {V : Type 0} (r s : Rule V) → SameSteps r s → SameAnswers r s
-same_answers r s same = record {
-  yields = λ m v rest y. (agrees s m).yielded v rest (sym (same m) ∙ (agrees r m).yields v rest y);
-  yielded = λ m v rest y. (agrees r m).yielded v rest (same m ∙ (agrees s m).yields v rest y);
-  fails = λ m e f. (agrees s m).failed e (sym (same m) ∙ (agrees r m).fails e f);
-  failed = λ m e f. (agrees r m).failed e (same m ∙ (agrees s m).fails e f);
-}

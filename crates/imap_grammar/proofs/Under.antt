@@ -8,7 +8,7 @@ use Rattle.imap_grammar.specs.Rule.{Rule, meaning}
 use Rattle.imap_grammar.specs.Step.{step}
 use Rattle.imap_grammar.specs.Answer.{Returned, Gives, Exactly}
 use Rattle.imap_grammar.specs.Tags.{tag}
-use Rattle.imap_grammar.specs.Lists.{called, Shortens, Ends, or_memory, flat, Allows, behind_means, some1_means, list1_means, list0_means, opt_means, enclosed_means, opt_opt_means}
+use Rattle.imap_grammar.specs.Lists.{called, Shortens, Ends, or_memory, flat, Allows, behind_means, list1_means, list0_means, opt_means, enclosed_means, opt_opt_means}
 use Rattle.imap_grammar.proofs.Agreement.{agrees, shrinks, exactly_gives}
 use Rattle.imap_grammar.proofs.Consumption.{consumes, less}
 
@@ -67,11 +67,6 @@ opt_under v a b p = alt_under (option_map v) (gives_means Some a) (gives_means S
 -- behind what a meaning takes alike
 behind_under : {S A B : Type 0} {P : Fault → Type 0} (s : Meaning S) (v : A → B) (a : Meaning A) (b : Meaning B) → Under P v a b → Under P v (behind_means s a) (behind_means s b)
 behind_under s v a b p = gives_under (λ x. (x.0, v x.1)) v (λ x. x.1) (λ x. x.1) (seq_means s a) (seq_means s b) (λ x. refl) (seq_under (λ x. x) v s s a b (same s p.error) p)
-
-pub some1_under : {A B : Type 0} {P : Fault → Type 0} (v : A → B) (a : Meaning A) (b : Meaning B) → Under P v a b → Under P (map v) (some1_means a) (some1_means b)
-some1_under v a b p =
-    gives_under (λ x. (v x.0, map v x.1)) (map v) (λ x. x.0 ∷ x.1) (λ x. x.0 ∷ x.1) (seq_means a (many_means a)) (seq_means b (many_means b)) (λ x. refl)
-    (seq_under v (map v) a b (many_means a) (many_means b) p (many_under v a b p))
 
 pub list1_under : {S A B : Type 0} {P : Fault → Type 0} (s : Meaning S) (v : A → B) (a : Meaning A) (b : Meaning B) → Under P v a b → Under P (map v) (list1_means s a) (list1_means s b)
 list1_under s v a b p =

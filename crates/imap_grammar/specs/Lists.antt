@@ -4,7 +4,7 @@ use Rattle.std.specs.Borrow.{Bor}
 use Rattle.imap_grammar.specs.declared.answer.Err.{Err as Fault}
 use Rattle.imap_grammar.specs.declared.answer.Err.TheVariants.{Incomplete, Error, Failure}
 use Rattle.imap_grammar.specs.declared.lists.Separator.{Separator}
-use Rattle.imap_grammar.specs.declared.lists.Separator.TheVariants.{Space, Comma, Dot, Blanks}
+use Rattle.imap_grammar.specs.declared.lists.Separator.TheVariants.{Space, Comma, Blanks}
 use Rattle.imap_grammar.specs.Text.{Bytes}
 use Rattle.imap_grammar.specs.Meaning.{Meaning, seq_means, alt_means, gives_means, nothing_means, many_means}
 use Rattle.imap_grammar.specs.Rule.{Rule, meaning, gives, opt, list0, list1, ◌⨾◌, ◌▹◌, ◌◃◌}
@@ -37,17 +37,12 @@ opt_opt_of a = gives flat (opt a)
 abbrev pub separator : Separator → Rule Bytes
 separator Space = sp
 separator Comma = tag ","
-separator Dot = tag "."
 separator Blanks = blanks1
 
 -- ---- the same forms over any meaning
 
 abbrev pub behind_means : {S A : Type 0} → Meaning S → Meaning A → Meaning A
 behind_means {S} {A} s a = gives_means (λ (v : S × A). v.1) (seq_means s a)
-
--- A+
-abbrev pub some1_means : {A : Type 0} → Meaning A → Meaning (List A)
-some1_means {A} a = gives_means (λ (v : A × List A). v.0 ∷ v.1) (seq_means a (many_means a))
 
 abbrev pub list1_means : {S A : Type 0} → Meaning S → Meaning A → Meaning (List A)
 list1_means {S} {A} s a = gives_means (λ (v : A × List A). v.0 ∷ v.1) (seq_means a (many_means (behind_means s a)))

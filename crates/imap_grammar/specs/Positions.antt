@@ -1,6 +1,7 @@
 -- Readers that walk positions in one message: what they reach, and the bytes that a span names.
-use Rattle.std.specs.Prelude.{◌≡◌, ℕ, ◌-◌, ◌≤◌, List, length, take, drop, Result, Ok, Err, Option}
+use Rattle.std.specs.Prelude.{◌≡◌, ℕ, ◌-◌, ◌≤◌, List, length, take, drop, Result, Ok, Err, Option, IfSome, All}
 use Rattle.std.specs.Option.{option_map}
+use Rattle.std.specs.Global.{Vec}
 use Rattle.imap_grammar.specs.declared.answer.Err.{Err as Fault}
 use Rattle.imap_grammar.specs.declared.at.span.Span.{Span}
 use Rattle.imap_grammar.specs.Meaning.{Meaning}
@@ -59,6 +60,15 @@ Lies p s q = (p ≤ s.start) × (s.start ≤ s.end) × (s.end ≤ q)
 abbrev pub Inside : List ℕ → ℕ → Reached Span → Type 0
 Inside m p (Ok x) = Lies p x.1 x.0 × (x.0 ≤ length m)
 Inside m p (Err e) = Unit {0}
+
+-- So does a span that may be missing, and each span of a list.
+abbrev pub MaybeInside : ℕ → Reached (Option Span) → Type 0
+MaybeInside p (Ok x) = IfSome x.1 (λ s. Lies p s x.0)
+MaybeInside p (Err e) = Unit {0}
+
+abbrev pub EachInside : ℕ → Reached (Vec Span) → Type 0
+EachInside p (Ok x) = All (λ s. Lies p s x.0) x.1.items
+EachInside p (Err e) = Unit {0}
 
 -- What x names in a message rests on the bytes before q alone.
 pub record Rests {A V : Type 0} (view : List ℕ → A → V) (q : ℕ) (x : A) : Type 0 where

@@ -27,9 +27,12 @@ infixr 30 ◌and◌
 abbrev pub ◌and◌ : Texts → Texts → Texts
 ◌and◌ P Q c = (a : Bytes) × (b : Bytes) × (c ≡ a ++ b) × P a × Q b
 
--- bytes of a class, maybe none
+-- bytes of a class: maybe none, and at least one
 abbrev pub all_of : (ℕ → Bool) → Texts
 all_of p c = IsTrue (list_all p c)
+
+abbrev pub some_of : (ℕ → Bool) → Texts
+some_of p c = all_of p c × (0 < length c)
 
 -- these bytes, which P spells
 abbrev pub as_it_is : Texts → Bytes → Texts
@@ -48,7 +51,7 @@ abbrev pub blanks : Texts
 blanks = all_of is_blank
 
 abbrev pub some_blanks : Texts
-some_blanks c = blanks c × (0 < length c)
+some_blanks = some_of is_blank
 
 -- ---- options and lists
 
@@ -83,7 +86,7 @@ spells_literal b = exactly "{" and spells_number (length b) and exactly "}" and 
 
 -- quoted content: quoted-chars, and quoted-specials behind a backslash each
 abbrev pub is_content_part : Texts
-is_content_part c = all_of is_quoted_char c ⊎ (exactly "\\\\" c ⊎ exactly "\\\"" c)
+is_content_part c = some_of is_quoted_char c ⊎ (exactly "\\\\" c ⊎ exactly "\\\"" c)
 
 abbrev pub is_content : Texts
 is_content c = (parts : List Bytes) × each_of (as_it_is is_content_part) parts c
@@ -96,7 +99,7 @@ abbrev pub spells_string : Bytes → Texts
 spells_string b c = spells_quoted b c ⊎ spells_literal b c
 
 abbrev pub spells_astring : Bytes → Texts
-spells_astring b c = as_it_is (all_of is_astring_char) b c ⊎ spells_string b c
+spells_astring b c = as_it_is (some_of is_astring_char) b c ⊎ spells_string b c
 
 abbrev pub spells_nstring : Option Bytes → Texts
 spells_nstring = nil_or spells_string

@@ -1,8 +1,6 @@
 -- What the first byte says of a rule, told by the rule alone. What begins with a byte that a rule may not start with it denies,
 -- so that a choice need try only those alternatives that may start so. What may take nothing may start with any byte.
-use Rattle.std.specs.Prelude.{ℕ, Bool, true, false, List, [], ◌∷◌, ◌||◌, ◌≡◌, ◌⊎◌}
-use Rattle.std.proofs.Common.{inl, inr}
-use Rattle.imap_grammar.specs.declared.answer.Err.{Err as Fault}
+use Rattle.std.specs.Prelude.{ℕ, Bool, true, false, List, [], ◌∷◌, ◌||◌, ◌≡◌}
 use Rattle.imap_grammar.specs.Step.{step}
 use Rattle.imap_grammar.specs.Meaning.{Denies, Waits}
 use Rattle.imap_grammar.specs.Rule.{Rule, meaning, tag_by, run0, run1, seq, alt, gives, tested, raw, nothing, never, many, counted}
@@ -48,21 +46,6 @@ pub record Starts {V : Type 0} (r : Rule V) : Type 0 where
   pub denies : (b : ℕ) (m : List ℕ) → may_start r b ≡ false → Denies (meaning r) (b ∷ m)
   pub waits : wants_byte r ≡ true → Waits (meaning r) []
 
--- ---- two sequences that begin alike, A B or A C, answer as A (B or C), so that A is read once
-
-pub record SameAnswers {V : Type 0} (r s : Rule V) : Type 0 where
-  pub yields : (m : List ℕ) (v : V) (rest : List ℕ) → (meaning r).yields m v rest → (meaning s).yields m v rest
-  pub yielded : (m : List ℕ) (v : V) (rest : List ℕ) → (meaning s).yields m v rest → (meaning r).yields m v rest
-  pub fails : (m : List ℕ) (e : Fault) → (meaning r).fails m e → (meaning s).fails m e
-  pub failed : (m : List ℕ) (e : Fault) → (meaning s).fails m e → (meaning r).fails m e
-
+-- two rules with the same steps: A B or A C has those of A (B or C), so that A is read once
 abbrev pub SameSteps : {V : Type 0} → Rule V → Rule V → Type 0
 SameSteps r s = (m : List ℕ) → step r m ≡ step s m
-
--- the value of A with B's, or with C's
-abbrev pub by_either : {A B C D : Type 0} → (A × B → D) → (A × C → D) → A × (B ⊎ C) → D
-by_either f g (x, inl y) = f (x, y)
-by_either f g (x, inr z) = g (x, z)
-
-abbrev pub factored : {A B C D : Type 0} → Rule A → Rule B → Rule C → (A × B → D) → (A × C → D) → Rule D
-factored {A} {B} {C} a b c f g = gives (by_either f g) (seq a (alt (gives (λ (y : B). inl y) b) (gives (λ (z : C). inr z) c)))

@@ -20,8 +20,6 @@ pub enum Separator {
     Space,
     /// A comma.
     Comma,
-    /// A dot.
-    Dot,
     /// Spaces and tabs, at least one.
     Blanks,
 }
@@ -56,7 +54,8 @@ fn read_at<'a, O: Drop, F: Fn(&'a [u8]) -> IResult<&'a [u8], O>>(
 
 /// What f reads, and again behind each separator: one or more.
 ///
-/// It ends before a separator behind which f denies. f's other faults go through.
+/// It ends before a separator behind which f denies. f's other faults go through. f has to consume at least a byte.
+/// It takes memory for the list.
 pub fn separated<'a, O: Drop, F: Fn(&'a [u8]) -> IResult<&'a [u8], O>>(
     alloc: Global,
     between: Separator,
@@ -79,7 +78,9 @@ pub fn separated<'a, O: Drop, F: Fn(&'a [u8]) -> IResult<&'a [u8], O>>(
     Ok((rest(i, q), items))
 }
 
-/// What f reads, as often as it does.
+/// What f reads, as often as it does, with nothing between.
+///
+/// f has to consume at least a byte. Its `Incomplete` and `Failure` go through. It takes memory for the list.
 pub fn repeated<'a, O: Drop, F: Fn(&'a [u8]) -> IResult<&'a [u8], O>>(
     alloc: Global,
     f: F,
@@ -102,6 +103,9 @@ pub fn repeated<'a, O: Drop, F: Fn(&'a [u8]) -> IResult<&'a [u8], O>>(
 }
 
 /// What f reads, with separators between, maybe not once.
+///
+/// It ends as `separated` does. f has to consume at least a byte. Its `Incomplete` and `Failure` go through.
+/// It takes memory for the list.
 pub fn maybe_separated<'a, O: Drop, F: Fn(&'a [u8]) -> IResult<&'a [u8], O>>(
     alloc: Global,
     between: Separator,
@@ -126,7 +130,7 @@ pub fn maybe_separated<'a, O: Drop, F: Fn(&'a [u8]) -> IResult<&'a [u8], O>>(
 
 /// A list in parentheses: what f reads, with one space between, maybe none, and maybe a space before the `)`.
 ///
-/// f has to consume at least a byte. Its `Incomplete` and `Failure` go through.
+/// f has to consume at least a byte. Its `Incomplete` and `Failure` go through. It takes memory for the list.
 pub fn parenthesized_list<'a, O: Drop, F: Fn(&'a [u8]) -> IResult<&'a [u8], O>>(
     alloc: Global,
     f: F,
@@ -148,7 +152,7 @@ pub fn parenthesized_list<'a, O: Drop, F: Fn(&'a [u8]) -> IResult<&'a [u8], O>>(
     Ok((rest(i, q), items))
 }
 
-/// The same of at least one element, with spaces and tabs before the `)`.
+/// The same of at least one element, with spaces and tabs before the `)`. It takes memory for the list.
 pub fn parenthesized_nonempty_list<'a, O: Drop, F: Fn(&'a [u8]) -> IResult<&'a [u8], O>>(
     alloc: Global,
     f: F,

@@ -1,6 +1,6 @@
 //! Words, spaces and runs: the parts that other readers are made of. None takes memory.
 
-ghost use Rattle.std.specs.Prelude.{◌≡◌, ◌==◌, ◌<◌, ◌≤◌, ◌-◌, ℕ, Bool, length, take, position};
+ghost use Rattle.std.specs.Prelude.{◌≡◌, ◌==◌, ◌<◌, ℕ, Bool, length, position};
 ghost use Rattle.std.specs.Option.{option_map, ForSome};
 ghost use Rattle.imap_grammar.specs.Answer.{Answers, Exactly};
 ghost use Rattle.imap_grammar.specs.Memory.{NeverFails};
@@ -80,7 +80,8 @@ pub fn maybe_space(i: &[u8]) -> IResult<&[u8], Option<&[u8]>>
     maybe!(tag(b" ", i), i)
 }
 
-/// The bytes before the first that is outside a class, where that one stands at `end`.
+/// The bytes before the first that is outside a class, where that one stands at `end`. `None` is `Incomplete`: it isn't there
+/// yet.
 pub fn cut0(end: Option<usize>, i: &[u8]) -> IResult<&[u8], &[u8]>
     requires { ForSome end (λ n. n < length i.now) }
     ensures steps { (class : ℕ → Bool) → end ≡ position (outside class) i.now → Exactly (λ x. x.now) result (step (run0 class) i.now) }
@@ -89,7 +90,7 @@ pub fn cut0(end: Option<usize>, i: &[u8]) -> IResult<&[u8], &[u8]>
     sliced(i, at::tags::cut0(end, i, 0))
 }
 
-/// The same, of at least one byte.
+/// The same, of at least one byte: an `end` of 0 is `Error`, and `None` is `Incomplete`.
 pub fn cut1(end: Option<usize>, i: &[u8]) -> IResult<&[u8], &[u8]>
     requires { ForSome end (λ n. n < length i.now) }
     ensures steps { (class : ℕ → Bool) → end ≡ position (outside class) i.now → Exactly (λ x. x.now) result (step (run1 class) i.now) }
@@ -112,13 +113,4 @@ pub fn blanks1(i: &[u8]) -> IResult<&[u8], &[u8]>
     ensures no_failure { NeverFails result }
 {
     sliced(i, at::tags::blanks1(i, 0))
-}
-
-/// What stands before the rest.
-pub fn taken<'a>(i: &'a [u8], rest: &[u8]) -> &'a [u8]
-    requires { length rest.now ≤ length i.now }
-    ensures { result.now ≡ take (length i.now - length rest.now) i.now }
-{
-    let (front, _) = i.split_at(i.len() - rest.len());
-    front
 }

@@ -20,6 +20,8 @@ fn decode_owned(alloc: Global, bytes: &[u8]) -> Result<CowStr<'_>, AllocError>
 }
 
 /// The text of the bytes: borrowed where they are UTF-8, and else with one U+FFFD for each ill-formed part.
+///
+/// It takes memory only for bytes that are no UTF-8; `Err` where there is none.
 #[inline(always)]
 pub fn decode(alloc: Global, bytes: &[u8]) -> Result<CowStr<'_>, AllocError>
     ensures text { IfOk result (λ t. text_of t ≡ decoded bytes.now) }

@@ -20,7 +20,7 @@ pub fn owned_text(alloc: Global, text: CowStr<'_>) -> Result<CowStr<'static>, Al
     }
 }
 
-/// The same, owned, of a text that may be missing.
+/// The same, owned, of a text that may be missing. It takes memory only for a borrowed text; `Err` where there is none.
 pub fn owned_optional_text(
     alloc: Global,
     text: Option<CowStr<'_>>,

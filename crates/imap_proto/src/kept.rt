@@ -2,9 +2,7 @@
 
 ghost use Rattle.std.specs.Prelude.{◌≡◌, ◌≤◌, ◌<◌, Some, drop, length, map, slice_get, IfOk};
 ghost use Rattle.imap_grammar.specs.Positions.{Ahead, ExactlyAt, GivesAt, RestsOn, Inside, named_in};
-ghost use Rattle.imap_grammar.specs.Rule.{◌⨾◌};
 ghost use Rattle.imap_grammar.specs.Step.{step};
-ghost use Rattle.imap_grammar.specs.Tags.{crlf};
 ghost use Rattle.imap_body.specs.AttributeValues.{attribute_value};
 ghost use Rattle.imap_body.specs.SpannedAttributes.{attribute_in};
 ghost use Rattle.imap_proto.specs.Kept.{Keeps, attributes_of, without_value};
@@ -67,7 +65,7 @@ fn valueless<T: Drop>(answer: IResult<&[u8], T>) -> Result<(), Err>
     }
 }
 
-/// A `FETCH` that is kept: what it consumed, once, and where its attributes stand in that.
+/// A `FETCH` that is kept (RFC 3501, section 7.4.2): what it consumed, once, and where its attributes stand in that.
 #[derive(Drop)]
 pub struct KeptFetch {
     alloc: Global,
@@ -77,9 +75,12 @@ pub struct KeptFetch {
 }
 
 impl KeptFetch {
-    /// Keeps the `FETCH` at the front of the message; `None` where another response stands there.
+    /// Keeps the `FETCH` at the front of the message (RFC 3501, section 7.4.2); `None` where another response stands there.
     ///
     /// `Error`, `Incomplete` and `Failure` as `Response::parse`. It answers for the whole message: what the `FETCH` consumed may wait by itself.
+    ///
+    /// It takes memory for its bytes and its attributes, and for another response as `Response::parse` does. The bytes of a `Feed`
+    /// stay there, and its `next` reads them again.
     pub fn keep(alloc: Global, msg: &[u8]) -> Result<Option<KeptFetch>, Err>
         ensures { Keeps msg.now result }
     {

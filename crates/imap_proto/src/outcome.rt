@@ -16,7 +16,7 @@ use std::borrow::CowStr;
 pub struct Outcome<'a> {
     /// The response code, if there is one.
     pub code: Option<ResponseCode<'a>>,
-    /// The text for a person, if there is any.
+    /// The text for a person, if there is any. A code that no rule reads stands in it, brackets and all.
     pub information: Option<CowStr<'a>>,
 }
 

@@ -50,7 +50,7 @@ impl RequestId {
 /// A response of a server (RFC 3501, section 7).
 #[derive(Debug, Drop, PartialEq, Eq)]
 pub enum Response<'a> {
-    /// `CAPABILITY` (RFC 3501, section 7.2.1) and `ENABLED` (RFC 5161, section 3.2).
+    /// `CAPABILITY` (RFC 3501, section 7.2.1), with `Imap4rev1` among them, and `ENABLED` (RFC 5161, section 3.2), each an `Atom`.
     Capabilities(Vec<Capability<'a>>),
     /// `+`: the server waits for the rest of a command (RFC 3501, section 7.5).
     Continue(Outcome<'a>),
@@ -63,7 +63,7 @@ pub enum Response<'a> {
         /// The code and the text.
         outcome: Outcome<'a>,
     },
-    /// An untagged status line (RFC 3501, section 7.1).
+    /// An untagged status line (RFC 3501, section 7.1), as the greeting is.
     Data {
         /// How it went.
         status: Status,

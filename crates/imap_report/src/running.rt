@@ -97,6 +97,9 @@ fn tell_responses<R: Source, W: Sink>(
 /// Reads all input piece by piece and writes its report: a line for each response as soon as its last byte is there, and a last
 /// line that tells what is left. It takes memory for a piece, for what waits, and for a response. After a `Fault` what was written
 /// is a beginning of the report of what was read.
+///
+/// `Read`: the reader failed. `Write`: the writer failed. `TooLong`: at least 2^64 - 1 bytes were read. `OutOfMemory`: memory ran
+/// out.
 pub fn run<R: Source, W: Sink>(
     alloc: Global,
     reader: &mut R,
@@ -114,7 +117,9 @@ pub fn run<R: Source, W: Sink>(
     tell_last(alloc, end, n, writer)
 }
 
-/// The report of these bytes, and what its last line tells. It takes memory.
+/// The report of these bytes, and what its last line tells.
+///
+/// It takes memory. Where there is none: `Write` for the report itself, `OutOfMemory` for all else.
 pub fn report_of(alloc: Global, input: &[u8]) -> Result<(Finish, Vec<u8>), Fault>
     ensures { IfOk result (λ told. IsReport input.now told.1.items told.0) }
 {

@@ -20,7 +20,7 @@ use crate::types::fields::{BodyFields, ContentEncoding};
 use std::alloc::{AllocError, Global};
 
 impl<'a> Address<'a> {
-    /// The same with all texts owned.
+    /// The same with all texts owned. It takes memory; `Err` where there is none.
     pub fn into_owned(self, alloc: Global) -> Result<Address<'static>, AllocError>
         ensures { IfOk result (λ x. address_seen bytes_of x ≡ address_seen bytes_owned self.entry) }
     {
@@ -31,7 +31,7 @@ impl<'a> Address<'a> {
 }
 
 impl<'a> Envelope<'a> {
-    /// The same with all texts owned.
+    /// The same with all texts owned. It takes memory; `Err` where there is none.
     pub fn into_owned(self, alloc: Global) -> Result<Envelope<'static>, AllocError>
         ensures { IfOk result (λ x. envelope_seen bytes_of x ≡ envelope_seen bytes_owned self.entry) }
     {
@@ -42,7 +42,7 @@ impl<'a> Envelope<'a> {
 }
 
 impl<'a> ContentEncoding<'a> {
-    /// The same with all texts owned.
+    /// The same with all texts owned. It takes memory; `Err` where there is none.
     pub fn into_owned(self, alloc: Global) -> Result<ContentEncoding<'static>, AllocError>
         ensures { IfOk result (λ x. encoding_seen text_of x ≡ encoding_seen text_owned self.entry) }
     {
@@ -53,7 +53,7 @@ impl<'a> ContentEncoding<'a> {
 }
 
 impl<'a> BodyFields<'a> {
-    /// The same with all texts owned.
+    /// The same with all texts owned. It takes memory; `Err` where there is none.
     pub fn into_owned(self, alloc: Global) -> Result<BodyFields<'static>, AllocError>
         ensures { IfOk result (λ x. fields_seen text_of x ≡ fields_seen text_owned self.entry) }
     {
@@ -64,7 +64,7 @@ impl<'a> BodyFields<'a> {
 }
 
 impl<'a> ContentDisposition<'a> {
-    /// The same with all texts owned.
+    /// The same with all texts owned. It takes memory; `Err` where there is none.
     pub fn into_owned(self, alloc: Global) -> Result<ContentDisposition<'static>, AllocError>
         ensures { IfOk result (λ x. disposition_seen text_of x ≡ disposition_seen text_owned self.entry) }
     {
@@ -75,7 +75,7 @@ impl<'a> ContentDisposition<'a> {
 }
 
 impl<'a> BodyExtension<'a> {
-    /// The same with all texts owned.
+    /// The same with all texts owned. It takes memory; `Err` where there is none.
     pub fn into_owned(self, alloc: Global) -> Result<BodyExtension<'static>, AllocError>
         ensures { IfOk result (λ x. extension_seen text_of x ≡ extension_seen text_owned self.entry) }
     {
@@ -86,7 +86,7 @@ impl<'a> BodyExtension<'a> {
 }
 
 impl<'a> BodyExt1Part<'a> {
-    /// The same with all texts owned.
+    /// The same with all texts owned. It takes memory; `Err` where there is none.
     pub fn into_owned(self, alloc: Global) -> Result<BodyExt1Part<'static>, AllocError>
         ensures { IfOk result (λ x. ext_1part_seen text_of x ≡ ext_1part_seen text_owned self.entry) }
     {
@@ -97,7 +97,7 @@ impl<'a> BodyExt1Part<'a> {
 }
 
 impl<'a> BodyExtMPart<'a> {
-    /// The same with all texts owned.
+    /// The same with all texts owned. It takes memory; `Err` where there is none.
     pub fn into_owned(self, alloc: Global) -> Result<BodyExtMPart<'static>, AllocError>
         ensures { IfOk result (λ x. ext_mpart_seen text_of x ≡ ext_mpart_seen text_owned self.entry) }
     {
@@ -108,7 +108,7 @@ impl<'a> BodyExtMPart<'a> {
 }
 
 impl<'a> ContentType<'a> {
-    /// The same with all texts owned.
+    /// The same with all texts owned. It takes memory; `Err` where there is none.
     pub fn into_owned(self, alloc: Global) -> Result<ContentType<'static>, AllocError>
         ensures { IfOk result (λ x. type_seen text_of x ≡ type_seen text_owned self.entry) }
     {
@@ -119,7 +119,7 @@ impl<'a> ContentType<'a> {
 }
 
 impl<'a> BodyContentCommon<'a> {
-    /// The same with all texts owned.
+    /// The same with all texts owned. It takes memory; `Err` where there is none.
     pub fn into_owned(self, alloc: Global) -> Result<BodyContentCommon<'static>, AllocError>
         ensures { IfOk result (λ x. common_seen text_of x ≡ common_seen text_owned self.entry) }
     {
@@ -130,7 +130,7 @@ impl<'a> BodyContentCommon<'a> {
 }
 
 impl<'a> BodyContentSinglePart<'a> {
-    /// The same with all texts owned.
+    /// The same with all texts owned. It takes memory; `Err` where there is none.
     pub fn into_owned(self, alloc: Global) -> Result<BodyContentSinglePart<'static>, AllocError>
         ensures { IfOk result (λ x. single_seen text_of x ≡ single_seen text_owned self.entry) }
     {
@@ -141,7 +141,7 @@ impl<'a> BodyContentSinglePart<'a> {
 }
 
 impl<'a> BodyStructure<'a> {
-    /// The same with all texts owned.
+    /// The same with all texts owned. It takes memory; `Err` where there is none.
     pub fn into_owned(self, alloc: Global) -> Result<BodyStructure<'static>, AllocError>
         ensures { IfOk result (λ x. body_seen text_of bytes_of x ≡ body_seen text_owned bytes_owned self.entry) }
     {

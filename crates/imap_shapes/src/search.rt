@@ -1,6 +1,6 @@
 //! Part search: the path of the first body at which a predicate holds.
 
-ghost use Rattle.std.specs.Prelude.{◌≡◌, ◌++◌, [], true, false, map, IfOk, OnOk, IfErr};
+ghost use Rattle.std.specs.Prelude.{◌≡◌, ◌++◌, ℕ, [], true, false, Some, map, slice_get, IfOk, OnOk, IfErr};
 ghost use Rattle.std.specs.Option.{option_map};
 ghost use Rattle.std.specs.Fn.{FnReturnsAt};
 ghost use Rattle.imap_grammar.specs.Text.{text_of};
@@ -109,12 +109,15 @@ impl<'b, 'a> BodyStructParser<'b, 'a> {
 
     /// The path of the first body at which f holds, and `None` where it holds at none. `Err` where there is no memory for the path.
     ///
-    /// f may be asked of any body that is held, and answers the same each time.
+    /// Joined by dots, a path is the section of its part. The empty path is root's: where root is no multipart, its section is `1`
+    /// (RFC 3501, section 6.4.5).
+    ///
+    /// f may be called on each body that is held, and answers the same each time.
     pub fn search<F: Fn(&BodyStructure<'a>) -> bool>(
         &self,
         f: F,
     ) -> Result<Option<Vec<u32>>, AllocError>
-        requires { F.IsAlwaysCallable f }
+        requires may { (i : ℕ) (part : _) → slice_get self.now.parts.items i ≡ Some part → F.pre f part.body }
         ensures { IfOk result (λ found. FindsFirst (λ p. FnReturnsAt F.Fn f p.body.now) (λ p. p.path.items) self.now.parts.items (option_map (λ v. v.items) found)) }
     {
         for part in &self.parts {

@@ -4,18 +4,14 @@ ghost use Rattle.std.specs.Prelude.{◌≡◌, IfOk};
 ghost use Rattle.std.specs.Option.{option_map};
 ghost use Rattle.imap_grammar.specs.Text.{text_of};
 ghost use Rattle.imap_shapes.specs.Spans.{bytes_of, bytes_in, text_in};
-ghost use Rattle.imap_shapes.specs.EnvelopeValues.{address_seen, envelope_seen};
-ghost use Rattle.imap_shapes.specs.FieldValues.{fields_seen};
-ghost use Rattle.imap_shapes.specs.ExtensionValues.{extension_seen};
+ghost use Rattle.imap_shapes.specs.EnvelopeValues.{address_seen};
 ghost use Rattle.imap_shapes.specs.BodyValues.{body_seen};
 
 use crate::maps::changes::{NamedBytes, NamedTexts};
 use crate::shapes;
 use crate::spans::{Span, SpannedText};
 use crate::types::bodies::BodyStructure;
-use crate::types::envelopes::{Address, Envelope};
-use crate::types::extensions::BodyExtension;
-use crate::types::fields::BodyFields;
+use crate::types::envelopes::Address;
 use std::alloc::{AllocError, Global};
 use std::borrow::CowSlice;
 
@@ -40,33 +36,6 @@ impl shapes::envelopes::Address<Span> {
             mailbox: lent(m, &self.mailbox),
             host: lent(m, &self.host),
         }
-    }
-}
-
-impl shapes::envelopes::Envelope<Span> {
-    /// The envelope that its spans name in m. It takes memory for the lists; `Err` where there is none.
-    pub fn value<'a>(&self, alloc: Global, m: &'a [u8]) -> Result<Envelope<'a>, AllocError>
-        ensures { IfOk result (λ e. envelope_seen bytes_of e ≡ envelope_seen (bytes_in m.now) self.now) }
-    {
-        self.try_map(alloc, &NamedBytes { m })
-    }
-}
-
-impl shapes::fields::BodyFields<SpannedText> {
-    /// The fields that its spans name in m. It takes memory; `Err` where there is none.
-    pub fn value<'a>(&self, alloc: Global, m: &'a [u8]) -> Result<BodyFields<'a>, AllocError>
-        ensures { IfOk result (λ x. fields_seen text_of x ≡ fields_seen (text_in m.now) self.now) }
-    {
-        self.try_map(alloc, &NamedTexts { alloc, m })
-    }
-}
-
-impl shapes::extensions::BodyExtension<SpannedText> {
-    /// The extension that its spans name in m. It takes memory; `Err` where there is none.
-    pub fn value<'a>(&self, alloc: Global, m: &'a [u8]) -> Result<BodyExtension<'a>, AllocError>
-        ensures { IfOk result (λ x. extension_seen text_of x ≡ extension_seen (text_in m.now) self.now) }
-    {
-        self.try_map(alloc, &NamedTexts { alloc, m })
     }
 }
 

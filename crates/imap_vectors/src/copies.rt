@@ -63,6 +63,12 @@ impl<'a> Copied for QuotaRoot<'a> {
     }
 }
 
+impl Copied for RequestId {
+    fn copied(&self) -> Result<Self, AllocError> {
+        self.clone()
+    }
+}
+
 impl Copied for Metadata {
     fn copied(&self) -> Result<Self, AllocError> {
         self.clone()
@@ -193,6 +199,25 @@ fn is_found<T: Eq + Hash + Drop>(
     }
 }
 
+// A copy of what a reader answered.
+fn copy_of<'a, T: Copied + Drop>(answer: IResult<&'a [u8], T>) -> IResult<&'a [u8], T> {
+    match answer {
+        Ok((rest, value)) => Ok((rest, value.copied()?)),
+        Err(error) => Err(error),
+    }
+}
+
+// A quota that was read, with its texts owned.
+fn owned_of<'a>(
+    alloc: Global,
+    answer: IResult<&'a [u8], Quota<'_>>,
+) -> IResult<&'a [u8], Quota<'static>> {
+    match answer {
+        Ok((rest, value)) => Ok((rest, value.into_owned(alloc)?)),
+        Err(error) => Err(error),
+    }
+}
+
 // Texts compare and hash by content, whichever are borrowed, and identities compare as finite maps.
 #[test]
 fn equality_and_hashes(rt: HostRuntime) {
@@ -201,6 +226,10 @@ fn equality_and_hashes(rt: HostRuntime) {
     let owned = b"QUOTA \"\xff\" (STORAGE 1 2)\r";
     assert!(rt; are_equal(quota(alloc, lent), quota(alloc, owned)));
     assert!(rt; is_found(alloc, quota(alloc, lent), quota(alloc, owned)));
+    let made_owned = owned_of(alloc, quota(alloc, lent));
+    assert!(rt; is_found(alloc, quota(alloc, lent), made_owned));
+    let copy = copy_of(quota(alloc, lent));
+    assert!(rt; is_found(alloc, quota(alloc, lent), copy));
 }
 
 #[test]
@@ -226,6 +255,7 @@ fn letters_of_rights(rt: HostRuntime) {
 fn parts_of_status_lines(rt: HostRuntime) -> Result<(), Fail> {
     let tag = RequestId(String::from_str(rt.alloc(), "a1")?);
     assert!(rt; tag.as_bytes() == b"a1".as_slice());
+    assert!(rt; is_copied(Ok((NOTHING, tag))));
     let nothing = Ok((NOTHING, Outcome::default()));
     let want = "Outcome { code: None, information: None }";
     assert!(rt; says(rt.alloc(), nothing, want));

@@ -111,6 +111,10 @@ const STRUCTURES: Rows = &[
         b"* 1 FETCH (BODY (\"TEXT\" \"PLAIN\" NIL NIL NIL \"7BIT\" 5 1))\r\n",
         "Fetch(1, [Unknown])",
     ),
+    (
+        b"* 1 FETCH (BODY (\"TEXT\" \"PLAIN\" (\"CHARSET\" \"UTF-8\") NIL NIL \"7BIT\" 5 1))\r\n",
+        "Error",
+    ),
 ];
 
 const UNKNOWN: Rows = &[

@@ -1,6 +1,6 @@
 //! Fetches that are kept, and attributes as positions: what they tell of their message, and of another one in its place.
 
-use crate::answers::{parses, says, says_at};
+use crate::answers::{Rows, parses, says, says_at};
 use crate::{codes, extensions, fetches, mailboxes, statuses};
 use imap_body::AttributeValue;
 use imap_body::spanned::{SpannedAttribute, attribute_list_at};
@@ -9,6 +9,7 @@ use imap_proto::imap_core::Err;
 use imap_proto::kept::KeptFetch;
 use std::alloc::{AllocError, Global};
 use std::fmt;
+use std::process::Abort;
 use std::test::*;
 
 // What an attribute says, in its place.
@@ -75,26 +76,30 @@ fn is_not_kept(alloc: Global, line: &[u8], want: &str) -> bool {
     }
 }
 
+// Each line is told so, and nothing is kept of it.
+fn assert_none_kept(rt: &impl Abort, alloc: Global, tables: &[Rows]) {
+    for rows in tables {
+        for (line, want) in *rows {
+            assert!(rt; is_not_kept(alloc, line, want), "{want}");
+        }
+    }
+}
+
 #[test]
 fn kept_as_parsed(rt: HostRuntime) {
-    let alloc = rt.alloc();
     for rows in fetches::lines() {
         for (line, want) in *rows {
-            assert!(rt; is_kept(alloc, line, want), "{want}");
+            assert!(rt; is_kept(rt.alloc(), line, want), "{want}");
         }
     }
-    for tables in [
-        statuses::lines(),
-        codes::lines(),
-        mailboxes::lines(),
-        extensions::lines(),
-    ] {
-        for rows in tables {
-            for (line, want) in *rows {
-                assert!(rt; is_not_kept(alloc, line, want), "{want}");
-            }
-        }
-    }
+}
+
+#[test]
+fn no_fetch_no_keeping(rt: HostRuntime) {
+    assert_none_kept(&rt, rt.alloc(), statuses::lines());
+    assert_none_kept(&rt, rt.alloc(), codes::lines());
+    assert_none_kept(&rt, rt.alloc(), mailboxes::lines());
+    assert_none_kept(&rt, rt.alloc(), extensions::lines());
 }
 
 /// A line, what is kept of it, and what its kept bytes say when they are parsed by themselves.
@@ -208,6 +213,30 @@ const PLACES: &[Places] = &[
         values: r#"[BodyStructure(Multipart { common: BodyContentCommon { ty: ContentType { ty: "MULTIPART", subtype: "M", params: None }, disposition: None, language: None, location: None }, bodies: [Message { common: BodyContentCommon { ty: ContentType { ty: "MESSAGE", subtype: "RFC822", params: None }, disposition: None, language: None, location: None }, other: BodyContentSinglePart { id: None, md5: None, description: None, transfer_encoding: SevenBit, octets: 9 }, envelope: Envelope { date: Some([100]), subject: None, from: None, sender: None, reply_to: None, to: None, cc: None, bcc: None, in_reply_to: None, message_id: None }, body: Basic { common: BodyContentCommon { ty: ContentType { ty: "A", subtype: "B", params: None }, disposition: None, language: None, location: None }, other: BodyContentSinglePart { id: None, md5: None, description: None, transfer_encoding: Base64, octets: 1 }, extension: None }, lines: 2, extension: None }], extension: None })]"#,
         other: &[b'y'; 145],
         others: r#"[BodyStructure(Multipart { common: BodyContentCommon { ty: ContentType { ty: "MULTIPART", subtype: "y", params: None }, disposition: None, language: None, location: None }, bodies: [Message { common: BodyContentCommon { ty: ContentType { ty: "MESSAGE", subtype: "RFC822", params: None }, disposition: None, language: None, location: None }, other: BodyContentSinglePart { id: None, md5: None, description: None, transfer_encoding: SevenBit, octets: 9 }, envelope: Envelope { date: Some([121]), subject: None, from: None, sender: None, reply_to: None, to: None, cc: None, bcc: None, in_reply_to: None, message_id: None }, body: Basic { common: BodyContentCommon { ty: ContentType { ty: "y", subtype: "y", params: None }, disposition: None, language: None, location: None }, other: BodyContentSinglePart { id: None, md5: None, description: None, transfer_encoding: Base64, octets: 1 }, extension: None }, lines: 2, extension: None }], extension: None })]"#,
+    },
+    Places {
+        message: b"(FLAGS (\\Seen \\Seen) UID 1)",
+        start: 0,
+        spans: "[Span { start: 1, end: 20 }, Span { start: 21, end: 26 }] up to 27",
+        values: r#"[Flags(["\\Seen", "\\Seen"]), Uid(1)]"#,
+        other: b"(FLAGS (\\Seen \\Flag) UID 1)",
+        others: r#"[Flags(["\\Seen", "\\Flag"]), Uid(1)]"#,
+    },
+    Places {
+        message: b"(ENVELOPE (NIL NIL ((NIL NIL \"a\" \"h\")) ((NIL NIL \"a\" \"h\")) NIL NIL NIL NIL NIL NIL))",
+        start: 0,
+        spans: "[Span { start: 1, end: 83 }] up to 84",
+        values: "[Envelope(Envelope { date: None, subject: None, from: Some([Address { name: None, adl: None, mailbox: Some([97]), host: Some([104]) }]), sender: Some([Address { name: None, adl: None, mailbox: Some([97]), host: Some([104]) }]), reply_to: None, to: None, cc: None, bcc: None, in_reply_to: None, message_id: None })]",
+        other: b"(ENVELOPE (NIL NIL ((NIL NIL \"a\" \"h\")) ((NIL NIL \"b\" \"i\")) NIL NIL NIL NIL NIL NIL))",
+        others: "[Envelope(Envelope { date: None, subject: None, from: Some([Address { name: None, adl: None, mailbox: Some([97]), host: Some([104]) }]), sender: Some([Address { name: None, adl: None, mailbox: Some([98]), host: Some([105]) }]), reply_to: None, to: None, cc: None, bcc: None, in_reply_to: None, message_id: None })]",
+    },
+    Places {
+        message: b"(BODYSTRUCTURE (\"TEXT\" \"TEXT\" (\"a\" \"a\") NIL NIL \"7BIT\" 1 2))",
+        start: 0,
+        spans: "[Span { start: 1, end: 59 }] up to 60",
+        values: r#"[BodyStructure(Text { common: BodyContentCommon { ty: ContentType { ty: "TEXT", subtype: "TEXT", params: Some([("a", "a")]) }, disposition: None, language: None, location: None }, other: BodyContentSinglePart { id: None, md5: None, description: None, transfer_encoding: SevenBit, octets: 1 }, lines: 2, extension: None })]"#,
+        other: b"(BODYSTRUCTURE (\"TEXT\" \"HTML\" (\"a\" \"b\") NIL NIL \"7BIT\" 1 2))",
+        others: r#"[BodyStructure(Text { common: BodyContentCommon { ty: ContentType { ty: "TEXT", subtype: "HTML", params: Some([("a", "b")]) }, disposition: None, language: None, location: None }, other: BodyContentSinglePart { id: None, md5: None, description: None, transfer_encoding: SevenBit, octets: 1 }, lines: 2, extension: None })]"#,
     },
 ];
 

@@ -2,6 +2,7 @@
 
 use crate::answers::told;
 use crate::kept::is_kept;
+use crate::streams::may_be_cut;
 use imap_body::readers::{body_extension, body_structure};
 use imap_proto::Response;
 use imap_proto::imap_core::{Err, IResult};
@@ -79,7 +80,8 @@ fn ending_of<T: Drop>(answer: IResult<&[u8], T>) -> Ending {
     }
 }
 
-const DEPTHS: [(u32, Ending); 3] = [
+const DEPTHS: [(u32, Ending); 4] = [
+    (3, Ending::Whole),
     (99, Ending::Whole),
     (100, Ending::Whole),
     (101, Ending::Denied),
@@ -125,10 +127,18 @@ const LINES: [(&[u8], &Nest, &[u8]); 3] = [
     (BEFORE_LISTS_IN_LINE, &LISTS, b"))\r\n"),
 ];
 
-// Whether the parsing of a line ends so, and what is kept of the line is told as what is parsed.
+// Lines up to this length are cut. A longer one, of a hundred messages inside one another, is not: each cut reads the line anew, so
+// its time grows with the square of its length.
+const CUT: usize = 1000;
+
+// Whether the parsing of a line ends so, what is kept of the line is told as what is parsed, and a short line may be cut anywhere.
 fn line_ends(alloc: Global, line: &[u8], want: Ending) -> Result<bool, AllocError> {
     let parsed = told(alloc, Response::parse(alloc, line))?;
-    Ok(ending_of(Response::parse(alloc, line)) == want && is_kept(alloc, line, parsed.as_str()))
+    Ok(
+        ending_of(Response::parse(alloc, line)) == want
+            && is_kept(alloc, line, parsed.as_str())
+            && (line.len() > CUT || may_be_cut(alloc, line)),
+    )
 }
 
 // A body that nests too deep is tried as an unknown attribute, which ends at the first closing bracket: so the line is denied.

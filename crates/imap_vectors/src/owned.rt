@@ -188,7 +188,10 @@ fn whole_lines(rt: HostRuntime) {
 fn response_alone(alloc: Global, line: &[u8]) -> Option<Response<'static>> {
     let copy = Vec::from_slice(alloc, line).ok()?;
     match Response::parse(alloc, copy.as_slice()) {
-        Ok((_, response)) => response.into_owned(alloc).ok(),
+        Ok((_, response)) => match response.into_owned(alloc) {
+            Ok(owned) => Some(owned),
+            Err(_) => None,
+        },
         Err(_) => None,
     }
 }

@@ -2,7 +2,7 @@
 
 ghost use Rattle.std.specs.Prelude.{None};
 
-use imap_report::{Fault, Finish, Sink, Source, run};
+use imap_report::{Fault, Finish, Sink, Source, report_of, run};
 use std::alloc::Global;
 use std::io::{self, ErrorKind};
 use std::test::*;
@@ -112,12 +112,26 @@ fn goes(alloc: Global, want: &Run) -> bool {
     ends == want.ends && writer.written.as_slice() == want.writes
 }
 
+// Whether the report of a run's bytes is what the run writes, and tells how it ends.
+fn is_reported(alloc: Global, want: &Run) -> bool {
+    match report_of(alloc, want.bytes) {
+        Ok((finish, report)) => want.ends == Ok(finish) && report.as_slice() == want.writes,
+        Err(_) => false,
+    }
+}
+
 const REPORTS: &[Run] = &[
     Run {
         bytes: b"* OK hi\r\na1 OK\r\n",
         limits: WHOLE,
         ends: Ok(Finish::End),
         writes: b"data 9\ndone 7\nend\n",
+    },
+    Run {
+        bytes: b"* 18 EXISTS\r\n",
+        limits: WHOLE,
+        ends: Ok(Finish::End),
+        writes: b"mailboxdata 13\nend\n",
     },
     Run {
         bytes: b"",
@@ -221,6 +235,13 @@ fn runs(rt: HostRuntime) {
         for want in table {
             assert!(rt; goes(rt.alloc(), want), "{}", want.bytes.len());
         }
+    }
+}
+
+#[test]
+fn reports_of_bytes(rt: HostRuntime) {
+    for want in REPORTS {
+        assert!(rt; is_reported(rt.alloc(), want), "{}", want.bytes.len());
     }
 }
 

@@ -46,6 +46,7 @@ fn hostile_lines(rt: HostRuntime) {
     assert_lines(&rt, rt.alloc(), &[LITERALS, NULLS]);
 }
 
+// These lines are not cut: each cut reads the line anew, so its time grows with the square of its length.
 #[test]
 fn open_brackets(rt: HostRuntime) -> Result<(), Fail> {
     let alloc = rt.alloc();

@@ -7,6 +7,7 @@ use imap_proto::imap_core::{
     Err, IResult, Needed, astring_utf8, nstring_utf8, quoted_utf8, string_utf8, text,
 };
 use imap_proto::rfc3501::{AttributeValue, MailboxDatum};
+use imap_proto::stream::FeedError;
 use std::alloc::{AllocError, Global};
 use std::borrow::CowStr;
 use std::collections::HashMap;
@@ -197,6 +198,28 @@ const MARKED_LINES: Rows = &[
     ),
 ];
 
+// Lines whose responses are made owned: whichever texts were lent, all are of their own memory then.
+const OWNED_LINES: Rows = &[
+    (b"* OK [ALERT] x\r\n", r#"[Owned("x")]"#),
+    (b"* ID (\"a\" \"1\")\r\n", r#"[Owned("a"), Owned("1")]"#),
+    (
+        b"* ID (\"a\" {1}\r\n\xfe)\r\n",
+        r#"[Owned("a"), Owned("�")]"#,
+    ),
+    (
+        b"* METADATA \"x\" (/shared/comment \"y\")\r\n",
+        r#"[Owned("x")]"#,
+    ),
+    (
+        b"* METADATA \"x\" \"/shared/comment \xff\" /private/comment\r\n",
+        r#"[Owned("x"), Owned("/shared/comment �"), Owned("/private/comment")]"#,
+    ),
+    (
+        b"* 1 FETCH (INTERNALDATE \"a\" FLAGS (\\Seen \\*) X-GM-LABELS (\\Sent \"\xff\") EMAILID (M1) THREADID (T))\r\n",
+        r#"[Owned("a"), Owned("\\Seen"), Owned("\\*"), Owned("\\Sent"), Owned("�"), Owned("M1"), Owned("T")]"#,
+    ),
+];
+
 // Whether the texts of what was read are told so.
 fn has_texts<T: Telling + Drop>(alloc: Global, answer: IResult<&[u8], T>, want: &str) -> bool {
     match answer {
@@ -208,11 +231,30 @@ fn has_texts<T: Telling + Drop>(alloc: Global, answer: IResult<&[u8], T>, want: 
     }
 }
 
+// Whether the texts of a response are told so when it is made owned.
+fn has_owned_texts(alloc: Global, answer: IResult<&[u8], Response<'_>>, want: &str) -> bool {
+    match answer {
+        Ok((rest, response)) => match response.into_owned(alloc) {
+            Ok(owned) => has_texts(alloc, Ok((rest, owned)), want),
+            Err(_) => false,
+        },
+        Err(_) => false,
+    }
+}
+
 #[test]
 fn lent_and_owned(rt: HostRuntime) {
     for (line, want) in MARKED_LINES {
         let answer = Response::parse(rt.alloc(), line);
         assert!(rt; has_texts(rt.alloc(), answer, want), "{want}");
+    }
+}
+
+#[test]
+fn made_owned(rt: HostRuntime) {
+    for (line, want) in OWNED_LINES {
+        let answer = Response::parse(rt.alloc(), line);
+        assert!(rt; has_owned_texts(rt.alloc(), answer, want), "{want}");
     }
 }
 
@@ -234,6 +276,17 @@ fn texts_of_faults_of_parts(rt: HostRuntime) {
     let rows = [
         (PartsError::OutOfMemory, "out of memory"),
         (PartsError::TooManyParts, "too many parts"),
+    ];
+    for (fault, want) in rows {
+        assert!(rt; displays(rt.alloc(), fault, want), "{want}");
+    }
+}
+
+#[test]
+fn texts_of_faults_of_feeds(rt: HostRuntime) {
+    let rows = [
+        (FeedError::Denied, "denied"),
+        (FeedError::OutOfMemory, "out of memory"),
     ];
     for (fault, want) in rows {
         assert!(rt; displays(rt.alloc(), fault, want), "{want}");

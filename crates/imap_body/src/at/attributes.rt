@@ -74,6 +74,8 @@ fn section_contents<K: KeepAttribute>(
 }
 
 /// A section of a message's body (RFC 3501, section 7.4.2: `BODY[<section>]<<origin octet>>`).
+///
+/// It takes memory for the path of a part.
 #[tactic(auto, unfolding(crate::specs::Attributes::msg_att_body_section))]
 pub fn msg_att_body_section<K: KeepAttribute>(
     keep: &K,

@@ -12,27 +12,30 @@ use std::borrow::{CowSlice, CowStr};
 pub enum AttributeParts<S, B, Y> {
     /// `BODY[..]`: a section of the message's body, from an index on where there is one.
     BodySection {
+        /// Which section; `None` where the brackets are empty.
         section: Option<SectionPath>,
+        /// The index of its first byte, where one is told.
         index: Option<u32>,
+        /// Its bytes; `None` for `NIL`.
         contents: Option<B>,
     },
     /// `BODYSTRUCTURE`
     BodyStructure(Y),
     /// `ENVELOPE`
     Envelope(Box<Envelope<B>>),
-    /// `FLAGS`
+    /// `FLAGS`, each as it stands, backslash and all.
     Flags(Vec<S>),
-    /// `INTERNALDATE`
+    /// `INTERNALDATE`, as it stands.
     InternalDate(S),
     /// `MODSEQ` (RFC 7162, section 3.1.4).
     ModSeq(u64),
-    /// `RFC822`
+    /// `RFC822`; `None` is `NIL`.
     Rfc822(Option<B>),
-    /// `RFC822.HEADER`
+    /// `RFC822.HEADER`; `None` is `NIL`.
     Rfc822Header(Option<B>),
     /// `RFC822.SIZE`
     Rfc822Size(u32),
-    /// `RFC822.TEXT`
+    /// `RFC822.TEXT`; `None` is `NIL`.
     Rfc822Text(Option<B>),
     /// `UID`
     Uid(u32),
@@ -44,9 +47,9 @@ pub enum AttributeParts<S, B, Y> {
     GmailThrId(u64),
     /// `EMAILID` (RFC 8474, section 5.1).
     EmailId(S),
-    /// `THREADID` (RFC 8474, section 5.2).
+    /// `THREADID` (RFC 8474, section 5.2); `None` is `NIL`.
     ThreadId(Option<S>),
-    /// Any other, its value skipped.
+    /// Any other, and one whose value its rule denies. What stands there is skipped.
     Unknown,
 }
 

@@ -57,7 +57,7 @@ pub fn sequence_item(m: &[u8], p: usize) -> Result<(usize, RangeInclusive<u32>),
     }
 }
 
-/// Numbers and ranges, with commas between (RFC 3501, section 9: sequence-set, without `*`).
+/// Numbers and ranges, with commas between (RFC 3501, section 9: sequence-set, without `*`). It takes memory for the list.
 pub fn sequence_set(
     alloc: Global,
     m: &[u8],

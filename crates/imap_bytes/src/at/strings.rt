@@ -1,7 +1,7 @@
 //! Strings at a position, as spans of their content. None takes memory.
 
-ghost use Rattle.std.specs.Prelude.{◌≡◌, ◌==◌, ◌||◌, ◌≤◌, length, drop, IfOk, IfSome};
-ghost use Rattle.imap_grammar.specs.Positions.{AnswersAt, ExactlyAt, Ahead, Inside, Lies, RestsOn, maybe_in, named_in};
+ghost use Rattle.std.specs.Prelude.{◌≡◌, ◌==◌, ◌||◌, ◌≤◌, length, drop, IfOk};
+ghost use Rattle.imap_grammar.specs.Positions.{AnswersAt, ExactlyAt, Ahead, Inside, MaybeInside, Lies, RestsOn, maybe_in, named_in};
 ghost use Rattle.imap_grammar.specs.Memory.{NeverFails};
 ghost use Rattle.imap_grammar.specs.Step.{step, take_step};
 ghost use Rattle.imap_grammar.specs.Meaning.{begins};
@@ -68,7 +68,7 @@ fn quoted_content(m: &[u8], p: usize) -> Result<(usize, Span), Err>
             Some(_) => q = after,
         }
         // No part begins with a quote.
-        if opens_quoted(m, q) {
+        if quote_follows(m, q) {
             return Ok((q, Span { start: p, end: q }));
         }
     }
@@ -135,9 +135,9 @@ pub fn literal(m: &[u8], p: usize) -> Result<(usize, Span), Err>
     counted(count as usize, m, p)
 }
 
-// Whether the next byte opens a quoted string.
+// Whether the next byte is a quote.
 #[inline(always)]
-fn opens_quoted(m: &[u8], p: usize) -> bool
+fn quote_follows(m: &[u8], p: usize) -> bool
     requires { p ≤ length m.now }
     ensures { result ≡ begins (λ b. b == quote) (drop p m.now) }
 {
@@ -158,7 +158,7 @@ pub fn string(m: &[u8], p: usize) -> Result<(usize, Span), Err>
     ensures inside { Inside m.now p result }
     ensures no_failure { NeverFails result }
 {
-    if opens_quoted(m, p) {
+    if quote_follows(m, p) {
         quoted(m, p)
     } else {
         literal(m, p)
@@ -220,6 +220,7 @@ pub fn nstring(m: &[u8], p: usize) -> Result<(usize, Option<Span>), Err>
     ensures steps { ExactlyAt (λ x. maybe_in m.now x) m.now result (step strings.nstring (drop p m.now)) }
     ensures answer { AnswersAt strings.nstring (λ x. maybe_in m.now x) m.now p result }
     ensures ahead { Ahead m.now p result }
+    ensures inside { MaybeInside p result }
     ensures rests { RestsOn maybe_in result }
     ensures no_failure { NeverFails result }
 {

@@ -23,7 +23,8 @@ impl FetchCommand<Messages> {
         Ok(args)
     }
 
-    /// Asks for one more message. It takes memory.
+    /// Asks for one more message (RFC 3501, section 6.4.5). It takes memory; `Err` where there is
+    /// none.
     pub fn num(self, number: u32) -> Result<FetchCommand<Messages>, AllocError>
         ensures { IfOk result (λ command. (calls : List Call) → stage calls ≡ messages
             → self ≡ begun calls → command ≡ begun (call.num number ∷ calls)) }
@@ -33,7 +34,8 @@ impl FetchCommand<Messages> {
         Ok(FetchCommand::with_text(args))
     }
 
-    /// Asks for one more range of messages. It takes memory.
+    /// Asks for one more range of messages (RFC 3501, section 6.4.5). It takes memory; `Err` where
+    /// there is none.
     pub fn range(self, range: RangeInclusive<u32>) -> Result<FetchCommand<Messages>, AllocError>
         ensures { IfOk result (λ command. (calls : List Call) → stage calls ≡ messages
             → self ≡ begun calls → command
@@ -44,7 +46,8 @@ impl FetchCommand<Messages> {
         Ok(FetchCommand::with_text(args))
     }
 
-    /// Asks also for the messages from a number on. It takes memory.
+    /// Asks also for the messages from a number on (RFC 3501, section 6.4.5). It takes memory;
+    /// `Err` where there is none.
     pub fn range_from(self, range: RangeFrom<u32>) -> Result<FetchCommand<Messages>, AllocError>
         ensures { IfOk result (λ command. (calls : List Call) → stage calls ≡ messages
             → self ≡ begun calls → command ≡ begun (call.range_from range.start ∷ calls)) }
@@ -54,7 +57,8 @@ impl FetchCommand<Messages> {
         Ok(FetchCommand::with_text(args))
     }
 
-    /// Asks for a group of attributes of the messages. It takes memory.
+    /// Asks for a group of attributes of the messages (RFC 3501, section 6.4.5). It takes memory;
+    /// `Err` where there is none.
     pub fn attr_macro(self, group: AttrMacro) -> Result<FetchCommand<Modifiers>, AllocError>
         ensures { IfOk result (λ command. (calls : List Call) → stage calls ≡ messages
             → self ≡ begun calls → command ≡ begun (call.attr_macro group ∷ calls)) }
@@ -65,7 +69,8 @@ impl FetchCommand<Messages> {
         Ok(FetchCommand::with_text(args))
     }
 
-    /// Asks for an attribute of the messages. It takes memory.
+    /// Asks for an attribute of the messages (RFC 3501, section 6.4.5). It takes memory; `Err`
+    /// where there is none.
     pub fn attr(self, attribute: Attribute) -> Result<FetchCommand<Attributes>, AllocError>
         ensures { IfOk result (λ command. (calls : List Call) → stage calls ≡ messages
             → self ≡ begun calls → command ≡ begun (call.attr attribute ∷ calls)) }

@@ -90,7 +90,7 @@ fn some_addresses<K: Keep>(
         let (after, next) = next_address(m, q)?;
         match next {
             None => {
-                if items.len() == 0 {
+                if items.is_empty() {
                     return Err(Err::Error);
                 }
                 return Ok((q, items));

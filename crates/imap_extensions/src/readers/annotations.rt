@@ -1,6 +1,6 @@
 //! Annotations of mailboxes.
 
-ghost use Rattle.std.specs.Prelude.{◌≡◌, map, option_map, take_while, IfOk};
+ghost use Rattle.std.specs.Prelude.{◌≡◌, map, option_map, IfOk};
 ghost use Rattle.std.specs.List.{list_all};
 ghost use Rattle.std.specs.String.{string_bytes};
 ghost use Rattle.imap_grammar.specs.Answer.{Answers, Exactly, Gives};
@@ -193,7 +193,8 @@ pub fn metadata_mailbox(alloc: Global, i: &[u8]) -> IResult<&[u8], CowStr<'_>>
 
 /// Annotations with their values in parentheses, at least one (RFC 5464, section 5: entry-values).
 ///
-/// It takes memory for the list, and for each entry and value.
+/// A name that begins with none of `/private/comment`, `/private/vendor/`, `/shared/comment`, `/shared/vendor/` and
+/// `/shared/admin` is `Error`. It takes memory for the list, and for each entry and value.
 pub fn annotations(alloc: Global, i: &[u8]) -> IResult<&[u8], Vec<Metadata>>
     ensures steps { Gives (λ x. map metadata_value x.items) result (step rules.annotations i.now) }
     ensures answer { Answers rules.annotations (λ x. map metadata_value x.items) i.now result }
@@ -206,7 +207,7 @@ pub fn annotations(alloc: Global, i: &[u8]) -> IResult<&[u8], Vec<Metadata>>
 
 /// Names of entries, a space between, maybe none (RFC 5464, section 5: entry-list).
 ///
-/// It takes memory for the list, and for texts that are no UTF-8.
+/// It ends before a name that `annotations` denies. It takes memory for the list, and for texts that are no UTF-8.
 pub fn entries(alloc: Global, i: &[u8]) -> IResult<&[u8], Vec<CowStr<'_>>>
     ensures steps { Gives (λ x. map text_of x.items) result (step rules.entries i.now) }
     ensures answer { Answers rules.entries (λ x. map text_of x.items) i.now result }

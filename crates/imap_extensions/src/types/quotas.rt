@@ -126,7 +126,7 @@ fn owned_resources(
 }
 
 impl<'a> Quota<'a> {
-    /// The same quota. It takes memory for the resources, and for owned texts.
+    /// The same quota. It takes memory for the resources, and for owned texts; `Err` where there is none.
     pub fn clone(&self) -> Result<Self, AllocError>
         ensures { IfOk result (λ copy. quota_value copy ≡ quota_value self.now) }
     {
@@ -148,7 +148,7 @@ impl<'a> Quota<'a> {
 }
 
 impl<'a> QuotaRoot<'a> {
-    /// The same roots. It takes memory for the list of them, and for owned texts.
+    /// The same roots. It takes memory for the list of them, and for owned texts; `Err` where there is none.
     pub fn clone(&self) -> Result<Self, AllocError>
         ensures { IfOk result (λ copy. quota_root_value copy ≡ quota_root_value self.now) }
     {

@@ -6,7 +6,7 @@ ghost use Rattle.imap_grammar.specs.PositionLists.{FollowsAt, Advances, KeepsAhe
 ghost use Rattle.imap_grammar.specs.Step.{step};
 ghost use Rattle.imap_grammar.specs.Rule.{meaning};
 ghost use Rattle.imap_grammar.specs.Meaning.{many_means};
-ghost use Rattle.imap_grammar.specs.Lists.{or_memory, separator as separator_rule, behind_means, some1_means, list1_means, list0_means, list_means, nonempty_list_means, delimited_means, opt_opt_means};
+ghost use Rattle.imap_grammar.specs.Lists.{or_memory, separator as separator_rule, behind_means, list1_means, list0_means, list_means, nonempty_list_means, delimited_means, opt_opt_means};
 
 use crate::answer::Err;
 use crate::at::span::Span;
@@ -25,7 +25,6 @@ fn read_separator(between: Separator, m: &[u8], p: usize) -> Result<(usize, Span
     match between {
         Separator::Space => tag(b" ", m, p),
         Separator::Comma => tag(b",", m, p),
-        Separator::Dot => tag(b".", m, p),
         Separator::Blanks => blanks1(m, p),
     }
 }
@@ -47,7 +46,7 @@ fn next_item<O: Drop, F: Fn(usize) -> Result<(usize, O), Err>>(
     f(q)
 }
 
-// What f reads.
+// What f reads: by the contract of this call the loop knows what f answered, and that it went on.
 fn one_item<O: Drop, F: Fn(usize) -> Result<(usize, O), Err>>(
     f: &F,
     m: &[u8],
@@ -64,7 +63,7 @@ fn one_item<O: Drop, F: Fn(usize) -> Result<(usize, O), Err>>(
 
 /// What f reads, as often as it does, with nothing between.
 ///
-/// f has to consume at least a byte. Its `Incomplete` and `Failure` go through.
+/// f has to consume at least a byte. Its `Incomplete` and `Failure` go through. It takes memory for the list.
 pub fn repeated<O: Drop, F: Fn(usize) -> Result<(usize, O), Err>>(
     alloc: Global,
     f: F,
@@ -86,32 +85,10 @@ pub fn repeated<O: Drop, F: Fn(usize) -> Result<(usize, O), Err>>(
     Ok((q, items))
 }
 
-/// The same, at least once.
-pub fn repeated_once<O: Drop, F: Fn(usize) -> Result<(usize, O), Err>>(
-    alloc: Global,
-    f: F,
-    m: &[u8],
-    p: usize,
-) -> Result<(usize, Vec<O>), Err>
-    requires start { p ≤ length m.now }
-    requires may { (k : ℕ) → k ≤ length m.now → F.pre f k }
-    requires advances { Advances m.now (F.post f) }
-    ensures follows { FollowsAt (λ a. or_memory (some1_means a)) (F.post f) (λ x. x.items) m.now p result }
-    ensures ahead { Ahead m.now p result }
-{
-    let (mut q, first) = f(p)?;
-    let mut items = Vec::with_capacity(alloc, ROOM)?;
-    items.push_reserved(first);
-    while let Some((next, item)) = tried(one_item(&f, m, q))? {
-        items.push(item)?;
-        q = next;
-    }
-    Ok((q, items))
-}
-
 /// What f reads, and again behind each separator: one or more.
 ///
 /// It ends before a separator behind which f denies. f's other faults go through. f has to consume at least a byte.
+/// It takes memory for the list.
 pub fn separated<O: Drop, F: Fn(usize) -> Result<(usize, O), Err>>(
     alloc: Global,
     between: Separator,
@@ -136,6 +113,9 @@ pub fn separated<O: Drop, F: Fn(usize) -> Result<(usize, O), Err>>(
 }
 
 /// What f reads, with separators between, maybe not once.
+///
+/// It ends as `separated` does. f has to consume at least a byte. Its `Incomplete` and `Failure` go through.
+/// It takes memory for the list.
 pub fn maybe_separated<O: Drop, F: Fn(usize) -> Result<(usize, O), Err>>(
     alloc: Global,
     between: Separator,
@@ -157,7 +137,7 @@ pub fn maybe_separated<O: Drop, F: Fn(usize) -> Result<(usize, O), Err>>(
 
 /// A list in parentheses: what f reads, with one space between, maybe none, and maybe a space before the `)`.
 ///
-/// f has to consume at least a byte. Its `Incomplete` and `Failure` go through.
+/// f has to consume at least a byte. Its `Incomplete` and `Failure` go through. It takes memory for the list.
 pub fn parenthesized_list<O: Drop, F: Fn(usize) -> Result<(usize, O), Err>>(
     alloc: Global,
     f: F,
@@ -177,7 +157,7 @@ pub fn parenthesized_list<O: Drop, F: Fn(usize) -> Result<(usize, O), Err>>(
     Ok((p, items))
 }
 
-/// The same of at least one element, with spaces and tabs before the `)`.
+/// The same of at least one element, with spaces and tabs before the `)`. It takes memory for the list.
 pub fn parenthesized_nonempty_list<O: Drop, F: Fn(usize) -> Result<(usize, O), Err>>(
     alloc: Global,
     f: F,

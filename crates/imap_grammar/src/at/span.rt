@@ -46,7 +46,8 @@ impl Span {
 
     /// The text of the bytes that it names: borrowed from m where they are UTF-8, and else with one U+FFFD for each ill-formed part.
     ///
-    /// Its start is at most its end, and its end at most m's length.
+    /// Its start is at most its end, and its end at most m's length. It takes memory only for bytes that are no UTF-8; `Err`
+    /// where there is none.
     pub fn text<'a>(&self, alloc: Global, m: &'a [u8]) -> Result<CowStr<'a>, AllocError>
         requires ordered { self.now.start ≤ self.now.end }
         requires within { self.now.end ≤ length m.now }
@@ -57,7 +58,7 @@ impl Span {
     }
 }
 
-/// What is left of m from a position on.
+/// What is left of m from a position on, which is at most m's length.
 pub fn rest(m: &[u8], p: usize) -> &[u8]
     requires { p ≤ length m.now }
     ensures { result.now ≡ drop p m.now }

@@ -4,7 +4,7 @@ ghost use Rattle.std.specs.Prelude.{◌≡◌, ◌==◌, ◌≤◌, ◌<◌, ◌
 ghost use Rattle.std.specs.Option.{ForSome};
 ghost use Rattle.std.specs.List.{zip, list_all};
 ghost use Rattle.imap_grammar.specs.Memory.{NeverFails};
-ghost use Rattle.imap_grammar.specs.Positions.{ExactlyAt, Ahead, Inside, named_in, maybe_in};
+ghost use Rattle.imap_grammar.specs.Positions.{ExactlyAt, Ahead, Inside, MaybeInside, named_in, maybe_in};
 ghost use Rattle.imap_grammar.specs.Step.{step};
 ghost use Rattle.imap_grammar.specs.Meaning.{outside};
 ghost use Rattle.imap_grammar.specs.Rule.{tag_by, run0, run1};
@@ -89,12 +89,14 @@ pub fn maybe_space(m: &[u8], p: usize) -> Result<(usize, Option<Span>), Err>
     requires { p ≤ length m.now }
     ensures steps { ExactlyAt (λ x. maybe_in m.now x) m.now result (step tags.maybe_space (drop p m.now)) }
     ensures ahead { Ahead m.now p result }
+    ensures inside { MaybeInside p result }
     ensures no_failure { NeverFails result }
 {
     maybe!(tag(b" ", m, p), p)
 }
 
-/// The bytes before the first that is outside a class, where that one stands `end` behind p.
+/// The bytes before the first that is outside a class, where that one stands `end` behind p. `None` is `Incomplete`: it isn't
+/// there yet.
 #[tactic(auto, using(crate::proofs::Positions::stepped), unfolding(crate::specs::Step::run0_step))]
 pub fn cut0(end: Option<usize>, m: &[u8], p: usize) -> Result<(usize, Span), Err>
     requires { ForSome end (λ n. p + n < length m.now) }
@@ -111,7 +113,7 @@ pub fn cut0(end: Option<usize>, m: &[u8], p: usize) -> Result<(usize, Span), Err
     }
 }
 
-/// The same, of at least one byte.
+/// The same, of at least one byte: an `end` of 0 is `Error`, and `None` is `Incomplete`.
 pub fn cut1(end: Option<usize>, m: &[u8], p: usize) -> Result<(usize, Span), Err>
     requires { ForSome end (λ n. p + n < length m.now) }
     ensures steps { (class : ℕ → Bool) → end ≡ position (outside class) (drop p m.now) → ExactlyAt (λ x. named_in m.now x) m.now result (step (run1 class) (drop p m.now)) }

@@ -1,7 +1,7 @@
 //! Gmail's labels at a position, as spans of their texts.
 
 ghost use Rattle.std.specs.Prelude.{◌≤◌, length, drop, map};
-ghost use Rattle.imap_grammar.specs.Positions.{AnswersAt, ExactlyAt, GivesAt, Ahead, Inside, RestsOn};
+ghost use Rattle.imap_grammar.specs.Positions.{AnswersAt, ExactlyAt, GivesAt, Ahead, Inside, EachInside, RestsOn};
 ghost use Rattle.imap_grammar.specs.Step.{step};
 ghost use Rattle.imap_bytes.specs.Texts as texts;
 ghost use Rattle.imap_items.specs.Gmail as rules;
@@ -51,12 +51,13 @@ fn gmail_labels(alloc: Global, m: &[u8], p: usize) -> Result<(usize, Vec<Span>),
     requires { p ≤ length m.now }
     ensures steps { GivesAt (λ x. map (text_in m.now) x.items) m.now result (step rules.gmail_labels (drop p m.now)) }
     ensures ahead { Ahead m.now p result }
+    ensures inside { EachInside p result }
     ensures rests { RestsOn (λ n x. map (text_in n) x.items) result }
 {
     let label = |k: usize|
         requires { k ≤ length m.now }
         ensures steps { ExactlyAt (λ x. text_in m.entry.now x) m.entry.now result (step rules.gmail_label (drop k m.entry.now)) }
-        ensures ahead { Ahead m.entry.now k result }
+        ensures inside { Inside m.entry.now k result }
         ensures rests { RestsOn text_in result }
     { gmail_label(m, k) };
     parenthesized_list(alloc, label, m, p)
@@ -67,6 +68,7 @@ fn labels(alloc: Global, m: &[u8], p: usize) -> Result<(usize, Vec<Span>), Err>
     requires { p ≤ length m.now }
     ensures steps { GivesAt (λ x. map (text_in m.now) x.items) m.now result (step rules.gmail_label_list (drop p m.now)) }
     ensures ahead { Ahead m.now p result }
+    ensures inside { EachInside p result }
     ensures rests { RestsOn (λ n x. map (text_in n) x.items) result }
 {
     let (p, _) = word(b"X-GM-LABELS ", m, p)?;
@@ -83,6 +85,7 @@ pub fn gmail_label_list(alloc: Global, m: &[u8], p: usize) -> Result<(usize, Vec
     ensures steps { GivesAt (λ x. map (text_in m.now) x.items) m.now result (step rules.gmail_label_list (drop p m.now)) }
     ensures answer { AnswersAt rules.gmail_label_list (λ x. map (text_in m.now) x.items) m.now p result }
     ensures ahead { Ahead m.now p result }
+    ensures inside { EachInside p result }
     ensures rests { RestsOn (λ n x. map (text_in n) x.items) result }
 {
     labels(alloc, m, p)

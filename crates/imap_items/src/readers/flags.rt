@@ -40,6 +40,8 @@ pub fn flag(i: &[u8]) -> IResult<&[u8], &str>
 }
 
 /// `\*`, or a flag (RFC 3501, section 9: flag-perm). No memory.
+///
+/// Bytes that are no UTF-8 are `Error`.
 #[tactic(auto, using(imap_grammar::proofs::Agreement::exact_answered))]
 #[inline(always)]
 pub fn flag_perm(i: &[u8]) -> IResult<&[u8], &str>
@@ -52,6 +54,8 @@ pub fn flag_perm(i: &[u8]) -> IResult<&[u8], &str>
 }
 
 /// A flag of a list, as text that lies in the input. No memory.
+///
+/// Bytes that are no UTF-8 are `Error`.
 #[tactic(auto, using(imap_grammar::proofs::Agreement::exact_answered), unfolding(crate::specs::Flags::flag_text))]
 #[inline(always)]
 pub fn flag_text(i: &[u8]) -> IResult<&[u8], CowStr<'_>>
@@ -64,6 +68,8 @@ pub fn flag_text(i: &[u8]) -> IResult<&[u8], CowStr<'_>>
 }
 
 /// Flags in parentheses, maybe none (RFC 3501, section 9: flag-list).
+///
+/// It takes memory for the list, and for no text. Bytes that are no UTF-8 are `Error`.
 pub fn flag_list(alloc: Global, i: &[u8]) -> IResult<&[u8], Vec<CowStr<'_>>>
     ensures steps { Gives (λ x. map text_of x.items) result (step flags.flag_list i.now) }
     ensures answer { Answers flags.flag_list (λ x. map text_of x.items) i.now result }

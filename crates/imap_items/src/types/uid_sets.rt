@@ -14,6 +14,7 @@ pub enum UidSetMember {
     Uid(u32),
 }
 
+/// One UID. It takes no memory.
 impl From<u32> for UidSetMember {
     ghost from_gives = { λ n m. m ≡ member.Uid n };
 
@@ -22,6 +23,7 @@ impl From<u32> for UidSetMember {
     }
 }
 
+/// A range, its ends as they stand. It takes no memory.
 impl From<RangeInclusive<u32>> for UidSetMember {
     ghost from_gives = { λ r m. m ≡ member.UidRange r };
 

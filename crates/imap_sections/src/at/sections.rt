@@ -199,7 +199,7 @@ fn next_number(m: &[u8], p: usize) -> Reached<Option<u32>>
     maybe!(dotted_number(m, p), p)
 }
 
-/// The path of a part (RFC 3501, section 9: section-part).
+/// The path of a part (RFC 3501, section 9: section-part). It takes memory for the path.
 #[tactic(auto, unfolding(crate::specs::Sections::section_part))]
 pub fn section_part(alloc: Global, m: &[u8], p: usize) -> Reached<Vec<u32>>
     requires { p ≤ length m.now }
@@ -249,7 +249,7 @@ fn part_path(alloc: Global, m: &[u8], p: usize) -> Reached<SectionPath>
     Ok((p, SectionPath::Part(numbers, what)))
 }
 
-/// What of a message is meant, or of which part (RFC 3501, section 9: section-spec).
+/// What of a message is meant, or of which part (RFC 3501, section 9: section-spec). It takes memory for the path of a part.
 #[tactic(auto, unfolding(crate::specs::Sections::section_spec))]
 pub fn section_spec(alloc: Global, m: &[u8], p: usize) -> Reached<SectionPath>
     requires { p ≤ length m.now }
@@ -268,7 +268,7 @@ fn maybe_spec(alloc: Global, m: &[u8], p: usize) -> Reached<Option<SectionPath>>
     maybe!(section_spec(alloc, m, p), p)
 }
 
-/// A section in brackets, maybe an empty one (RFC 3501, section 9: section).
+/// A section in brackets, maybe an empty one (RFC 3501, section 9: section). It takes memory for the path of a part.
 #[tactic(auto, unfolding(crate::specs::Sections::section))]
 pub fn section(alloc: Global, m: &[u8], p: usize) -> Reached<Option<SectionPath>>
     requires { p ≤ length m.now }

@@ -98,7 +98,7 @@ impl<S, B> BodyStructure<S, B> {
         }
     }
 
-    /// The same structure with each text changed by c, and each byte string by d.
+    /// The same structure with each text changed by c, and each byte string by d. It takes memory; `Err` where there is none.
     pub fn try_map<C: Change<S>, D: Change<B>>(
         &self,
         alloc: Global,

@@ -8,6 +8,7 @@ use std::alloc::AllocError;
 
 /// What makes another text of a text. It may take memory, and fails for want of it alone.
 pub trait Change<X> {
+    /// What a new text is.
     type To: Drop;
 
     /// What the new text is to say.
@@ -16,12 +17,14 @@ pub trait Change<X> {
     /// What a new text says.
     ghost after: { Self.To → Text };
 
+    /// The new text of x. `Err` where there is no memory.
     fn change(&self, x: &X) -> Result<Self::To, AllocError>
         ensures { IfOk result (λ y. after y ≡ before self.now x.now) };
 }
 
 /// What makes another body structure of one. It may take memory, and fails for want of it alone.
 pub trait BodyChange<Y> {
+    /// What a new body is.
     type To: Drop;
 
     /// What the new body is to say.
@@ -30,6 +33,7 @@ pub trait BodyChange<Y> {
     /// What a new body says.
     ghost after: { Self.To → BodyValue };
 
+    /// The new body of this one. `Err` where there is no memory.
     fn change_body(&self, body: &Y) -> Result<Self::To, AllocError>
         ensures { IfOk result (λ b. after b ≡ before self.now body.now) };
 }

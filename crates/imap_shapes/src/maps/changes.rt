@@ -1,8 +1,7 @@
 //! The changes of texts: all of them owned, and what spans name in a message.
 
 ghost use Rattle.std.specs.Prelude.{◌≡◌, IfOk, false};
-ghost use Rattle.imap_grammar.specs.Positions.{named_in};
-ghost use Rattle.imap_grammar.specs.Text.{decoded, text_of};
+ghost use Rattle.imap_grammar.specs.Text.{text_of};
 ghost use Rattle.imap_shapes.specs.Spans.{bytes_of, bytes_owned, text_owned, bytes_in, text_in};
 ghost use Rattle.imap_shapes.specs.BodyValues.{body_seen};
 
@@ -17,11 +16,13 @@ use std::marker::PhantomData;
 /// Each text owned. The target's lifetime is this type's own.
 #[derive(Drop)]
 pub struct Owning<'b> {
+    /// Where memory is taken for the texts.
     pub alloc: Global,
     target: PhantomData<&'b u8>,
 }
 
 impl<'b> Owning<'b> {
+    /// The change that makes each text owned. No memory.
     pub fn new(alloc: Global) -> Owning<'b> {
         Owning {
             alloc,
@@ -79,6 +80,7 @@ impl<'a, 'b> BodyChange<BodyStructure<'a>> for Owning<'b> {
 /// The byte strings that spans name in a message.
 #[derive(Drop)]
 pub struct NamedBytes<'a> {
+    /// The message.
     pub m: &'a [u8],
 }
 
@@ -97,20 +99,10 @@ impl<'a> Change<Span> for NamedBytes<'a> {
 /// The texts that spans name in a message, decoded, those that rules fix, and the body structures of such texts.
 #[derive(Drop)]
 pub struct NamedTexts<'a> {
+    /// Where memory is taken for texts whose bytes are no UTF-8, and for bodies.
     pub alloc: Global,
+    /// The message.
     pub m: &'a [u8],
-}
-
-impl<'a> Change<Span> for NamedTexts<'a> {
-    type To = CowStr<'a>;
-
-    ghost before = { λ c s. decoded (named_in c.m.now s) };
-
-    ghost after = { text_of };
-
-    fn change(&self, x: &Span) -> Result<CowStr<'a>, AllocError> {
-        decode(self.alloc, x.part(self.m))
-    }
 }
 
 impl<'a> Change<SpannedText> for NamedTexts<'a> {

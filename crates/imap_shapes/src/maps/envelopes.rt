@@ -51,7 +51,7 @@ fn mapped_addresses<B, C: Change<B>>(
 }
 
 impl<B> Envelope<B> {
-    /// The same envelope with each text changed.
+    /// The same envelope with each text changed. It takes memory for the lists, and where c does; `Err` where there is none.
     #[tactic(auto, unfolding(crate::specs::EnvelopeValues::envelope_seen))]
     pub fn try_map<C: Change<B>>(&self, alloc: Global, c: &C) -> Result<Envelope<C::To>, AllocError>
         ensures { IfOk result (λ e. envelope_seen C.after e ≡ envelope_seen (C.before c.now) self.now) }
@@ -71,7 +71,9 @@ impl<B> Envelope<B> {
     }
 }
 
-/// The same envelope with each text changed. A call of its own, since its slots are large.
+/// The same envelope with each text changed. It takes memory; `Err` where there is none.
+///
+/// A call of its own, since its slots are large.
 #[inline(never)]
 pub fn mapped_envelope<B, D: Change<B>>(
     alloc: Global,

@@ -1,6 +1,6 @@
 //! Maps of extension data.
 
-ghost use Rattle.std.specs.Prelude.{◌≡◌, IfOk, map};
+ghost use Rattle.std.specs.Prelude.{◌≡◌, IfOk};
 ghost use Rattle.std.specs.Option.{option_map};
 ghost use Rattle.imap_shapes.specs.ExtensionValues.{disposition_seen, extension_seen, ext_1part_seen, ext_mpart_seen};
 

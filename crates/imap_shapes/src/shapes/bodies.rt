@@ -43,7 +43,7 @@ pub struct BodyContentSinglePart<S> {
     pub octets: u32,
 }
 
-/// The structure of a body (RFC 3501, section 9: body).
+/// The structure of a body (RFC 3501, section 9: body). Its texts are raw: backslashes of a quoted string stay.
 #[derive(Debug, Drop, PartialEq, Eq)]
 pub enum BodyStructure<S, B> {
     /// A single part of any other type (RFC 3501, section 9: body-type-basic).

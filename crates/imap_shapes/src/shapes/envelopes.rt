@@ -1,6 +1,6 @@
 //! Envelopes and addresses.
 
-/// An address (RFC 3501, section 9: address).
+/// An address (RFC 3501, section 9: address). Its strings are raw: backslashes of a quoted one stay.
 #[derive(Debug, Drop, PartialEq, Eq)]
 pub struct Address<B> {
     /// The person's name, encoded words and all; `None` is `NIL`, as in each field.
@@ -13,7 +13,7 @@ pub struct Address<B> {
     pub host: Option<B>,
 }
 
-/// An envelope (RFC 3501, section 9: envelope).
+/// An envelope (RFC 3501, section 9: envelope). Its strings are raw: backslashes of a quoted one stay.
 #[derive(Debug, Drop, PartialEq, Eq)]
 pub struct Envelope<B> {
     /// The date, as it stands in the message; `None` is `NIL`, as in each field.

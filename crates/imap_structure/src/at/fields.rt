@@ -85,6 +85,8 @@ fn some_params<K: Keep>(
 }
 
 /// `NIL`, or parameters in parentheses (RFC 3501, section 9: body-fld-param).
+///
+/// It takes memory for the parameters, and, where values are kept of their strings, for texts that are no UTF-8.
 #[tactic(auto, unfolding(crate::specs::Fields::body_fld_param))]
 pub fn body_fld_param<K: Keep>(
     keep: &K,
@@ -244,7 +246,9 @@ fn spaced_encoding(m: &[u8], p: usize) -> Reached<ContentEncoding<SpannedText>>
     body_fld_enc(m, p)
 }
 
-/// The fields of a single part (RFC 3501, section 9: body-fields). It takes memory for the parameters.
+/// The fields of a single part (RFC 3501, section 9: body-fields).
+///
+/// It takes memory for the parameters, and, where values are kept of their strings, for texts that are no UTF-8.
 #[tactic(auto, unfolding(crate::specs::Fields::body_fields, imap_shapes::specs::FieldValues::fields_seen))]
 pub fn body_fields<K: Keep>(
     keep: &K,
@@ -275,7 +279,7 @@ pub fn body_fields<K: Keep>(
     ))
 }
 
-/// The same behind a space.
+/// The same behind a space. It takes memory as `body_fields` does.
 pub fn spaced_fields<K: Keep>(
     keep: &K,
     alloc: Global,

@@ -38,10 +38,10 @@ addresses-preserved g c =
       within = c.in_ok-after.ensures.ahead.1;
     }
 
-pub returns-then-len-eq0-clause-steps : goal.returns-then-len-eq0-clause-steps
+pub returns-then-is_empty-clause-steps : goal.returns-then-is_empty-clause-steps
 unfolding some_addresses listed_address address
-returns-then-len-eq0-clause-steps g c =
-    let few : length c.addresses.items.items ≡ 0 = search (rules, c.len.ensures, c.if-len-eq0.true) in
+returns-then-is_empty-clause-steps g c =
+    let few : length c.addresses.items.items ≡ 0 = search (rules, c.is_empty.ensures, c.if-is_empty.true) in
     let read = all _ listed_address _ _ _ c.addresses.invariant.gathered (rw c.in-None.is at c.in_ok-after.ensures.steps) in
     some_are listed_address (drop c.args.p c.args.m.now) refl ∙ ap not_none (read ∙ ap (λ xs. Ok (drop c.addresses.q c.args.m.now, map (address_seen (g.K.Keep.bytes_said c.args.m.now)) xs)) (nil_from_length c.addresses.items.items few))
 
@@ -54,7 +54,7 @@ returns-in_err-after-clause-steps g c =
 pub returns-in-None-clause-steps : goal.returns-in-None-clause-steps
 unfolding some_addresses listed_address address
 returns-in-None-clause-steps g c =
-    let few : 1 ≤ length c.addresses.items.items = search (rules, c.len.ensures, c.if-len-eq0.false) in
+    let few : 1 ≤ length c.addresses.items.items = search (rules, c.is_empty.ensures, c.if-is_empty.false) in
     let read = all _ listed_address _ _ _ c.addresses.invariant.gathered (rw c.in-None.is at c.in_ok-after.ensures.steps) in
     some_are listed_address (drop c.args.p c.args.m.now) refl ∙ ap not_none read ∙ one_there (λ x. address_seen (g.K.Keep.bytes_said c.args.m.now) x) _ c.addresses.items.items few
 
