@@ -1,6 +1,6 @@
 //! Runs: input is read piece by piece, and its report is written as its bytes come.
 
-ghost use Rattle.std.specs.Prelude.{◌≡◌, ℕ, ◌+◌, ◌-◌, ◌^◌, ◌++◌, List, length, false, true, IfOk, OnOk, OnErr, IfErr};
+ghost use Rattle.std.specs.Prelude.{◌≡◌, ℕ, ◌+◌, ◌-◌, ◌^◌, ◌≤◌, ◌++◌, List, length, false, true, IfOk, OnOk, OnErr, IfErr};
 ghost use Rattle.std.specs.Io.KnownBytes.{Consumes, IsAtEnd};
 ghost use Rattle.imap_report.specs.Report.{IsReport, ReportsAll, ReportsSome, ReadsAtLeast, TellsResponses};
 
@@ -121,7 +121,8 @@ pub fn run<R: Source, W: Sink>(
 ///
 /// It takes memory. Where there is none: `Write` for the report itself, `OutOfMemory` for all else.
 pub fn report_of(alloc: Global, input: &[u8]) -> Result<(Finish, Vec<u8>), Fault>
-    ensures { IfOk result (λ told. IsReport input.now told.1.items told.0) }
+    ensures report { IfOk result (λ told. IsReport input.now told.1.items told.0) }
+    ensures long { IfErr result (λ e. e ≡ Fault.TooLong → 2 ^ 64 - 1 ≤ length input.now) }
 {
     let mut reader = Reading::new(input);
     let mut writer = Writing::new(Vec::new(alloc));

@@ -1,5 +1,5 @@
 use Rattle.std.proofs.Common.{rules}
 use Rattle.imap_report.proofs.running.report_of.Goals as goal
 
-pub returns : goal.returns
-returns c = search rules depth 2
+pub returns-clause-report : goal.returns-clause-report
+returns-clause-report c = search rules depth 2
