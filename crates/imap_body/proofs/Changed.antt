@@ -1,5 +1,5 @@
 -- What an attribute says where each of its texts is changed: the change of what it said.
-use Rattle.std.proofs.Common.{◌≡◌, ℕ, refl, sym, ap}
+use Rattle.std.proofs.Common.{◌≡◌, ℕ, List, [], ◌∷◌, map, refl, sym, ap}
 use Rattle.std.specs.declared.borrow.CowSlice.{CowSlice}
 use Rattle.std.specs.declared.borrow.CowStr.{CowStr}
 use Rattle.std.proofs.lemmas.Simd.{map-map}
@@ -38,3 +38,7 @@ module _ {S B : Type 0} (f : S → Text) (g : B → Text) (h : Text → Text) wh
 
 pub attribute_is_owned : {Z : Type 0} (x : AttributeParts (CowStr Z) (CowSlice ℕ Z) (Structure (CowStr Z) (CowSlice ℕ Z))) → attribute_owned x ≡ owned_attribute (attribute_value x)
 attribute_is_owned x = attribute_changed text_of bytes_of owned x
+
+pub attributes_are_owned : {Z : Type 0} (xs : List (AttributeParts (CowStr Z) (CowSlice ℕ Z) (Structure (CowStr Z) (CowSlice ℕ Z)))) → map attribute_owned xs ≡ map owned_attribute (map attribute_value xs)
+attributes_are_owned [] = refl
+attributes_are_owned (x ∷ xs) = rw (attribute_is_owned x, attributes_are_owned xs) refl

@@ -20,9 +20,9 @@ ghost use Rattle.imap_body.specs.Attributes as rules;
 
 use crate::spanned::{SpannedAttribute, spanned_attribute};
 use crate::types::attributes::AttributeValue;
+use imap_bytes::at::Reached;
 use imap_bytes::at::tags::{blanks0, tag};
 use imap_bytes::maybe;
-use imap_envelopes::at::Reached;
 use imap_envelopes::{Keep, Named, Positions};
 use imap_items::{at, readers};
 use imap_shapes::made;

@@ -1,5 +1,5 @@
-//! Laws of the rules of this crate, of `imap_envelopes`, of `imap_structure` and of `imap_sections`, and of `==` of the shapes of
-//! `imap_shapes`, as contracts of functions that do nothing.
+//! Laws of the rules of this crate, of `imap_envelopes`, of `imap_structure` and of `imap_sections`, and of `==` of what they read
+//! and of the shapes of `imap_shapes`, as contracts of functions that do nothing.
 
 ghost use Rattle.imap_grammar.specs.Text.{Text, text_of, lent_text};
 ghost use Rattle.imap_grammar.specs.Equality.{Tells};

@@ -17,5 +17,6 @@ pub use imap_shapes::{
     ContentType, Envelope, PartsError, search, shapes, spans,
 };
 pub use imap_structure::{MAX_BODY_DEPTH, MAX_EXTENSION_DEPTH};
+pub use owned::owned_attributes;
 pub use readers::attributes::msg_att_body_section;
 pub use types::attributes::AttributeValue;

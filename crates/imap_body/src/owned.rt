@@ -1,6 +1,6 @@
-//! The same attribute with all texts owned.
+//! The same attributes with all texts owned.
 
-ghost use Rattle.std.specs.Prelude.{◌≡◌, IfOk};
+ghost use Rattle.std.specs.Prelude.{◌≡◌, IfOk, map};
 ghost use Rattle.imap_body.specs.AttributeValues.{attribute_value, attribute_owned};
 
 use crate::types::attributes::AttributeValue;
@@ -17,4 +17,19 @@ impl<'a> AttributeValue<'a> {
         drop(self); // By a call, as `imap_shapes` drops what it owns.
         owned
     }
+}
+
+/// The same attributes in their order, with all texts owned. It takes memory; `Err` where there is none.
+pub fn owned_attributes(
+    alloc: Global,
+    attributes: &[AttributeValue<'_>],
+) -> Result<Vec<AttributeValue<'static>>, AllocError>
+    ensures { IfOk result (λ v. map attribute_value v.items ≡ map attribute_owned attributes.now) }
+{
+    let owning = Owning::new(alloc);
+    let mut owned = Vec::with_capacity(alloc, attributes.len())?;
+    for attribute in attributes {
+        attribute.push_mapped(alloc, &owning, &owning, &owning, &mut owned)?;
+    }
+    Ok(owned)
 }

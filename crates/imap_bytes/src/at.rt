@@ -8,8 +8,8 @@ pub mod strings;
 pub mod texts;
 
 pub use imap_grammar::at::{
-    Span, lists, opt_opt, paren_delimited, parenthesized_list, parenthesized_nonempty_list, span,
-    tags,
+    Reached, Span, lists, opt_opt, paren_delimited, parenthesized_list,
+    parenthesized_nonempty_list, span, tags,
 };
 pub use numbers::{number, number_64};
 pub use sets::{sequence_range, sequence_set};

@@ -6,7 +6,7 @@ use Rattle.imap_grammar.specs.declared.lists.Separator.{Separator}
 use Rattle.imap_grammar.specs.declared.answer.Err.{Err as Fault}
 use Rattle.imap_grammar.specs.declared.answer.Err.TheVariants.{Incomplete, Error, Failure}
 use Rattle.imap_grammar.specs.Meaning.{Meaning, many_means}
-use Rattle.imap_grammar.specs.Rule.{Rule, meaning, many, some1, list0, list1, opt, ◌⨾◌}
+use Rattle.imap_grammar.specs.Rule.{Rule, meaning, many, list0, list1, opt, ◌⨾◌}
 use Rattle.imap_grammar.specs.Step.{Step, step}
 use Rattle.imap_grammar.specs.Answer.{Stops}
 use Rattle.imap_grammar.specs.Tags.{tag, sp, blanks0}

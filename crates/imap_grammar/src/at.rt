@@ -6,5 +6,9 @@ pub mod lists;
 pub mod span;
 pub mod tags;
 
+use crate::answer::Err;
 pub use lists::{opt_opt, paren_delimited, parenthesized_list, parenthesized_nonempty_list};
 pub use span::Span;
+
+/// The position behind what was read and its value, or why there is none.
+pub type Reached<T> = Result<(usize, T), Err>;

@@ -9,8 +9,8 @@ ghost use Rattle.imap_grammar.specs.PositionLists.{CalledAt};
 ghost use Rattle.imap_grammar.specs.Lists.{Shortens, Ends, Follows, or_memory, separator as separator_rule, list1_means, list0_means, list_means, nonempty_list_means, delimited_means, opt_opt_means, tried_of};
 
 use crate::answer::{Err, IResult};
-use crate::at;
 use crate::at::span::rest;
+use crate::at::{self, Reached};
 use std::alloc::Global;
 
 /// What stands between the elements of a list.
@@ -41,7 +41,7 @@ fn read_at<'a, O: Drop, F: Fn(&'a [u8]) -> IResult<&'a [u8], O>>(
     f: &F,
     m: &'a [u8],
     p: usize,
-) -> Result<(usize, O), Err>
+) -> Reached<O>
     requires start { p ≤ length m.now }
     requires may { F.IsAlwaysCallable f.now }
     requires ends { Ends (FnReturnsAt F.Fn f.now) }

@@ -57,7 +57,7 @@ fn line_end(i: &[u8]) -> IResult<&[u8], (&[u8], &[u8])>
 }
 
 // Where the reader answers, ends its line and answers the response that is made of what it found; goes on where it denies.
-macro_rules! line {
+macro_rules! whole_line {
     ($answer:expr, $found:ident => $response:expr) => {
         match $answer {
             Ok((rest, $found)) => match line_end(rest) {
@@ -80,7 +80,7 @@ pub(crate) fn status_line(alloc: Global, i: &[u8]) -> IResult<&[u8], Response<'_
     ensures memory { SucceedsFor TakesNone rule.status_line i.now result }
 {
     let (rest, status) = status(i)?;
-    line!(spaced_outcome(alloc, rest), outcome => Response::Data { status, outcome });
+    whole_line!(spaced_outcome(alloc, rest), outcome => Response::Data { status, outcome });
     Err(Err::Error)
 }
 
@@ -101,9 +101,9 @@ fn fetched(alloc: Global, i: &[u8]) -> IResult<&[u8], Vec<AttributeValue<'_>>>
 pub(crate) fn count_line<'a>(n: u32, i: &'a [u8]) -> IResult<&'a [u8], Response<'a>>
     ensures { Exactly response_value result (step (rule.count_line n) i.now) }
 {
-    line!(word(b" EXISTS", i), found => Response::MailboxData(MailboxDatum::Exists(n)));
-    line!(word(b" RECENT", i), found => Response::MailboxData(MailboxDatum::Recent(n)));
-    line!(word(b" EXPUNGE", i), found => Response::Expunge(n));
+    whole_line!(word(b" EXISTS", i), found => Response::MailboxData(MailboxDatum::Exists(n)));
+    whole_line!(word(b" RECENT", i), found => Response::MailboxData(MailboxDatum::Recent(n)));
+    whole_line!(word(b" EXPUNGE", i), found => Response::Expunge(n));
     Err(Err::Error)
 }
 
@@ -117,7 +117,7 @@ pub(crate) fn fetched_line<'a>(
 ) -> IResult<&'a [u8], Response<'a>>
     ensures { Gives response_value result (step (rule.fetched_line n) i.now) }
 {
-    line!(fetched(alloc, i), attributes => Response::Fetch(n, attributes));
+    whole_line!(fetched(alloc, i), attributes => Response::Fetch(n, attributes));
     Err(Err::Error)
 }
 
@@ -127,7 +127,7 @@ pub(crate) fn mailbox_line(alloc: Global, i: &[u8]) -> IResult<&[u8], Response<'
     ensures steps { Gives response_value result (step rule.mailbox_line i.now) }
     ensures memory { SucceedsFor TakesNone rule.mailbox_line i.now result }
 {
-    line!(mailbox_datum(alloc, i), found => Response::MailboxData(found));
+    whole_line!(mailbox_datum(alloc, i), found => Response::MailboxData(found));
     Err(Err::Error)
 }
 
@@ -137,8 +137,8 @@ pub(crate) fn list_line(alloc: Global, i: &[u8]) -> IResult<&[u8], Response<'_>>
     ensures steps { Gives response_value result (step rule.list_line i.now) }
     ensures memory { SucceedsFor TakesNone rule.list_line i.now result }
 {
-    line!(list_or_lsub(alloc, i), found => Response::MailboxData(found));
-    line!(list_rights(alloc, i), found => Response::ListRights(found));
+    whole_line!(list_or_lsub(alloc, i), found => Response::MailboxData(found));
+    whole_line!(list_rights(alloc, i), found => Response::ListRights(found));
     Err(Err::Error)
 }
 
@@ -147,7 +147,7 @@ pub(crate) fn list_line(alloc: Global, i: &[u8]) -> IResult<&[u8], Response<'_>>
 pub(crate) fn capability_line(alloc: Global, i: &[u8]) -> IResult<&[u8], Response<'_>>
     ensures { Gives response_value result (step rule.capability_line i.now) }
 {
-    line!(capability_data(alloc, i), found => Response::Capabilities(found));
+    whole_line!(capability_data(alloc, i), found => Response::Capabilities(found));
     Err(Err::Error)
 }
 
@@ -156,7 +156,7 @@ pub(crate) fn capability_line(alloc: Global, i: &[u8]) -> IResult<&[u8], Respons
 pub(crate) fn enabled_line(alloc: Global, i: &[u8]) -> IResult<&[u8], Response<'_>>
     ensures { Gives response_value result (step rule.enabled_line i.now) }
 {
-    line!(enabled_data(alloc, i), found => Response::Capabilities(found));
+    whole_line!(enabled_data(alloc, i), found => Response::Capabilities(found));
     Err(Err::Error)
 }
 
@@ -165,9 +165,9 @@ pub(crate) fn enabled_line(alloc: Global, i: &[u8]) -> IResult<&[u8], Response<'
 pub(crate) fn annotation_line(alloc: Global, i: &[u8]) -> IResult<&[u8], Response<'_>>
     ensures { Gives response_value result (step rule.annotation_line i.now) }
 {
-    line!(metadata_solicited(alloc, i), found => Response::MailboxData(found));
-    line!(metadata_unsolicited(alloc, i), found => Response::MailboxData(found));
-    line!(my_rights(alloc, i), found => Response::MyRights(found));
+    whole_line!(metadata_solicited(alloc, i), found => Response::MailboxData(found));
+    whole_line!(metadata_unsolicited(alloc, i), found => Response::MailboxData(found));
+    whole_line!(my_rights(alloc, i), found => Response::MyRights(found));
     Err(Err::Error)
 }
 
@@ -176,7 +176,7 @@ pub(crate) fn annotation_line(alloc: Global, i: &[u8]) -> IResult<&[u8], Respons
 pub(crate) fn vanished_line(alloc: Global, i: &[u8]) -> IResult<&[u8], Response<'_>>
     ensures { Gives response_value result (step rule.vanished_line i.now) }
 {
-    line!(vanished(alloc, i), found => Response::Vanished { earlier: found.0, uids: found.1 });
+    whole_line!(vanished(alloc, i), found => Response::Vanished { earlier: found.0, uids: found.1 });
     Err(Err::Error)
 }
 
@@ -185,8 +185,8 @@ pub(crate) fn vanished_line(alloc: Global, i: &[u8]) -> IResult<&[u8], Response<
 pub(crate) fn quota_line(alloc: Global, i: &[u8]) -> IResult<&[u8], Response<'_>>
     ensures { Gives response_value result (step rule.quota_line i.now) }
 {
-    line!(quota(alloc, i), found => Response::Quota(found));
-    line!(quota_root(alloc, i), found => Response::QuotaRoot(found));
+    whole_line!(quota(alloc, i), found => Response::Quota(found));
+    whole_line!(quota_root(alloc, i), found => Response::QuotaRoot(found));
     Err(Err::Error)
 }
 
@@ -196,7 +196,7 @@ pub(crate) fn id_line(alloc: Global, i: &[u8]) -> IResult<&[u8], Response<'_>>
     ensures steps { Gives response_value result (step rule.id_line i.now) }
     ensures memory { SucceedsFor TakesNone rule.id_line i.now result }
 {
-    line!(id(alloc, i), found => Response::Id(found));
+    whole_line!(id(alloc, i), found => Response::Id(found));
     Err(Err::Error)
 }
 
@@ -205,7 +205,7 @@ pub(crate) fn id_line(alloc: Global, i: &[u8]) -> IResult<&[u8], Response<'_>>
 pub(crate) fn acl_line(alloc: Global, i: &[u8]) -> IResult<&[u8], Response<'_>>
     ensures { Gives response_value result (step rule.acl_line i.now) }
 {
-    line!(acl(alloc, i), found => Response::Acl(found));
+    whole_line!(acl(alloc, i), found => Response::Acl(found));
     Err(Err::Error)
 }
 

@@ -13,6 +13,7 @@ use crate::data::spaces_end;
 use crate::response::Response;
 use imap_body::AttributeValue;
 use imap_body::spanned::{SpannedAttribute, attribute_list_at};
+use imap_bytes::at::Reached;
 use imap_bytes::at::numbers::number;
 use imap_bytes::at::span::Span;
 use imap_bytes::at::tags::{cut0, tag, word};
@@ -20,7 +21,7 @@ use imap_bytes::{Err, IResult};
 use std::alloc::{AllocError, Global};
 
 #[tactic(auto, unfolding(crate::specs::Lines::spaces))]
-fn spaces(m: &[u8], p: usize) -> Result<(usize, Span), Err>
+fn spaces(m: &[u8], p: usize) -> Reached<Span>
     requires { p ≤ length m.now }
     ensures steps { ExactlyAt (λ x. named_in m.now x) m.now result (step rule.spaces (drop p m.now)) }
     ensures inside { Inside m.now p result }
@@ -30,7 +31,7 @@ fn spaces(m: &[u8], p: usize) -> Result<(usize, Span), Err>
 }
 
 #[tactic(auto, unfolding(crate::specs::Lines::fetched))]
-fn fetched(alloc: Global, m: &[u8], p: usize) -> Result<(usize, Vec<SpannedAttribute>), Err>
+fn fetched(alloc: Global, m: &[u8], p: usize) -> Reached<Vec<SpannedAttribute>>
     requires { p ≤ length m.now }
     ensures steps { GivesAt (λ x. map (attribute_in m.now) x.items) m.now result (step rule.fetched (drop p m.now)) }
     ensures ahead { Ahead m.now p result }
@@ -42,7 +43,7 @@ fn fetched(alloc: Global, m: &[u8], p: usize) -> Result<(usize, Vec<SpannedAttri
 
 // A line that tells of a message: its number, and its attributes as positions in the line.
 #[tactic(auto, unfolding(crate::specs::Lines::fetch_line, crate::specs::Lines::fetch))]
-fn fetch_line(alloc: Global, m: &[u8]) -> Result<(usize, (u32, Vec<SpannedAttribute>)), Err>
+fn fetch_line(alloc: Global, m: &[u8]) -> Reached<(u32, Vec<SpannedAttribute>)>
     ensures steps { GivesAt (λ x. fetch_in m.now x) m.now result (step rule.fetch_line m.now) }
     ensures within { IfOk result (λ x. x.0 ≤ length m.now) }
     ensures rests { RestsOn fetch_in result }

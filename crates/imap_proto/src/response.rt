@@ -100,17 +100,16 @@ pub enum Response<'a> {
 /// What `Response::parse` answers.
 pub type ParseResult<'a> = IResult<&'a [u8], Response<'a>>;
 
+#[tactic(auto, using(imap_body::proofs::Changed::attributes_are_owned))]
 fn owned_attributes(
     alloc: Global,
     attributes: Vec<AttributeValue<'_>>,
 ) -> Result<Vec<AttributeValue<'static>>, AllocError>
     ensures { IfOk result (λ v. map attribute_value v.items ≡ map owned_attribute (map attribute_value attributes.entry.items)) }
 {
-    let mut owned = Vec::with_capacity(alloc, attributes.len())?;
-    for attribute in attributes {
-        owned.push(attribute.into_owned(alloc)?)?;
-    }
-    Ok(owned)
+    let owned = imap_body::owned_attributes(alloc, &attributes);
+    drop(attributes); // By a call, for the reason that `made!` gives.
+    owned
 }
 
 fn owned_id(alloc: Global, id: Option<IdMap<'_>>) -> Result<Option<IdMap<'static>>, AllocError>

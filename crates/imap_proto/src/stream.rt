@@ -8,6 +8,7 @@ ghost use Rattle.imap_proto.specs.Streams.{joined};
 ghost use Rattle.imap_proto.specs.Feeds.{Gave, IsOwnedFront, WaitsFor, RefusesAs, Takes, IsWhole};
 
 use crate::response::Response;
+use imap_bytes::at::Reached;
 use imap_bytes::{Err, Needed};
 use std::alloc::{AllocError, Global};
 use std::marker::Model;
@@ -83,7 +84,7 @@ fn compacted(bytes: &mut Vec<u8>, start: usize) -> usize
 }
 
 // The response at the front with all its texts owned, and how many bytes are behind it.
-fn owned_front(alloc: Global, held: &[u8]) -> Result<(usize, Response<'static>), Err>
+fn owned_front(alloc: Global, held: &[u8]) -> Reached<Response<'static>>
     ensures front { IsOwnedFront held.now result }
     ensures within { IfOk result (λ x. x.0 ≤ length held.now) }
 {

@@ -1,4 +1,4 @@
-//! One map a type over its texts: copies, owned values and what spans name are instances of it.
+//! One map a type over its texts: owned values and what spans name are instances of it.
 
 /// What a call made, or its error. What was made before it is dropped by a call each: where `?` drops large values in
 /// place, what is in them is proved there again, part by part, at each `?`. It also spares a large value the copy that `?` makes.

@@ -1,7 +1,7 @@
 //! What an answer says, as text.
 
 use crate::streams::may_be_cut;
-use imap_bytes::Err;
+use imap_bytes::at::Reached;
 use imap_bytes::texts::decode;
 use imap_proto::Response;
 use imap_proto::imap_core::IResult;
@@ -39,11 +39,7 @@ pub fn says<T: Debug + Drop>(alloc: Global, answer: IResult<&[u8], T>, want: &st
 }
 
 /// Whether a reader at a position reached this one, and told the value so.
-pub fn says_at<T: Debug + Drop>(
-    alloc: Global,
-    answer: Result<(usize, T), Err>,
-    want: &str,
-) -> bool {
+pub fn says_at<T: Debug + Drop>(alloc: Global, answer: Reached<T>, want: &str) -> bool {
     let text = match answer {
         Ok((reached, value)) => format!(in alloc; "{value:?} up to {reached}"),
         Err(error) => format!(in alloc; "{error:?}"),

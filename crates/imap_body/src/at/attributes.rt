@@ -11,13 +11,13 @@ ghost use Rattle.imap_body.specs.Attributes as rules;
 
 use crate::keeping::KeepAttribute;
 use crate::types::attributes::{AttributeKept, AttributeParts};
+use imap_bytes::at::Reached;
 use imap_bytes::at::numbers::{number, number_64};
 use imap_bytes::at::span::Span;
 use imap_bytes::at::strings::{astring_chars, atom, nil, nstring, string};
 use imap_bytes::at::tags::{cut0, cut1, maybe_space, tag, word};
 use imap_bytes::strings::as_utf8;
 use imap_bytes::{Err, Needed, first, maybe};
-use imap_envelopes::at::Reached;
 use imap_envelopes::at::envelopes::envelope;
 use imap_envelopes::at::texts::{byte_string, spaced_byte_string};
 use imap_envelopes::kept::kept_bytes;

@@ -10,6 +10,7 @@ ghost use Rattle.imap_grammar.specs.Classes as classes;
 ghost use Rattle.imap_bytes.specs.Numbers as numbers;
 ghost use Rattle.imap_bytes.specs.Numbers.{InFront};
 
+use imap_grammar::at::Reached;
 use imap_grammar::classes::is_digit;
 use imap_grammar::{Err, Needed};
 
@@ -105,7 +106,7 @@ fn digits_in_front_64(i: &[u8]) -> Option<(usize, Option<u64>)>
 /// It is judged behind the byte that ends its digits: a larger one is `Error`, digits up to the end of the message wait.
 #[tactic(auto, using(imap_grammar::proofs::Agreement::exact_answered_at))]
 #[inline(always)]
-pub fn number(m: &[u8], p: usize) -> Result<(usize, u32), Err>
+pub fn number(m: &[u8], p: usize) -> Reached<u32>
     requires { p ≤ length m.now }
     ensures steps { ExactlyAt (λ x. x) m.now result (step numbers.number (drop p m.now)) }
     ensures answer { AnswersAt numbers.number (λ x. x) m.now p result }
@@ -129,7 +130,7 @@ pub fn number(m: &[u8], p: usize) -> Result<(usize, u32), Err>
 
 /// A number below 2^64, leading zeros allowed (RFC 4551, section 4: mod-sequence-value). It is judged as `number` is.
 #[tactic(auto, using(imap_grammar::proofs::Agreement::exact_answered_at))]
-pub fn number_64(m: &[u8], p: usize) -> Result<(usize, u64), Err>
+pub fn number_64(m: &[u8], p: usize) -> Reached<u64>
     requires { p ≤ length m.now }
     ensures steps { ExactlyAt (λ x. x) m.now result (step numbers.number_64 (drop p m.now)) }
     ensures answer { AnswersAt numbers.number_64 (λ x. x) m.now p result }

@@ -11,7 +11,7 @@ ghost use Rattle.imap_bytes.specs.Numbers as numbers;
 ghost use Rattle.imap_bytes.specs.Sets as sets;
 
 use crate::at::numbers::number;
-use imap_grammar::Err;
+use imap_grammar::at::Reached;
 use imap_grammar::at::lists::separated;
 use imap_grammar::at::tags::tag;
 use imap_grammar::lists::{Separator, tried};
@@ -20,7 +20,7 @@ use std::ops::RangeInclusive;
 
 /// Two numbers with a colon between, their order kept. No memory (RFC 3501, section 9: seq-range).
 #[tactic(auto, using(imap_grammar::proofs::Agreement::exact_answered_at), unfolding(crate::specs::Sets::sequence_range))]
-pub fn sequence_range(m: &[u8], p: usize) -> Result<(usize, RangeInclusive<u32>), Err>
+pub fn sequence_range(m: &[u8], p: usize) -> Reached<RangeInclusive<u32>>
     requires { p ≤ length m.now }
     ensures steps { ExactlyAt (λ x. range_of x) m.now result (step sets.sequence_range (drop p m.now)) }
     ensures answer { AnswersAt sets.sequence_range (λ x. range_of x) m.now p result }
@@ -34,7 +34,7 @@ pub fn sequence_range(m: &[u8], p: usize) -> Result<(usize, RangeInclusive<u32>)
 }
 
 // A colon and the number behind it.
-fn range_end(m: &[u8], p: usize) -> Result<(usize, u32), Err>
+fn range_end(m: &[u8], p: usize) -> Reached<u32>
     requires { p ≤ length m.now }
     ensures steps { ExactlyAt (λ x. x) m.now result (step (tags.tag ":" ▹ numbers.number) (drop p m.now)) }
     ensures ahead { Ahead m.now p result }
@@ -44,7 +44,7 @@ fn range_end(m: &[u8], p: usize) -> Result<(usize, u32), Err>
 }
 
 /// A range, or a number as the range of it alone. No memory.
-pub fn sequence_item(m: &[u8], p: usize) -> Result<(usize, RangeInclusive<u32>), Err>
+pub fn sequence_item(m: &[u8], p: usize) -> Reached<RangeInclusive<u32>>
     requires { p ≤ length m.now }
     ensures steps { ExactlyAt (λ x. range_of x) m.now result (step sets.sequence_item (drop p m.now)) }
     ensures ahead { Ahead m.now p result }
@@ -58,11 +58,7 @@ pub fn sequence_item(m: &[u8], p: usize) -> Result<(usize, RangeInclusive<u32>),
 }
 
 /// Numbers and ranges, with commas between (RFC 3501, section 9: sequence-set, without `*`). It takes memory for the list.
-pub fn sequence_set(
-    alloc: Global,
-    m: &[u8],
-    p: usize,
-) -> Result<(usize, Vec<RangeInclusive<u32>>), Err>
+pub fn sequence_set(alloc: Global, m: &[u8], p: usize) -> Reached<Vec<RangeInclusive<u32>>>
     requires { p ≤ length m.now }
     ensures steps { GivesAt (λ x. map (λ r. range_of r) x.items) m.now result (step sets.sequence_set (drop p m.now)) }
     ensures answer { AnswersAt sets.sequence_set (λ x. map (λ r. range_of r) x.items) m.now p result }

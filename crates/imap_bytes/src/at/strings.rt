@@ -12,6 +12,7 @@ ghost use Rattle.imap_bytes.specs.Strings as strings;
 
 use crate::at::numbers::number;
 use crate::strings::as_utf8;
+use imap_grammar::at::Reached;
 use imap_grammar::at::span::Span;
 use imap_grammar::at::tags::{cut0, cut1, tag, word};
 use imap_grammar::lists::tried;
@@ -19,7 +20,7 @@ use imap_grammar::scanning::{AstringChar, AtomChar, QuotedChar, long_run_end, ru
 use imap_grammar::{Err, Needed, first};
 
 #[inline(always)]
-fn plain(m: &[u8], p: usize) -> Result<(usize, Span), Err>
+fn plain(m: &[u8], p: usize) -> Reached<Span>
     requires { p ≤ length m.now }
     ensures steps { ExactlyAt (λ x. named_in m.now x) m.now result (step (run1 classes.is_quoted_char) (drop p m.now)) }
     ensures inside { Inside m.now p result }
@@ -30,7 +31,7 @@ fn plain(m: &[u8], p: usize) -> Result<(usize, Span), Err>
 
 #[tactic(auto, unfolding(crate::specs::Strings::quoted_part))]
 #[inline(always)]
-fn quoted_part(m: &[u8], p: usize) -> Result<(usize, Span), Err>
+fn quoted_part(m: &[u8], p: usize) -> Reached<Span>
     requires { p ≤ length m.now }
     ensures steps { ExactlyAt (λ x. named_in m.now x) m.now result (step strings.quoted_part (drop p m.now)) }
     ensures inside { Inside m.now p result }
@@ -41,7 +42,7 @@ fn quoted_part(m: &[u8], p: usize) -> Result<(usize, Span), Err>
 }
 
 #[inline(always)]
-fn next_part(m: &[u8], p: usize) -> Result<(usize, Option<Span>), Err>
+fn next_part(m: &[u8], p: usize) -> Reached<Option<Span>>
     requires { p ≤ length m.now }
     ensures steps { ExactlyAt (λ x. maybe_in m.now x) m.now result (step (opt strings.quoted_part) (drop p m.now)) }
     ensures ahead { Ahead m.now p result }
@@ -54,7 +55,7 @@ fn next_part(m: &[u8], p: usize) -> Result<(usize, Option<Span>), Err>
 
 #[tactic(auto, unfolding(crate::specs::Strings::quoted_content))]
 #[inline(always)]
-fn quoted_content(m: &[u8], p: usize) -> Result<(usize, Span), Err>
+fn quoted_content(m: &[u8], p: usize) -> Reached<Span>
     requires { p ≤ length m.now }
     ensures steps { ExactlyAt (λ x. named_in m.now x) m.now result (step strings.quoted_content (drop p m.now)) }
     ensures inside { Inside m.now p result }
@@ -77,7 +78,7 @@ fn quoted_content(m: &[u8], p: usize) -> Result<(usize, Span), Err>
 /// A quoted string: its raw content, backslashes and all (RFC 3501, section 9: quoted).
 #[tactic(auto, using(imap_grammar::proofs::Agreement::exact_answered_at), unfolding(crate::specs::Strings::quoted))]
 #[inline(always)]
-pub fn quoted(m: &[u8], p: usize) -> Result<(usize, Span), Err>
+pub fn quoted(m: &[u8], p: usize) -> Reached<Span>
     requires { p ≤ length m.now }
     ensures steps { ExactlyAt (λ x. named_in m.now x) m.now result (step strings.quoted (drop p m.now)) }
     ensures answer { AnswersAt strings.quoted (λ x. named_in m.now x) m.now p result }
@@ -91,7 +92,7 @@ pub fn quoted(m: &[u8], p: usize) -> Result<(usize, Span), Err>
 }
 
 #[tactic(auto, unfolding(crate::specs::Strings::literal_header))]
-fn literal_header(m: &[u8], p: usize) -> Result<(usize, u32), Err>
+fn literal_header(m: &[u8], p: usize) -> Reached<u32>
     requires { p ≤ length m.now }
     ensures steps { ExactlyAt (λ x. x) m.now result (step strings.literal_header (drop p m.now)) }
     ensures ahead { Ahead m.now p result }
@@ -106,7 +107,7 @@ fn literal_header(m: &[u8], p: usize) -> Result<(usize, u32), Err>
 
 // So many bytes, of any value.
 #[tactic(auto, using(imap_grammar::proofs::Positions::stepped), unfolding(imap_grammar::specs::Step::take_step))]
-fn counted(count: usize, m: &[u8], p: usize) -> Result<(usize, Span), Err>
+fn counted(count: usize, m: &[u8], p: usize) -> Reached<Span>
     requires { p ≤ length m.now }
     ensures steps { ExactlyAt (λ x. named_in m.now x) m.now result (take_step count (drop p m.now)) }
     ensures inside { Inside m.now p result }
@@ -124,7 +125,7 @@ fn counted(count: usize, m: &[u8], p: usize) -> Result<(usize, Span), Err>
 ///
 /// Where fewer follow, `Needed::Size` is how many are missing.
 #[tactic(auto, using(imap_grammar::proofs::Agreement::exact_answered_at), unfolding(crate::specs::Strings::literal))]
-pub fn literal(m: &[u8], p: usize) -> Result<(usize, Span), Err>
+pub fn literal(m: &[u8], p: usize) -> Reached<Span>
     requires { p ≤ length m.now }
     ensures steps { ExactlyAt (λ x. named_in m.now x) m.now result (step strings.literal (drop p m.now)) }
     ensures answer { AnswersAt strings.literal (λ x. named_in m.now x) m.now p result }
@@ -151,7 +152,7 @@ fn quote_follows(m: &[u8], p: usize) -> bool
 /// A string: quoted, or a literal (RFC 3501, section 9: string).
 #[tactic(auto, using(imap_grammar::proofs::Agreement::exact_answered_at), unfolding(crate::specs::Strings::string))]
 #[inline(always)]
-pub fn string(m: &[u8], p: usize) -> Result<(usize, Span), Err>
+pub fn string(m: &[u8], p: usize) -> Reached<Span>
     requires { p ≤ length m.now }
     ensures steps { ExactlyAt (λ x. named_in m.now x) m.now result (step strings.string (drop p m.now)) }
     ensures answer { AnswersAt strings.string (λ x. named_in m.now x) m.now p result }
@@ -166,7 +167,7 @@ pub fn string(m: &[u8], p: usize) -> Result<(usize, Span), Err>
 }
 
 /// At least one astring-char.
-pub fn astring_chars(m: &[u8], p: usize) -> Result<(usize, Span), Err>
+pub fn astring_chars(m: &[u8], p: usize) -> Reached<Span>
     requires { p ≤ length m.now }
     ensures steps { ExactlyAt (λ x. named_in m.now x) m.now result (step (run1 classes.is_astring_char) (drop p m.now)) }
     ensures inside { Inside m.now p result }
@@ -178,7 +179,7 @@ pub fn astring_chars(m: &[u8], p: usize) -> Result<(usize, Span), Err>
 
 /// Bare astring-chars, or a string (RFC 3501, section 9: astring).
 #[tactic(auto, using(imap_grammar::proofs::Agreement::exact_answered_at), unfolding(crate::specs::Strings::astring))]
-pub fn astring(m: &[u8], p: usize) -> Result<(usize, Span), Err>
+pub fn astring(m: &[u8], p: usize) -> Reached<Span>
     requires { p ≤ length m.now }
     ensures steps { ExactlyAt (λ x. named_in m.now x) m.now result (step strings.astring (drop p m.now)) }
     ensures answer { AnswersAt strings.astring (λ x. named_in m.now x) m.now p result }
@@ -191,7 +192,7 @@ pub fn astring(m: &[u8], p: usize) -> Result<(usize, Span), Err>
 
 /// `NIL` in any case: the three bytes, whatever follows them (RFC 3501, section 9: nil).
 #[tactic(auto, using(imap_grammar::proofs::Agreement::exact_answered_at), unfolding(crate::specs::Strings::nil))]
-pub fn nil(m: &[u8], p: usize) -> Result<(usize, Span), Err>
+pub fn nil(m: &[u8], p: usize) -> Reached<Span>
     requires { p ≤ length m.now }
     ensures steps { ExactlyAt (λ x. named_in m.now x) m.now result (step strings.nil (drop p m.now)) }
     ensures answer { AnswersAt strings.nil (λ x. named_in m.now x) m.now p result }
@@ -215,7 +216,7 @@ fn opens_string(m: &[u8], p: usize) -> bool
 
 /// `NIL`, or a string (RFC 3501, section 9: nstring).
 #[tactic(auto, using(imap_grammar::proofs::Agreement::exact_answered_at), unfolding(crate::specs::Strings::nstring))]
-pub fn nstring(m: &[u8], p: usize) -> Result<(usize, Option<Span>), Err>
+pub fn nstring(m: &[u8], p: usize) -> Reached<Option<Span>>
     requires { p ≤ length m.now }
     ensures steps { ExactlyAt (λ x. maybe_in m.now x) m.now result (step strings.nstring (drop p m.now)) }
     ensures answer { AnswersAt strings.nstring (λ x. maybe_in m.now x) m.now p result }
@@ -233,7 +234,7 @@ pub fn nstring(m: &[u8], p: usize) -> Result<(usize, Option<Span>), Err>
 }
 
 /// Atom-chars, maybe none.
-pub fn atom_chars0(m: &[u8], p: usize) -> Result<(usize, Span), Err>
+pub fn atom_chars0(m: &[u8], p: usize) -> Reached<Span>
     requires { p ≤ length m.now }
     ensures steps { ExactlyAt (λ x. named_in m.now x) m.now result (step (run0 classes.is_atom_char) (drop p m.now)) }
     ensures inside { Inside m.now p result }
@@ -244,7 +245,7 @@ pub fn atom_chars0(m: &[u8], p: usize) -> Result<(usize, Span), Err>
 }
 
 /// At least one atom-char.
-pub fn atom_chars(m: &[u8], p: usize) -> Result<(usize, Span), Err>
+pub fn atom_chars(m: &[u8], p: usize) -> Reached<Span>
     requires { p ≤ length m.now }
     ensures steps { ExactlyAt (λ x. named_in m.now x) m.now result (step (run1 classes.is_atom_char) (drop p m.now)) }
     ensures inside { Inside m.now p result }
@@ -256,7 +257,7 @@ pub fn atom_chars(m: &[u8], p: usize) -> Result<(usize, Span), Err>
 
 // An atom, as its span and as its text.
 #[tactic(auto, using(imap_grammar::proofs::Positions::kept_self), unfolding(crate::specs::Strings::atom))]
-pub(crate) fn atom_text(m: &[u8], p: usize) -> Result<(usize, (Span, &str)), Err>
+pub(crate) fn atom_text(m: &[u8], p: usize) -> Reached<(Span, &str)>
     requires { p ≤ length m.now }
     ensures span { ExactlyAt (λ x. named_in m.now x.0) m.now result (step strings.atom (drop p m.now)) }
     ensures text { ExactlyAt (λ x. x.1.now) m.now result (step strings.atom (drop p m.now)) }
@@ -272,7 +273,7 @@ pub(crate) fn atom_text(m: &[u8], p: usize) -> Result<(usize, (Span, &str)), Err
 
 /// An atom; bytes that are no UTF-8 are `Error` (RFC 3501, section 9: atom).
 #[tactic(auto, using(imap_grammar::proofs::Agreement::exact_answered_at))]
-pub fn atom(m: &[u8], p: usize) -> Result<(usize, Span), Err>
+pub fn atom(m: &[u8], p: usize) -> Reached<Span>
     requires { p ≤ length m.now }
     ensures steps { ExactlyAt (λ x. named_in m.now x) m.now result (step strings.atom (drop p m.now)) }
     ensures answer { AnswersAt strings.atom (λ x. named_in m.now x) m.now p result }

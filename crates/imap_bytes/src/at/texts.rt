@@ -9,13 +9,13 @@ ghost use Rattle.imap_grammar.specs.Text.{decoded};
 ghost use Rattle.imap_grammar.specs.Classes as classes;
 ghost use Rattle.imap_bytes.specs.Texts as texts;
 
-use imap_grammar::Err;
+use imap_grammar::at::Reached;
 use imap_grammar::at::span::Span;
 use imap_grammar::at::tags::cut0;
 use imap_grammar::scanning::{TextChar, long_run_end};
 
 /// Text-chars, maybe none.
-pub fn text_chars(m: &[u8], p: usize) -> Result<(usize, Span), Err>
+pub fn text_chars(m: &[u8], p: usize) -> Reached<Span>
     requires { p ≤ length m.now }
     ensures steps { ExactlyAt (λ x. named_in m.now x) m.now result (step (run0 classes.is_text_char) (drop p m.now)) }
     ensures inside { Inside m.now p result }
@@ -27,7 +27,7 @@ pub fn text_chars(m: &[u8], p: usize) -> Result<(usize, Span), Err>
 
 /// Text-chars up to the first other byte, maybe none, as the span of the text (RFC 3501, section 9: text).
 #[tactic(auto, using(imap_grammar::proofs::Agreement::exact_answered_at), unfolding(crate::specs::Texts::text))]
-pub fn text(m: &[u8], p: usize) -> Result<(usize, Span), Err>
+pub fn text(m: &[u8], p: usize) -> Reached<Span>
     requires { p ≤ length m.now }
     ensures steps { ExactlyAt (λ x. decoded (named_in m.now x)) m.now result (step texts.text (drop p m.now)) }
     ensures answer { AnswersAt texts.text (λ x. decoded (named_in m.now x)) m.now p result }

@@ -12,9 +12,9 @@ ghost use Rattle.imap_envelopes.specs.Spanned.{address_in};
 ghost use Rattle.imap_shapes.specs.EnvelopeValues.{address_seen, addresses_seen, envelope_seen};
 
 use crate::Keep;
-use crate::at::Reached;
 use crate::at::texts::{byte_string, spaced_byte_string};
 use crate::kept::{kept_address, kept_bytes};
+use imap_bytes::at::Reached;
 use imap_bytes::at::strings::nil;
 use imap_bytes::at::tags::tag;
 use imap_bytes::{Err, first, maybe};

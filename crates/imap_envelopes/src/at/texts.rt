@@ -11,7 +11,7 @@ ghost use Rattle.imap_envelopes.specs.Envelopes.{spaced};
 ghost use Rattle.imap_shapes.specs.Spans.{text_in};
 ghost use Rattle.imap_envelopes.specs.Spanned.{maybe_bytes_in, maybe_text_in};
 
-use crate::at::Reached;
+use imap_bytes::at::Reached;
 use imap_bytes::at::numbers::number;
 use imap_bytes::at::strings::{nil, nstring, string};
 use imap_bytes::at::tags::tag;

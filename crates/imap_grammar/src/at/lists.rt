@@ -8,7 +8,7 @@ ghost use Rattle.imap_grammar.specs.Rule.{meaning};
 ghost use Rattle.imap_grammar.specs.Meaning.{many_means};
 ghost use Rattle.imap_grammar.specs.Lists.{or_memory, separator as separator_rule, behind_means, list1_means, list0_means, list_means, nonempty_list_means, delimited_means, opt_opt_means};
 
-use crate::answer::Err;
+use crate::at::Reached;
 use crate::at::span::Span;
 use crate::at::tags::{blanks0, blanks1, maybe_space, tag};
 use crate::lists::{Separator, tried};
@@ -17,7 +17,7 @@ use std::alloc::Global;
 // How many elements a list that has one gets room for: as many as most lists of a response have, so that it seldom grows.
 const ROOM: usize = 8;
 
-fn read_separator(between: Separator, m: &[u8], p: usize) -> Result<(usize, Span), Err>
+fn read_separator(between: Separator, m: &[u8], p: usize) -> Reached<Span>
     requires { p ≤ length m.now }
     ensures steps { ExactlyAt (λ x. named_in m.now x) m.now result (step (separator_rule between) (drop p m.now)) }
     ensures ahead { Ahead m.now p result }
@@ -30,12 +30,12 @@ fn read_separator(between: Separator, m: &[u8], p: usize) -> Result<(usize, Span
 }
 
 // What f reads behind a separator.
-fn next_item<O: Drop, F: Fn(usize) -> Result<(usize, O), Err>>(
+fn next_item<O: Drop, F: Fn(usize) -> Reached<O>>(
     between: Separator,
     f: &F,
     m: &[u8],
     p: usize,
-) -> Result<(usize, O), Err>
+) -> Reached<O>
     requires start { p ≤ length m.now }
     requires may { (k : ℕ) → k ≤ length m.now → F.pre f.now k }
     requires advances { Advances m.now (F.post f.now) }
@@ -47,11 +47,7 @@ fn next_item<O: Drop, F: Fn(usize) -> Result<(usize, O), Err>>(
 }
 
 // What f reads: by the contract of this call the loop knows what f answered, and that it went on.
-fn one_item<O: Drop, F: Fn(usize) -> Result<(usize, O), Err>>(
-    f: &F,
-    m: &[u8],
-    p: usize,
-) -> Result<(usize, O), Err>
+fn one_item<O: Drop, F: Fn(usize) -> Reached<O>>(f: &F, m: &[u8], p: usize) -> Reached<O>
     requires start { p ≤ length m.now }
     requires may { (k : ℕ) → k ≤ length m.now → F.pre f.now k }
     requires advances { Advances m.now (F.post f.now) }
@@ -64,12 +60,12 @@ fn one_item<O: Drop, F: Fn(usize) -> Result<(usize, O), Err>>(
 /// What f reads, as often as it does, with nothing between.
 ///
 /// f has to consume at least a byte. Its `Incomplete` and `Failure` go through. It takes memory for the list.
-pub fn repeated<O: Drop, F: Fn(usize) -> Result<(usize, O), Err>>(
+pub fn repeated<O: Drop, F: Fn(usize) -> Reached<O>>(
     alloc: Global,
     f: F,
     m: &[u8],
     p: usize,
-) -> Result<(usize, Vec<O>), Err>
+) -> Reached<Vec<O>>
     requires start { p ≤ length m.now }
     requires may { (k : ℕ) → k ≤ length m.now → F.pre f k }
     requires advances { Advances m.now (F.post f) }
@@ -89,13 +85,13 @@ pub fn repeated<O: Drop, F: Fn(usize) -> Result<(usize, O), Err>>(
 ///
 /// It ends before a separator behind which f denies. f's other faults go through. f has to consume at least a byte.
 /// It takes memory for the list.
-pub fn separated<O: Drop, F: Fn(usize) -> Result<(usize, O), Err>>(
+pub fn separated<O: Drop, F: Fn(usize) -> Reached<O>>(
     alloc: Global,
     between: Separator,
     f: F,
     m: &[u8],
     p: usize,
-) -> Result<(usize, Vec<O>), Err>
+) -> Reached<Vec<O>>
     requires start { p ≤ length m.now }
     requires may { (k : ℕ) → k ≤ length m.now → F.pre f k }
     requires advances { Advances m.now (F.post f) }
@@ -116,13 +112,13 @@ pub fn separated<O: Drop, F: Fn(usize) -> Result<(usize, O), Err>>(
 ///
 /// It ends as `separated` does. f has to consume at least a byte. Its `Incomplete` and `Failure` go through.
 /// It takes memory for the list.
-pub fn maybe_separated<O: Drop, F: Fn(usize) -> Result<(usize, O), Err>>(
+pub fn maybe_separated<O: Drop, F: Fn(usize) -> Reached<O>>(
     alloc: Global,
     between: Separator,
     f: F,
     m: &[u8],
     p: usize,
-) -> Result<(usize, Vec<O>), Err>
+) -> Reached<Vec<O>>
     requires start { p ≤ length m.now }
     requires may { (k : ℕ) → k ≤ length m.now → F.pre f k }
     requires advances { Advances m.now (F.post f) }
@@ -138,12 +134,12 @@ pub fn maybe_separated<O: Drop, F: Fn(usize) -> Result<(usize, O), Err>>(
 /// A list in parentheses: what f reads, with one space between, maybe none, and maybe a space before the `)`.
 ///
 /// f has to consume at least a byte. Its `Incomplete` and `Failure` go through. It takes memory for the list.
-pub fn parenthesized_list<O: Drop, F: Fn(usize) -> Result<(usize, O), Err>>(
+pub fn parenthesized_list<O: Drop, F: Fn(usize) -> Reached<O>>(
     alloc: Global,
     f: F,
     m: &[u8],
     p: usize,
-) -> Result<(usize, Vec<O>), Err>
+) -> Reached<Vec<O>>
     requires start { p ≤ length m.now }
     requires may { (k : ℕ) → k ≤ length m.now → F.pre f k }
     requires advances { Advances m.now (F.post f) }
@@ -158,12 +154,12 @@ pub fn parenthesized_list<O: Drop, F: Fn(usize) -> Result<(usize, O), Err>>(
 }
 
 /// The same of at least one element, with spaces and tabs before the `)`. It takes memory for the list.
-pub fn parenthesized_nonempty_list<O: Drop, F: Fn(usize) -> Result<(usize, O), Err>>(
+pub fn parenthesized_nonempty_list<O: Drop, F: Fn(usize) -> Reached<O>>(
     alloc: Global,
     f: F,
     m: &[u8],
     p: usize,
-) -> Result<(usize, Vec<O>), Err>
+) -> Reached<Vec<O>>
     requires start { p ≤ length m.now }
     requires may { (k : ℕ) → k ≤ length m.now → F.pre f k }
     requires advances { Advances m.now (F.post f) }
@@ -178,11 +174,7 @@ pub fn parenthesized_nonempty_list<O: Drop, F: Fn(usize) -> Result<(usize, O), E
 }
 
 /// What f reads, in parentheses. It takes no memory of its own; f's `Incomplete` and `Failure` go through.
-pub fn paren_delimited<O: Drop, F: Fn(usize) -> Result<(usize, O), Err>>(
-    f: F,
-    m: &[u8],
-    p: usize,
-) -> Result<(usize, O), Err>
+pub fn paren_delimited<O: Drop, F: Fn(usize) -> Reached<O>>(f: F, m: &[u8], p: usize) -> Reached<O>
     requires start { p ≤ length m.now }
     requires may { (k : ℕ) → k ≤ length m.now → F.pre f k }
     requires keeps { KeepsAhead m.now (F.post f) }
@@ -196,11 +188,11 @@ pub fn paren_delimited<O: Drop, F: Fn(usize) -> Result<(usize, O), Err>>(
 }
 
 /// What f reads, and `None` at this place where it denies. It takes no memory of its own; f's `Incomplete` and `Failure` go through.
-pub fn opt_opt<O: Drop, F: Fn(usize) -> Result<(usize, Option<O>), Err>>(
+pub fn opt_opt<O: Drop, F: Fn(usize) -> Reached<Option<O>>>(
     f: F,
     m: &[u8],
     p: usize,
-) -> Result<(usize, Option<O>), Err>
+) -> Reached<Option<O>>
     requires start { p ≤ length m.now }
     requires may { (k : ℕ) → k ≤ length m.now → F.pre f k }
     requires keeps { KeepsAhead m.now (F.post f) }

@@ -7,7 +7,8 @@ ghost use Rattle.imap_grammar.specs.Step.{Step};
 ghost use Rattle.imap_grammar.specs.Positions.{named_in, Inside, ExactlyAt};
 ghost use Rattle.imap_grammar.specs.Text.{text_of, decoded};
 
-use crate::answer::{Err, IResult};
+use crate::answer::IResult;
+use crate::at::Reached;
 use crate::text::decode;
 use std::alloc::{AllocError, Global};
 use std::borrow::CowStr;
@@ -68,7 +69,7 @@ pub fn rest(m: &[u8], p: usize) -> &[u8]
 }
 
 /// What was reached from the start of m, as slices of it.
-pub fn sliced(m: &[u8], reached: Result<(usize, Span), Err>) -> IResult<&[u8], &[u8]>
+pub fn sliced(m: &[u8], reached: Reached<Span>) -> IResult<&[u8], &[u8]>
     requires { Inside m.now 0 reached }
     ensures steps { (s : Step (List ℕ)) → ExactlyAt (λ x. named_in m.now x) m.now reached s → Exactly (λ x. x.now) result s }
     ensures no_failure { NeverFails reached → NeverFails result }

@@ -13,6 +13,7 @@ ghost use Rattle.imap_grammar.specs.Tags as tags;
 ghost use Rattle.imap_grammar.specs.Tags.{same_letter};
 
 use crate::answer::{Err, Needed};
+use crate::at::Reached;
 use crate::at::span::Span;
 use crate::classes::is_blank;
 use crate::maybe;
@@ -40,7 +41,7 @@ fn agrees_in_any_case(word: &[u8], i: &[u8]) -> bool
 /// Exactly these bytes.
 #[tactic(auto, using(crate::proofs::Positions::stepped, crate::proofs::Positions::zip_cut), unfolding(crate::specs::Step::tag_step))]
 #[inline(always)]
-pub fn tag(text: &[u8], m: &[u8], p: usize) -> Result<(usize, Span), Err>
+pub fn tag(text: &[u8], m: &[u8], p: usize) -> Reached<Span>
     requires { p ≤ length m.now }
     ensures steps { ExactlyAt (λ x. named_in m.now x) m.now result (step (tag_by ◌==◌ text.now) (drop p m.now)) }
     ensures inside { Inside m.now p result }
@@ -63,7 +64,7 @@ pub fn tag(text: &[u8], m: &[u8], p: usize) -> Result<(usize, Span), Err>
 
 /// These bytes, ASCII letters in either case.
 #[tactic(auto, using(crate::proofs::Positions::stepped, crate::proofs::Positions::zip_cut), unfolding(crate::specs::Step::tag_step))]
-pub fn word(text: &[u8], m: &[u8], p: usize) -> Result<(usize, Span), Err>
+pub fn word(text: &[u8], m: &[u8], p: usize) -> Reached<Span>
     requires { p ≤ length m.now }
     ensures steps { ExactlyAt (λ x. named_in m.now x) m.now result (step (tag_by same_letter text.now) (drop p m.now)) }
     ensures inside { Inside m.now p result }
@@ -85,7 +86,7 @@ pub fn word(text: &[u8], m: &[u8], p: usize) -> Result<(usize, Span), Err>
 }
 
 /// A space, or nothing.
-pub fn maybe_space(m: &[u8], p: usize) -> Result<(usize, Option<Span>), Err>
+pub fn maybe_space(m: &[u8], p: usize) -> Reached<Option<Span>>
     requires { p ≤ length m.now }
     ensures steps { ExactlyAt (λ x. maybe_in m.now x) m.now result (step tags.maybe_space (drop p m.now)) }
     ensures ahead { Ahead m.now p result }
@@ -98,7 +99,7 @@ pub fn maybe_space(m: &[u8], p: usize) -> Result<(usize, Option<Span>), Err>
 /// The bytes before the first that is outside a class, where that one stands `end` behind p. `None` is `Incomplete`: it isn't
 /// there yet.
 #[tactic(auto, using(crate::proofs::Positions::stepped), unfolding(crate::specs::Step::run0_step))]
-pub fn cut0(end: Option<usize>, m: &[u8], p: usize) -> Result<(usize, Span), Err>
+pub fn cut0(end: Option<usize>, m: &[u8], p: usize) -> Reached<Span>
     requires { ForSome end (λ n. p + n < length m.now) }
     ensures steps { (class : ℕ → Bool) → end ≡ position (outside class) (drop p m.now) → ExactlyAt (λ x. named_in m.now x) m.now result (step (run0 class) (drop p m.now)) }
     ensures inside { Inside m.now p result }
@@ -114,7 +115,7 @@ pub fn cut0(end: Option<usize>, m: &[u8], p: usize) -> Result<(usize, Span), Err
 }
 
 /// The same, of at least one byte: an `end` of 0 is `Error`, and `None` is `Incomplete`.
-pub fn cut1(end: Option<usize>, m: &[u8], p: usize) -> Result<(usize, Span), Err>
+pub fn cut1(end: Option<usize>, m: &[u8], p: usize) -> Reached<Span>
     requires { ForSome end (λ n. p + n < length m.now) }
     ensures steps { (class : ℕ → Bool) → end ≡ position (outside class) (drop p m.now) → ExactlyAt (λ x. named_in m.now x) m.now result (step (run1 class) (drop p m.now)) }
     ensures inside { Inside m.now p result }
@@ -140,7 +141,7 @@ fn blanks_end(i: &[u8]) -> Option<usize>
 }
 
 /// Spaces and tabs, maybe none.
-pub fn blanks0(m: &[u8], p: usize) -> Result<(usize, Span), Err>
+pub fn blanks0(m: &[u8], p: usize) -> Reached<Span>
     requires { p ≤ length m.now }
     ensures steps { ExactlyAt (λ x. named_in m.now x) m.now result (step tags.blanks0 (drop p m.now)) }
     ensures inside { Inside m.now p result }
@@ -151,7 +152,7 @@ pub fn blanks0(m: &[u8], p: usize) -> Result<(usize, Span), Err>
 }
 
 /// Spaces and tabs, at least one.
-pub fn blanks1(m: &[u8], p: usize) -> Result<(usize, Span), Err>
+pub fn blanks1(m: &[u8], p: usize) -> Reached<Span>
     requires { p ≤ length m.now }
     ensures steps { ExactlyAt (λ x. named_in m.now x) m.now result (step tags.blanks1 (drop p m.now)) }
     ensures inside { Inside m.now p result }

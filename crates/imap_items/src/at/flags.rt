@@ -8,17 +8,17 @@ ghost use Rattle.imap_grammar.specs.Tags.{exactly_names};
 ghost use Rattle.imap_items.specs.Flags as flags;
 ghost use Rattle.imap_items.specs.Spanned.{text_in};
 
-use imap_bytes::at::parenthesized_list;
 use imap_bytes::at::span::Span;
 use imap_bytes::at::strings::{astring_chars, atom_chars0};
 use imap_bytes::at::tags::tag;
+use imap_bytes::at::{Reached, parenthesized_list};
 use imap_bytes::strings::as_utf8;
 use imap_bytes::{Err, first};
 use std::alloc::Global;
 
 #[tactic(auto, unfolding(crate::specs::Flags::backslashed))]
 #[inline(always)]
-fn backslashed(m: &[u8], p: usize) -> Result<(usize, Span), Err>
+fn backslashed(m: &[u8], p: usize) -> Reached<Span>
     requires { p ≤ length m.now }
     ensures steps { ExactlyAt (λ x. named_in m.now x) m.now result (step flags.backslashed (drop p m.now)) }
     ensures inside { Inside m.now p result }
@@ -31,7 +31,7 @@ fn backslashed(m: &[u8], p: usize) -> Result<(usize, Span), Err>
 
 #[tactic(auto, unfolding(crate::specs::Flags::backslashed_text))]
 #[inline(always)]
-pub(crate) fn backslashed_text(m: &[u8], p: usize) -> Result<(usize, &str), Err>
+pub(crate) fn backslashed_text(m: &[u8], p: usize) -> Reached<&str>
     requires { p ≤ length m.now }
     ensures steps { ExactlyAt (λ x. x.now) m.now result (step flags.backslashed_text (drop p m.now)) }
     ensures ahead { Ahead m.now p result }
@@ -46,7 +46,7 @@ pub(crate) fn backslashed_text(m: &[u8], p: usize) -> Result<(usize, &str), Err>
 
 #[tactic(auto, unfolding(crate::specs::Flags::keyword))]
 #[inline(always)]
-fn keyword(m: &[u8], p: usize) -> Result<(usize, &str), Err>
+fn keyword(m: &[u8], p: usize) -> Reached<&str>
     requires { p ≤ length m.now }
     ensures steps { ExactlyAt (λ x. x.now) m.now result (step flags.keyword (drop p m.now)) }
     ensures ahead { Ahead m.now p result }
@@ -61,7 +61,7 @@ fn keyword(m: &[u8], p: usize) -> Result<(usize, &str), Err>
 
 #[tactic(auto, unfolding(crate::specs::Flags::flag))]
 #[inline(always)]
-pub(crate) fn flag(m: &[u8], p: usize) -> Result<(usize, &str), Err>
+pub(crate) fn flag(m: &[u8], p: usize) -> Reached<&str>
     requires { p ≤ length m.now }
     ensures steps { ExactlyAt (λ x. x.now) m.now result (step flags.flag (drop p m.now)) }
     ensures ahead { Ahead m.now p result }
@@ -72,7 +72,7 @@ pub(crate) fn flag(m: &[u8], p: usize) -> Result<(usize, &str), Err>
 }
 
 #[inline(always)]
-fn star(m: &[u8], p: usize) -> Result<(usize, &str), Err>
+fn star(m: &[u8], p: usize) -> Reached<&str>
     requires { p ≤ length m.now }
     ensures steps { ExactlyAt (λ x. x.now) m.now result (step (exactly_names "\\*" (codes "\\*")) (drop p m.now)) }
     ensures ahead { Ahead m.now p result }
@@ -84,7 +84,7 @@ fn star(m: &[u8], p: usize) -> Result<(usize, &str), Err>
 
 #[tactic(auto, unfolding(crate::specs::Flags::flag_perm))]
 #[inline(always)]
-pub(crate) fn flag_perm(m: &[u8], p: usize) -> Result<(usize, &str), Err>
+pub(crate) fn flag_perm(m: &[u8], p: usize) -> Reached<&str>
     requires { p ≤ length m.now }
     ensures steps { ExactlyAt (λ x. x.now) m.now result (step flags.flag_perm (drop p m.now)) }
     ensures ahead { Ahead m.now p result }
@@ -96,7 +96,7 @@ pub(crate) fn flag_perm(m: &[u8], p: usize) -> Result<(usize, &str), Err>
 
 // The text of a flag lies from p up to the position behind it.
 #[tactic(auto, using(crate::proofs::Spanned::flag_perm_there, crate::proofs::Spanned::text_rests), unfolding(crate::specs::Flags::flag_text))]
-fn flag_text(m: &[u8], p: usize) -> Result<(usize, Span), Err>
+fn flag_text(m: &[u8], p: usize) -> Reached<Span>
     requires { p ≤ length m.now }
     ensures steps { ExactlyAt (λ x. text_in m.now x) m.now result (step flags.flag_text (drop p m.now)) }
     ensures inside { Inside m.now p result }
@@ -109,7 +109,7 @@ fn flag_text(m: &[u8], p: usize) -> Result<(usize, Span), Err>
 /// Flags in parentheses, maybe none, each as the span of its text, which is UTF-8 (RFC 3501, section 9: flag-list).
 ///
 /// It takes memory for the list, and for no text. Bytes that are no UTF-8 are `Error`.
-pub fn flag_list(alloc: Global, m: &[u8], p: usize) -> Result<(usize, Vec<Span>), Err>
+pub fn flag_list(alloc: Global, m: &[u8], p: usize) -> Reached<Vec<Span>>
     requires { p ≤ length m.now }
     ensures steps { GivesAt (λ x. map (text_in m.now) x.items) m.now result (step flags.flag_list (drop p m.now)) }
     ensures answer { AnswersAt flags.flag_list (λ x. map (text_in m.now) x.items) m.now p result }

@@ -10,12 +10,12 @@ ghost use Rattle.imap_items.specs.Spanned.{text_in};
 use super::flags::flag;
 use imap_bytes::at::span::Span;
 use imap_bytes::at::tags::word;
-use imap_bytes::at::{parenthesized_list, quoted};
-use imap_bytes::{Err, first};
+use imap_bytes::at::{Reached, parenthesized_list, quoted};
+use imap_bytes::first;
 use std::alloc::Global;
 
 #[tactic(auto, using(crate::proofs::Spanned::flag_there))]
-fn flag_label(m: &[u8], p: usize) -> Result<(usize, Span), Err>
+fn flag_label(m: &[u8], p: usize) -> Reached<Span>
     requires { p ≤ length m.now }
     ensures steps { ExactlyAt (λ x. text_in m.now x) m.now result (step rules.flag_label (drop p m.now)) }
     ensures inside { Inside m.now p result }
@@ -25,7 +25,7 @@ fn flag_label(m: &[u8], p: usize) -> Result<(usize, Span), Err>
 }
 
 #[tactic(auto, unfolding(imap_bytes::specs::Texts::quoted_utf8))]
-fn quoted_label(m: &[u8], p: usize) -> Result<(usize, Span), Err>
+fn quoted_label(m: &[u8], p: usize) -> Reached<Span>
     requires { p ≤ length m.now }
     ensures steps { ExactlyAt (λ x. text_in m.now x) m.now result (step texts.quoted_utf8 (drop p m.now)) }
     ensures inside { Inside m.now p result }
@@ -36,7 +36,7 @@ fn quoted_label(m: &[u8], p: usize) -> Result<(usize, Span), Err>
 
 // A label: a flag, or a quoted string.
 #[tactic(auto, using(crate::proofs::Spanned::text_rests), unfolding(crate::specs::Gmail::gmail_label))]
-pub(crate) fn gmail_label(m: &[u8], p: usize) -> Result<(usize, Span), Err>
+pub(crate) fn gmail_label(m: &[u8], p: usize) -> Reached<Span>
     requires { p ≤ length m.now }
     ensures steps { ExactlyAt (λ x. text_in m.now x) m.now result (step rules.gmail_label (drop p m.now)) }
     ensures inside { Inside m.now p result }
@@ -47,7 +47,7 @@ pub(crate) fn gmail_label(m: &[u8], p: usize) -> Result<(usize, Span), Err>
     Ok((q, label))
 }
 
-fn gmail_labels(alloc: Global, m: &[u8], p: usize) -> Result<(usize, Vec<Span>), Err>
+fn gmail_labels(alloc: Global, m: &[u8], p: usize) -> Reached<Vec<Span>>
     requires { p ≤ length m.now }
     ensures steps { GivesAt (λ x. map (text_in m.now) x.items) m.now result (step rules.gmail_labels (drop p m.now)) }
     ensures ahead { Ahead m.now p result }
@@ -64,7 +64,7 @@ fn gmail_labels(alloc: Global, m: &[u8], p: usize) -> Result<(usize, Vec<Span>),
 }
 
 #[tactic(auto, unfolding(crate::specs::Gmail::gmail_label_list))]
-fn labels(alloc: Global, m: &[u8], p: usize) -> Result<(usize, Vec<Span>), Err>
+fn labels(alloc: Global, m: &[u8], p: usize) -> Reached<Vec<Span>>
     requires { p ≤ length m.now }
     ensures steps { GivesAt (λ x. map (text_in m.now) x.items) m.now result (step rules.gmail_label_list (drop p m.now)) }
     ensures ahead { Ahead m.now p result }
@@ -80,7 +80,7 @@ fn labels(alloc: Global, m: &[u8], p: usize) -> Result<(usize, Vec<Span>), Err>
 ///
 /// It takes memory for the list, and for no text.
 #[tactic(auto, using(imap_grammar::proofs::Agreement::answered_at))]
-pub fn gmail_label_list(alloc: Global, m: &[u8], p: usize) -> Result<(usize, Vec<Span>), Err>
+pub fn gmail_label_list(alloc: Global, m: &[u8], p: usize) -> Reached<Vec<Span>>
     requires { p ≤ length m.now }
     ensures steps { GivesAt (λ x. map (text_in m.now) x.items) m.now result (step rules.gmail_label_list (drop p m.now)) }
     ensures answer { AnswersAt rules.gmail_label_list (λ x. map (text_in m.now) x.items) m.now p result }

@@ -15,12 +15,12 @@ ghost use Rattle.imap_sections.specs.SectionValues.{path_value};
 ghost use Rattle.imap_sections.specs.declared.types.sections.MessageSection.TheVariants as what;
 
 use crate::types::sections::{MessageSection, SectionPath};
+use imap_bytes::at::Reached;
 use imap_bytes::at::numbers::number;
 use imap_bytes::at::span::Span;
 use imap_bytes::at::strings::astring;
 use imap_bytes::at::tags::{maybe_space, tag, word};
 use imap_bytes::{Err, Needed, first, maybe};
-use imap_envelopes::at::Reached;
 use imap_envelopes::at::lists::list_of_one;
 use std::alloc::Global;
 

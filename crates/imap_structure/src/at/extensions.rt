@@ -18,12 +18,12 @@ ghost use Rattle.imap_shapes.specs.ExtensionValues.{disposition_seen, languages_
 
 use crate::at::fields::body_fld_param;
 use crate::limits::MAX_EXTENSION_DEPTH;
+use imap_bytes::at::Reached;
 use imap_bytes::at::numbers::number;
 use imap_bytes::at::strings::nil;
 use imap_bytes::at::tags::{blanks0, tag};
 use imap_bytes::{Err, Needed, first, maybe};
 use imap_envelopes::Keep;
-use imap_envelopes::at::Reached;
 use imap_envelopes::at::lists::list_of_one;
 use imap_envelopes::at::texts::{
     nstring_text, spaced_nstring_text, spaced_string_text, string_text,

@@ -11,11 +11,11 @@ ghost use Rattle.imap_structure.specs.Fields as fields;
 ghost use Rattle.imap_structure.specs.Spanned.{pair_in, encoding_in};
 ghost use Rattle.imap_shapes.specs.FieldValues.{pair_seen, params_seen, fields_seen};
 
+use imap_bytes::at::Reached;
 use imap_bytes::at::strings::nil;
 use imap_bytes::at::tags::{blanks0, tag, word};
 use imap_bytes::{Err, Needed, first, maybe};
 use imap_envelopes::Keep;
-use imap_envelopes::at::Reached;
 use imap_envelopes::at::lists::list_of_one;
 use imap_envelopes::at::texts::{
     spaced_nstring_text, spaced_number, spaced_string_text, string_text,
