@@ -6,4 +6,5 @@ pub mod Placing
 pub mod Behind
 pub mod AttributeTexts
 pub mod Changed
+pub mod Putting
 pub mod Equality

@@ -73,6 +73,12 @@ stops Error s h = h
 stops (Incomplete n) s h = h
 stops Failure s h = tt
 
+-- where each fault of a part is the whole's, the whole stops as a part does that may want memory
+pub stops_with : {A B : Type 0} (e : Fault) (part : Step A) (whole : Step B) → Stops e part → ((d : Fault) → part ≡ Err d → whole ≡ Err d) → Stops e whole
+stops_with Error part whole h f = f Error h
+stops_with (Incomplete n) part whole h f = f (Incomplete n) h
+stops_with Failure part whole h f = tt
+
 -- a reader that takes no memory gives the step
 pub exactly_gives : {A V : Type 0} (view : A → V) (result : Returned A) (s : Step V) → Exactly view result s → Gives view result s
 exactly_gives view (Ok x) s h = h

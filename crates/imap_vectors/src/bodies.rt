@@ -50,7 +50,7 @@ fn owned_body(alloc: Global, i: &[u8]) -> IResult<&[u8], BodyStructure<'static>>
     Ok((i, value.into_owned(alloc)?))
 }
 
-const FIELDS: Rows = &[
+static FIELDS: Rows = &[
     (
         b"NIL NIL NIL {4}\r\n7BIT 5)",
         r#"(None, None, None, Other("7BIT"), 5) then ")""#,
@@ -91,7 +91,7 @@ const FIELDS: Rows = &[
     (b"NIL NIL NIL {4}\r\n7", "Incomplete(Size(3))"),
 ];
 
-const EXTENSIONS: Rows = &[
+static EXTENSIONS: Rows = &[
     (b"7)", r#"Num(7) then ")""#),
     (b"\"a\"", r#"Str(Some("a"))"#),
     (b"nil)", r#"Str(None) then ")""#),
@@ -105,7 +105,7 @@ const EXTENSIONS: Rows = &[
     (b"(1", "Incomplete(Unknown)"),
 ];
 
-const SINGLE_PARTS: Rows = &[
+static SINGLE_PARTS: Rows = &[
     (
         b"(\"A\" \"B\" NIL NIL NIL NIL 1)",
         r#"Basic { common: BodyContentCommon { ty: ContentType { ty: "A", subtype: "B", params: None }, disposition: None, language: None, location: None }, other: BodyContentSinglePart { id: None, md5: None, description: None, transfer_encoding: SevenBit, octets: 1 }, extension: None }"#,
@@ -147,7 +147,7 @@ const SINGLE_PARTS: Rows = &[
     (b"(\"A\" \"B\" NIL {2}\r\n", "Incomplete(Size(2))"),
 ];
 
-const MESSAGES_AND_MULTIPARTS: Rows = &[
+static MESSAGES_AND_MULTIPARTS: Rows = &[
     (
         b"(\"Message\" \"rfc822\" NIL NIL NIL \"7BIT\" 9 (\"d\" NIL NIL NIL NIL NIL NIL NIL NIL NIL) (\"A\" \"B\" NIL NIL NIL NIL 1) 2 \"m\" NIL NIL NIL 3)",
         r#"Message { common: BodyContentCommon { ty: ContentType { ty: "MESSAGE", subtype: "RFC822", params: None }, disposition: None, language: None, location: None }, other: BodyContentSinglePart { id: None, md5: Some("m"), description: None, transfer_encoding: SevenBit, octets: 9 }, envelope: Envelope { date: Some([100]), subject: None, from: None, sender: None, reply_to: None, to: None, cc: None, bcc: None, in_reply_to: None, message_id: None }, body: Basic { common: BodyContentCommon { ty: ContentType { ty: "A", subtype: "B", params: None }, disposition: None, language: None, location: None }, other: BodyContentSinglePart { id: None, md5: None, description: None, transfer_encoding: SevenBit, octets: 1 }, extension: None }, lines: 2, extension: Some(Num(3)) }"#,

@@ -42,7 +42,7 @@ fn classes(rt: HostRuntime) {
 
 const WAITS: &str = "Incomplete(Unknown)";
 
-const NUMBERS: Rows = &[
+static NUMBERS: Rows = &[
     (b"007 ", r#"7 then " ""#),
     (b"0x", r#"0 then "x""#),
     (b"4294967295x", r#"4294967295 then "x""#),
@@ -54,7 +54,7 @@ const NUMBERS: Rows = &[
     (b"4294967296", WAITS),
 ];
 
-const LARGE_NUMBERS: Rows = &[
+static LARGE_NUMBERS: Rows = &[
     (b"4294967296x", r#"4294967296 then "x""#),
     (b"18446744073709551615 ", r#"18446744073709551615 then " ""#),
     (b"18446744073709551616 ", "Error"),
@@ -62,13 +62,13 @@ const LARGE_NUMBERS: Rows = &[
     (b"7", WAITS),
 ];
 
-const RANGES: Rows = &[
+static RANGES: Rows = &[
     (b"5:3 ", r#"5..=3 then " ""#),
     (b"5 ", "Error"),
     (b"5:", WAITS),
 ];
 
-const SETS: Rows = &[
+static SETS: Rows = &[
     (b"1,2:3,x", r#"[1..=1, 2..=3] then ",x""#),
     (b"1:x", r#"[1..=1] then ":x""#),
     (b"1:", WAITS),
@@ -100,7 +100,7 @@ fn sets(rt: HostRuntime) {
     }
 }
 
-const QUOTED: Rows = &[
+static QUOTED: Rows = &[
     (b"\"a\\\"b\"x", r#""a\\\"b" then "x""#),
     (b"\"\\\\\"\"", r#""\\\\" then "\"""#),
     (b"\"\"x", r#""" then "x""#),
@@ -113,7 +113,7 @@ const QUOTED: Rows = &[
     (b"\"a\\\"", WAITS),
 ];
 
-const LITERALS: Rows = &[
+static LITERALS: Rows = &[
     (b"{0}\r\n", r#""""#),
     (b"{1}\r\n\0", r#""\0""#),
     (b"{4}\r\na\r\nbx", r#""a\r\nb" then "x""#),
@@ -126,14 +126,14 @@ const LITERALS: Rows = &[
     (b"{4294967296}", "Error"),
 ];
 
-const STRINGS: Rows = &[
+static STRINGS: Rows = &[
     (b"\"a b\"x", r#""a b" then "x""#),
     (b"{3}\r\na bx", r#""a b" then "x""#),
     (b"{3}\r\na", "Incomplete(Size(2))"),
     (b"ab ", "Error"),
 ];
 
-const ASTRINGS: Rows = &[
+static ASTRINGS: Rows = &[
     (b"a]b ", r#""a]b" then " ""#),
     (b"\"a b\"x", r#""a b" then "x""#),
     (b"{2}\r\n()", r#""()""#),
@@ -161,7 +161,7 @@ fn strings(rt: HostRuntime) {
     }
 }
 
-const ATOMS: Rows = &[
+static ATOMS: Rows = &[
     (b"a]b", r#""a" then "]b""#),
     (b"\xc3\xa9 ", r#""é" then " ""#),
     (b"\xff ", "Error"),
@@ -169,7 +169,7 @@ const ATOMS: Rows = &[
     (b"\xff", WAITS),
 ];
 
-const NILS: Rows = &[
+static NILS: Rows = &[
     (b"nilx", r#""nil" then "x""#),
     (b"NIL", r#""NIL""#),
     (b"ni", WAITS),
@@ -177,7 +177,7 @@ const NILS: Rows = &[
 ];
 
 // A byte string within a value is told as its numbers.
-const MAYBE_STRINGS: Rows = &[
+static MAYBE_STRINGS: Rows = &[
     (b"NIL)", r#"None then ")""#),
     (b"\"N\")", r#"Some([78]) then ")""#),
     (b"{0}\r\n)", r#"Some([]) then ")""#),

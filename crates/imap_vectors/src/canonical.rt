@@ -15,7 +15,7 @@ struct Row {
     says: &'static str,
 }
 
-const ROWS: &[Row] = &[
+static ROWS: &[Row] = &[
     Row {
         line: b"* ID (\"a\" NIL)\r\n",
         canonical: b"* ID ({0}\r\n NIL)\r\n",

@@ -3,7 +3,7 @@
 use crate::answers::{Rows, assert_lines};
 use std::test::*;
 
-const WITHOUT_DATA: Rows = &[
+static WITHOUT_DATA: Rows = &[
     (
         b"* OK [ALERT] \r\n",
         r#"Data { status: Ok, outcome: Outcome { code: Some(Alert), information: Some("") } }"#,
@@ -46,7 +46,7 @@ const WITHOUT_DATA: Rows = &[
     ),
 ];
 
-const WITH_NUMBERS: Rows = &[
+static WITH_NUMBERS: Rows = &[
     (
         b"* OK [UIDNEXT 4392] x\r\n",
         r#"Data { status: Ok, outcome: Outcome { code: Some(UidNext(4392)), information: Some("x") } }"#,
@@ -73,7 +73,7 @@ const WITH_NUMBERS: Rows = &[
     ),
 ];
 
-const WITH_LISTS: Rows = &[
+static WITH_LISTS: Rows = &[
     (
         b"+ [BADCHARSET]\r\n",
         "Continue(Outcome { code: Some(BadCharset(None)), information: None })",
@@ -101,7 +101,7 @@ const WITH_LISTS: Rows = &[
 ];
 
 // What is no code is text, in which a literal that was promised is still waited for.
-const TEXT_IN_BRACKETS: Rows = &[
+static TEXT_IN_BRACKETS: Rows = &[
     (b"* OK [BADCHARSET ({5}\r\n", "Incomplete(Size(5))"),
     (
         b"* OK [BADCHARSET ({5}\r\nabcdex",
@@ -117,7 +117,7 @@ const TEXT_IN_BRACKETS: Rows = &[
     ),
 ];
 
-const CAPABILITIES: Rows = &[
+static CAPABILITIES: Rows = &[
     (
         b"* CAPABILITY IMAP4rev1 AUTH=PLAIN X\r\n",
         r#"Capabilities([Imap4rev1, Auth("PLAIN"), Atom("X")])"#,
@@ -135,20 +135,18 @@ const CAPABILITIES: Rows = &[
     ),
 ];
 
-const LINES: &[Rows] = &[
-    WITHOUT_DATA,
-    WITH_NUMBERS,
-    WITH_LISTS,
-    TEXT_IN_BRACKETS,
-    CAPABILITIES,
-];
-
-/// The tables of these lines, built in one place.
-pub fn lines() -> &'static [Rows] {
-    LINES
+/// The tables of these lines.
+pub fn lines() -> [Rows; 5] {
+    [
+        WITHOUT_DATA,
+        WITH_NUMBERS,
+        WITH_LISTS,
+        TEXT_IN_BRACKETS,
+        CAPABILITIES,
+    ]
 }
 
 #[test]
 fn lines_with_codes_and_capabilities(rt: HostRuntime) {
-    assert_lines(&rt, rt.alloc(), lines());
+    assert_lines(&rt, rt.alloc(), &lines());
 }

@@ -86,7 +86,7 @@ fn is_copied<T: Copied + PartialEq + Drop>(answer: IResult<&[u8], T>) -> bool {
     }
 }
 
-const DATA_OF_MAILBOXES: Rows = &[
+static DATA_OF_MAILBOXES: Rows = &[
     (b"18 EXISTS\r", "exists"),
     (b"5 RECENT\r", "recent"),
     (b"FLAGS (\\Seen \\*)\r", "flags"),

@@ -7,7 +7,7 @@ use imap_proto::imap_core::IResult;
 use std::alloc::Global;
 use std::test::*;
 
-const ADDRESSES: Rows = &[
+static ADDRESSES: Rows = &[
     (
         b"(\"T\" NIL \"gray\" \"cac\")",
         "Address { name: Some([84]), adl: None, mailbox: Some([103, 114, 97, 121]), host: Some([99, 97, 99]) }",
@@ -24,7 +24,7 @@ const ADDRESSES: Rows = &[
     (b"(NIL {3}\r\nab", "Incomplete(Size(1))"),
 ];
 
-const ENVELOPES: Rows = &[
+static ENVELOPES: Rows = &[
     (
         b"(\"d\" \"s\" ((\"T\" NIL \"gray\" \"cac\")) NIL NIL NIL NIL NIL NIL \"<i>\")",
         "Envelope { date: Some([100]), subject: Some([115]), from: Some([Address { name: Some([84]), adl: None, mailbox: Some([103, 114, 97, 121]), host: Some([99, 97, 99]) }]), sender: None, reply_to: None, to: None, cc: None, bcc: None, in_reply_to: None, message_id: Some([60, 105, 62]) }",

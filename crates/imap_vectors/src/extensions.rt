@@ -3,7 +3,7 @@
 use crate::answers::{Rows, assert_lines};
 use std::test::*;
 
-const VANISHED: Rows = &[
+static VANISHED: Rows = &[
     (
         b"* VANISHED 4:2\r\n",
         "Vanished { earlier: false, uids: [4..=2] }",
@@ -16,7 +16,7 @@ const VANISHED: Rows = &[
     (b"* VANISHED (EARLY) 1\r\n", "Error"),
 ];
 
-const QUOTAS: Rows = &[
+static QUOTAS: Rows = &[
     (
         b"* QUOTA \"\" (\"STORAGE\" 1 2)\r\n",
         r#"Quota(Quota { root_name: "", resources: [QuotaResource { name: Atom("STORAGE"), usage: 1, limit: 2 }] })"#,
@@ -48,7 +48,7 @@ const QUOTAS: Rows = &[
     ),
 ];
 
-const IDENTITIES: Rows = &[
+static IDENTITIES: Rows = &[
     (
         b"* ID (\"a\" \"1\" \"b\" NIL \"a\" \"2\")\r\n",
         r#"Id(Some({"a": "2"}))"#,
@@ -60,7 +60,7 @@ const IDENTITIES: Rows = &[
     (b"* ID ()\r\n", "Error"),
 ];
 
-const RIGHTS: Rows = &[
+static RIGHTS: Rows = &[
     (
         b"* LISTRIGHTS INBOX smith la r swi\r\n",
         r#"ListRights(ListRights { mailbox: "INBOX", identifier: "smith", required: [Lookup, Administer], optional: [Read, Seen, Write, Insert] })"#,
@@ -88,14 +88,12 @@ const RIGHTS: Rows = &[
     (b"* ACL\r\n", "Error"),
 ];
 
-const LINES: &[Rows] = &[VANISHED, QUOTAS, IDENTITIES, RIGHTS];
-
-/// The tables of these lines, built in one place.
-pub fn lines() -> &'static [Rows] {
-    LINES
+/// The tables of these lines.
+pub fn lines() -> [Rows; 4] {
+    [VANISHED, QUOTAS, IDENTITIES, RIGHTS]
 }
 
 #[test]
 fn lines_of_extensions(rt: HostRuntime) {
-    assert_lines(&rt, rt.alloc(), lines());
+    assert_lines(&rt, rt.alloc(), &lines());
 }

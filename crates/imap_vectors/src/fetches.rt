@@ -5,7 +5,7 @@ use imap_body::readers::{attribute, attribute_list};
 use imap_proto::rfc3501::body::msg_att_body_section;
 use std::test::*;
 
-const FLAGS_AND_NUMBERS: Rows = &[
+static FLAGS_AND_NUMBERS: Rows = &[
     (
         b"* 1 FETCH (UID abc FLAGS (\\Seen))\r\n",
         r#"Fetch(1, [Unknown, Flags(["\\Seen"])])"#,
@@ -45,7 +45,7 @@ const FLAGS_AND_NUMBERS: Rows = &[
     (b"* 1 FETCH (FLAGS (\xff))\r\n", "Fetch(1, [Unknown])"),
 ];
 
-const TEXTS_AND_BYTES: Rows = &[
+static TEXTS_AND_BYTES: Rows = &[
     (
         b"* 1 FETCH (INTERNALDATE \"17-Jul-1996 02:44:25 -0700\")\r\n",
         r#"Fetch(1, [InternalDate("17-Jul-1996 02:44:25 -0700")])"#,
@@ -82,7 +82,7 @@ const TEXTS_AND_BYTES: Rows = &[
     (b"* 1 FETCH (BODY[3]<4294967296> NIL)\r\n", "Error"),
 ];
 
-const STRUCTURES: Rows = &[
+static STRUCTURES: Rows = &[
     (
         b"* 1 FETCH (BODYSTRUCTURE (\"text\" \"plain\" NIL NIL NIL \"7bit\" 5))\r\n",
         r#"Fetch(1, [BodyStructure(Basic { common: BodyContentCommon { ty: ContentType { ty: "text", subtype: "plain", params: None }, disposition: None, language: None, location: None }, other: BodyContentSinglePart { id: None, md5: None, description: None, transfer_encoding: SevenBit, octets: 5 }, extension: None })])"#,
@@ -117,7 +117,7 @@ const STRUCTURES: Rows = &[
     ),
 ];
 
-const UNKNOWN: Rows = &[
+static UNKNOWN: Rows = &[
     (
         b"* 2 FETCH (X-Y (q) UID 4 )\r\n",
         "Fetch(2, [Unknown, Uid(4)])",
@@ -148,7 +148,7 @@ const UNKNOWN: Rows = &[
     ),
 ];
 
-const WAITING: Rows = &[
+static WAITING: Rows = &[
     (b"* 1 FETCH (U", "Incomplete(Unknown)"),
     (b"* 1 FETCH (", "Incomplete(Unknown)"),
     (b"* 1 FET", "Incomplete(Unknown)"),
@@ -167,25 +167,23 @@ const WAITING: Rows = &[
     ),
 ];
 
-const LINES: &[Rows] = &[
-    FLAGS_AND_NUMBERS,
-    TEXTS_AND_BYTES,
-    STRUCTURES,
-    UNKNOWN,
-    WAITING,
-];
-
-/// The tables of these lines, built in one place.
-pub fn lines() -> &'static [Rows] {
-    LINES
+/// The tables of these lines.
+pub fn lines() -> [Rows; 5] {
+    [
+        FLAGS_AND_NUMBERS,
+        TEXTS_AND_BYTES,
+        STRUCTURES,
+        UNKNOWN,
+        WAITING,
+    ]
 }
 
 #[test]
 fn attributes(rt: HostRuntime) {
-    assert_lines(&rt, rt.alloc(), lines());
+    assert_lines(&rt, rt.alloc(), &lines());
 }
 
-const SECTIONS: Rows = &[
+static SECTIONS: Rows = &[
     (
         b"BODY[TEXT]<5> \"a\")",
         r#"BodySection { section: Some(Full(Text)), index: Some(5), contents: Some([97]) } then ")""#,
@@ -199,7 +197,7 @@ const SECTIONS: Rows = &[
     (b"BODY[] {2}\r\na", "Incomplete(Size(1))"),
 ];
 
-const SINGLE: Rows = &[
+static SINGLE: Rows = &[
     (b"UID 7 ", r#"Uid(7) then " ""#),
     (b"Uid 7x)", r#"Uid(7) then "x)""#),
     (b"X \"a\"b", r#"Unknown then "b""#),
@@ -207,7 +205,7 @@ const SINGLE: Rows = &[
     (b"(", "Error"),
 ];
 
-const LISTS: Rows = &[
+static LISTS: Rows = &[
     (b"(UID 7 \t )x", r#"[Uid(7)] then "x""#),
     (b"(UID 7  UID 8)", "Error"),
     (b"(UID 7", "Incomplete(Unknown)"),

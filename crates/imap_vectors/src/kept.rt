@@ -87,7 +87,7 @@ fn assert_none_kept(rt: &impl Abort, alloc: Global, tables: &[Rows]) {
 
 #[test]
 fn kept_as_parsed(rt: HostRuntime) {
-    for rows in fetches::lines() {
+    for rows in &fetches::lines() {
         for (line, want) in *rows {
             assert!(rt; is_kept(rt.alloc(), line, want), "{want}");
         }
@@ -96,10 +96,10 @@ fn kept_as_parsed(rt: HostRuntime) {
 
 #[test]
 fn no_fetch_no_keeping(rt: HostRuntime) {
-    assert_none_kept(&rt, rt.alloc(), statuses::lines());
-    assert_none_kept(&rt, rt.alloc(), codes::lines());
-    assert_none_kept(&rt, rt.alloc(), mailboxes::lines());
-    assert_none_kept(&rt, rt.alloc(), extensions::lines());
+    assert_none_kept(&rt, rt.alloc(), &statuses::lines());
+    assert_none_kept(&rt, rt.alloc(), &codes::lines());
+    assert_none_kept(&rt, rt.alloc(), &mailboxes::lines());
+    assert_none_kept(&rt, rt.alloc(), &extensions::lines());
 }
 
 /// A line, what is kept of it, and what its kept bytes say when they are parsed by themselves.
@@ -114,7 +114,7 @@ struct KeptLine {
 
 // The first reading may look past the line: where a literal is announced that the line does not have, the attribute
 // is no envelope but an unknown one, and the line by itself would wait for the rest of the literal.
-const KEPT: &[KeptLine] = &[
+static KEPT: &[KeptLine] = &[
     KeptLine {
         line: b"* 2 FETCH (UID 7 FLAGS (\\Seen))\r\nzz",
         number: 2,
@@ -173,7 +173,7 @@ struct Places {
     others: &'static str,
 }
 
-const PLACES: &[Places] = &[
+static PLACES: &[Places] = &[
     Places {
         message: b"* 2 FETCH (UID 7 FLAGS (\\Seen))\r\nzz",
         start: 10,

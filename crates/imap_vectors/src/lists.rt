@@ -69,7 +69,7 @@ fn maybe_number(i: &[u8]) -> IResult<&[u8], Option<u32>> {
     opt_opt(some_number, i)
 }
 
-const LISTS: Rows = &[
+static LISTS: Rows = &[
     (b"()", "[]"),
     (b"( )x", r#"[] then "x""#),
     (b"(1 2 )x", r#"[1, 2] then "x""#),
@@ -83,7 +83,7 @@ const LISTS: Rows = &[
     (b"(1 2", WAITS),
 ];
 
-const NONEMPTY_LISTS: Rows = &[
+static NONEMPTY_LISTS: Rows = &[
     (b"(1 2)x", r#"[1, 2] then "x""#),
     (b"(1 \t )", "[1]"),
     (b"()", "Error"),
@@ -126,7 +126,7 @@ fn lists_of_literals(rt: HostRuntime) {
     );
 }
 
-const DELIMITED: Rows = &[
+static DELIMITED: Rows = &[
     (b"(7)x", r#"7 then "x""#),
     (b"(7", WAITS),
     (b"(7 )", "Error"),
@@ -134,7 +134,7 @@ const DELIMITED: Rows = &[
     (b"7)", "Error"),
 ];
 
-const MAYBE_NUMBERS: Rows = &[
+static MAYBE_NUMBERS: Rows = &[
     (b"x", r#"None then "x""#),
     (b"7)", r#"Some(7) then ")""#),
     (b"7", WAITS),

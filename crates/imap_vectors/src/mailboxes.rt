@@ -3,7 +3,7 @@
 use crate::answers::{Rows, assert_lines};
 use std::test::*;
 
-const NUMBERS: Rows = &[
+static NUMBERS: Rows = &[
     (b"* 18 EXISTS\r\nxy", r#"MailboxData(Exists(18)) then "xy""#),
     (b"* 5 recent\r\n", "MailboxData(Recent(5))"),
     (b"* 4 EXPUNGE\r\n", "Expunge(4)"),
@@ -19,7 +19,7 @@ const NUMBERS: Rows = &[
     (b"* ESEARCH (TAG \"A1\") UID ALL 1:3\r\n", "Error"),
 ];
 
-const NAMES: Rows = &[
+static NAMES: Rows = &[
     (
         b"* LIST (\\HasNoChildren) \"/\" inbox\r\n",
         r#"MailboxData(List(MailboxListData { name_attributes: [Extension("\\HasNoChildren")], delimiter: Some("/"), name: "INBOX" }))"#,
@@ -39,7 +39,7 @@ const NAMES: Rows = &[
     ),
 ];
 
-const STATES: Rows = &[
+static STATES: Rows = &[
     (
         b"* STATUS \"x\" ()\r\n",
         r#"MailboxData(Status { mailbox: "x", status: [] })"#,
@@ -52,7 +52,7 @@ const STATES: Rows = &[
     (b"* STATUS x (MAILBOXID (F1))\r\n", "Error"),
 ];
 
-const FLAGS: Rows = &[
+static FLAGS: Rows = &[
     (
         b"* FLAGS (OIB-Seen-[Gmail]/All)\r\n",
         r#"MailboxData(Flags(["OIB-Seen-[Gmail]/All"]))"#,
@@ -77,7 +77,7 @@ const FLAGS: Rows = &[
     (b"* x-gm-thrid 7\r\n", "MailboxData(GmailThrId(7))"),
 ];
 
-const ANNOTATIONS: Rows = &[
+static ANNOTATIONS: Rows = &[
     (
         b"* METADATA \"x\" (/shared/comment {1}\r\na /private/vendor/v/a \"\" \"/shared/admin *\" nil)\r\n",
         r#"MailboxData(MetadataSolicited { mailbox: "x", values: [Metadata { entry: "/shared/comment", value: Some("a") }, Metadata { entry: "/private/vendor/v/a", value: Some("") }, Metadata { entry: "/shared/admin *", value: None }] })"#,
@@ -110,14 +110,12 @@ const ANNOTATIONS: Rows = &[
     (b"* METADATA \"x\" ()\r\n", "Error"),
 ];
 
-const LINES: &[Rows] = &[NUMBERS, NAMES, STATES, FLAGS, ANNOTATIONS];
-
-/// The tables of these lines, built in one place.
-pub fn lines() -> &'static [Rows] {
-    LINES
+/// The tables of these lines.
+pub fn lines() -> [Rows; 5] {
+    [NUMBERS, NAMES, STATES, FLAGS, ANNOTATIONS]
 }
 
 #[test]
 fn lines_of_mailboxes(rt: HostRuntime) {
-    assert_lines(&rt, rt.alloc(), lines());
+    assert_lines(&rt, rt.alloc(), &lines());
 }

@@ -177,11 +177,11 @@ fn assert_owned(rt: &impl Abort, alloc: Global, tables: &[Rows]) {
 // The tables of whole lines have each variant of each enum.
 #[test]
 fn whole_lines(rt: HostRuntime) {
-    assert_owned(&rt, rt.alloc(), statuses::lines());
-    assert_owned(&rt, rt.alloc(), codes::lines());
-    assert_owned(&rt, rt.alloc(), mailboxes::lines());
-    assert_owned(&rt, rt.alloc(), extensions::lines());
-    assert_owned(&rt, rt.alloc(), fetches::lines());
+    assert_owned(&rt, rt.alloc(), &statuses::lines());
+    assert_owned(&rt, rt.alloc(), &codes::lines());
+    assert_owned(&rt, rt.alloc(), &mailboxes::lines());
+    assert_owned(&rt, rt.alloc(), &extensions::lines());
+    assert_owned(&rt, rt.alloc(), &fetches::lines());
 }
 
 // The response at the front of a copy of these bytes, made owned: the copy is gone when it is answered.
@@ -204,7 +204,7 @@ fn says_alone(alloc: Global, line: &[u8], want: &str) -> bool {
     }
 }
 
-const READ: Rows = &[
+static READ: Rows = &[
     (
         b"* CAPABILITY IMAP4rev1 AUTH=PLAIN IDLE\r\n",
         r#"Capabilities([Imap4rev1, Auth("PLAIN"), Atom("IDLE")])"#,

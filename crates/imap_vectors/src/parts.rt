@@ -94,7 +94,7 @@ const BETWEEN: &[u8] =
 const MESSAGE: &[u8] =
     b"(\"MESSAGE\" \"RFC822\" NIL NIL NIL NIL 9 (NIL NIL NIL NIL NIL NIL NIL NIL NIL NIL) (\"TEXT\" \"B\" NIL NIL NIL NIL 3 1) 4)";
 
-const SEARCHES: &[(&[u8], Sought, &str)] = &[
+static SEARCHES: &[(&[u8], Sought, &str)] = &[
     (LONE, Sought::Basic, "Some([])"),
     (LONE, Sought::Text, "None"),
     (THREE, Sought::Octets(3), "Some([3])"),

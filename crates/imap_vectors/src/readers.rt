@@ -1,6 +1,6 @@
 //! The readers of data, called by themselves.
 
-use crate::answers::{says, says_at, says_marked};
+use crate::answers::{Rows, says, says_at, says_marked};
 use imap_data::at;
 use imap_data::readers::{
     acl, capability_data, enabled_data, flag, flag_list, flag_perm, gmail_label_list, gmail_msgid,
@@ -86,6 +86,15 @@ fn lists_at_positions(rt: HostRuntime) {
     );
 }
 
+static NO_WHOLE_CODES: Rows = &[
+    (b"[CAPABILITY X]", "Error"),
+    (b"[READ-ONLYX]", "Error"),
+    (b"[UIDNEXT 4294967296]", "Error"),
+    (b"[NOMODSEQ]", "Error"),
+    (b"[UIDNEXT 42", "Incomplete(Unknown)"),
+    (b"[BADCHARSET ({5}\r\n", "Incomplete(Size(5))"),
+];
+
 #[test]
 fn codes(rt: HostRuntime) {
     let alloc = rt.alloc();
@@ -96,14 +105,7 @@ fn codes(rt: HostRuntime) {
             r#"AppendUid(38505, [UidRange(2..=4)]) then "x""#
         )
     );
-    for (input, want) in [
-        (b"[CAPABILITY X]".as_slice(), "Error"),
-        (b"[READ-ONLYX]", "Error"),
-        (b"[UIDNEXT 4294967296]", "Error"),
-        (b"[NOMODSEQ]", "Error"),
-        (b"[UIDNEXT 42", "Incomplete(Unknown)"),
-        (b"[BADCHARSET ({5}\r\n", "Incomplete(Size(5))"),
-    ] {
+    for (input, want) in NO_WHOLE_CODES {
         assert!(rt; says(alloc, response_code(alloc, input), want), "{want}");
     }
 }
@@ -118,26 +120,30 @@ fn capabilities(rt: HostRuntime) {
     assert!(rt; says(alloc, found, r#"[Atom("IMAP4rev1")] then "\r""#));
 }
 
+static DATA_OF_MAILBOXES: Rows = &[
+    (b"18 EXISTS\r", r#"Exists(18) then "\r""#),
+    (b"SEARCH 4294967296\r", r#"Search([]) then "4294967296\r""#),
+    (b"SORT 2 3", "Incomplete(Unknown)"),
+    (b"LIST (\\All2) \"/\" x\r", "Error"),
+    (b"LIST (\\Noselect", "Incomplete(Unknown)"),
+    (b"STATUS x (UNSEEN 1 SIZE 5)", "Error"),
+];
+
+static LISTED: Rows = &[
+    (
+        b"lsub (\\Marked) NIL inbox\r",
+        r#"List(MailboxListData { name_attributes: [Marked], delimiter: None, name: "INBOX" }) then "\r""#,
+    ),
+    (b"SEARCH 1\r", "Error"),
+];
+
 #[test]
 fn data_of_mailboxes(rt: HostRuntime) {
     let alloc = rt.alloc();
-    for (input, want) in [
-        (b"18 EXISTS\r".as_slice(), r#"Exists(18) then "\r""#),
-        (b"SEARCH 4294967296\r", r#"Search([]) then "4294967296\r""#),
-        (b"SORT 2 3", "Incomplete(Unknown)"),
-        (b"LIST (\\All2) \"/\" x\r", "Error"),
-        (b"LIST (\\Noselect", "Incomplete(Unknown)"),
-        (b"STATUS x (UNSEEN 1 SIZE 5)", "Error"),
-    ] {
+    for (input, want) in DATA_OF_MAILBOXES {
         assert!(rt; says(alloc, mailbox_datum(alloc, input), want), "{want}");
     }
-    for (input, want) in [
-        (
-            b"lsub (\\Marked) NIL inbox\r".as_slice(),
-            r#"List(MailboxListData { name_attributes: [Marked], delimiter: None, name: "INBOX" }) then "\r""#,
-        ),
-        (b"SEARCH 1\r", "Error"),
-    ] {
+    for (input, want) in LISTED {
         assert!(rt; says(alloc, list_or_lsub(alloc, input), want), "{want}");
     }
 }

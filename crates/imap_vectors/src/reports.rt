@@ -120,7 +120,7 @@ fn is_reported(alloc: Global, want: &Run) -> bool {
     }
 }
 
-const REPORTS: &[Run] = &[
+static REPORTS: &[Run] = &[
     Run {
         bytes: b"* OK hi\r\na1 OK\r\n",
         limits: WHOLE,
@@ -179,7 +179,7 @@ const SLOW: Limits = Limits {
     writes: 1000,
 };
 
-const BYTE_BY_BYTE: &[Run] = &[
+static BYTE_BY_BYTE: &[Run] = &[
     Run {
         bytes: b"* OK hi\r\na1 OK\r\n",
         limits: SLOW,
@@ -214,7 +214,7 @@ const WRITER_TAKES_NONE: Limits = Limits {
     writes: 1000,
 };
 
-const BROKEN_OFF: &[Run] = &[
+static BROKEN_OFF: &[Run] = &[
     Run {
         bytes: b"* OK hi\r\na1 OK\r\n",
         limits: WRITER_FAILS,
@@ -246,7 +246,7 @@ fn reports_of_bytes(rt: HostRuntime) {
 }
 
 // How many bytes come before the reader fails, and what was written by then: a line as soon as its response is whole.
-const BEFORE_A_FAILURE: &[(usize, &[u8])] = &[
+static BEFORE_A_FAILURE: &[(usize, &[u8])] = &[
     (0, b""),
     (8, b""),
     (9, b"data 9\n"),

@@ -8,7 +8,7 @@ use std::test::*;
 
 const WAITS: &str = "Incomplete(Unknown)";
 
-const SECTIONS: Rows = &[
+static SECTIONS: Rows = &[
     (b"[1.2.MIME]x", r#"Some(Part([1, 2], Some(Mime))) then "x""#),
     (b"[]", "None"),
     (b"[TEXT.MIME]", "Error"),
@@ -23,7 +23,7 @@ const SECTIONS: Rows = &[
     (b"[1.HEADER.FIELDS (a {3}\r\nab", "Incomplete(Size(1))"),
 ];
 
-const PARTS: Rows = &[
+static PARTS: Rows = &[
     (b"1.2.TEXT", r#"[1, 2] then ".TEXT""#),
     (b"007.0]", r#"[7, 0] then "]""#),
     (b"1.2", WAITS),
@@ -31,7 +31,7 @@ const PARTS: Rows = &[
     (b".1]", "Error"),
 ];
 
-const TEXTS: Rows = &[
+static TEXTS: Rows = &[
     (b"HEADER.FIELDS (DATE FROM)x", r#"Header then "x""#),
     (b"HEADER.FIELDSX", r#"Header then ".FIELDSX""#),
     (b"HEADER.FIELDS ()x", r#"Header then "x""#),
@@ -42,13 +42,13 @@ const TEXTS: Rows = &[
     (b"HEADER.FIELDS (DATE", WAITS),
 ];
 
-const TEXTS_OF_PARTS: Rows = &[
+static TEXTS_OF_PARTS: Rows = &[
     (b"mime]", r#"Mime then "]""#),
     (b"MIM", WAITS),
     (b"x", "Error"),
 ];
 
-const PATHS: Rows = &[
+static PATHS: Rows = &[
     (b"1.2.MIME]", r#"Part([1, 2], Some(Mime)) then "]""#),
     (b"4.HEADER]", r#"Part([4], Some(Header)) then "]""#),
     (b"1.x", r#"Part([1], None) then ".x""#),

@@ -3,7 +3,7 @@
 use crate::answers::{Rows, assert_lines};
 use std::test::*;
 
-const TAGGED: Rows = &[
+static TAGGED: Rows = &[
     (
         b"a1 OK\r\n",
         r#"Done { tag: RequestId("a1"), status: Ok, outcome: Outcome { code: None, information: None } }"#,
@@ -22,7 +22,7 @@ const TAGGED: Rows = &[
     (b"a1 PR", "Incomplete(Unknown)"),
 ];
 
-const CONTINUATIONS: Rows = &[
+static CONTINUATIONS: Rows = &[
     (
         b"+ idling\r\n",
         r#"Continue(Outcome { code: None, information: Some("idling") })"#,
@@ -34,7 +34,7 @@ const CONTINUATIONS: Rows = &[
     (b"+", "Incomplete(Unknown)"),
 ];
 
-const UNTAGGED: Rows = &[
+static UNTAGGED: Rows = &[
     (b"", "Incomplete(Unknown)"),
     (b"* ", "Incomplete(Unknown)"),
     (
@@ -61,14 +61,12 @@ const UNTAGGED: Rows = &[
     (b"* X\r\n", "Error"),
 ];
 
-const LINES: &[Rows] = &[TAGGED, CONTINUATIONS, UNTAGGED];
-
-/// The tables of these lines, built in one place.
-pub fn lines() -> &'static [Rows] {
-    LINES
+/// The tables of these lines.
+pub fn lines() -> [Rows; 3] {
+    [TAGGED, CONTINUATIONS, UNTAGGED]
 }
 
 #[test]
 fn lines_of_status(rt: HostRuntime) {
-    assert_lines(&rt, rt.alloc(), lines());
+    assert_lines(&rt, rt.alloc(), &lines());
 }

@@ -12,7 +12,7 @@ use std::test::*;
 
 // What is announced as a literal: as long as a number of 32 bits tells, or longer, which is no literal; and a line that is whole only with what
 // is behind it, where the literal that it announces doesn't come.
-const LITERALS: Rows = &[
+static LITERALS: Rows = &[
     (
         b"* 1 FETCH (RFC822 {4294967295}\r\n",
         "Incomplete(Size(4294967295))",
@@ -30,7 +30,7 @@ const LITERALS: Rows = &[
 ];
 
 // NIL where an attribute has it, and where it doesn't.
-const NULLS: Rows = &[
+static NULLS: Rows = &[
     (
         b"* 1 FETCH (UID NIL FLAGS NIL ENVELOPE NIL EMAILID NIL MODSEQ NIL)\r\n",
         "Fetch(1, [Unknown, Unknown, Unknown, Unknown, Unknown])",
@@ -165,7 +165,7 @@ enum Step {
     Held(&'static [u8]),
 }
 
-const STEPS: &[Step] = &[
+static STEPS: &[Step] = &[
     Step::Held(b""),
     Step::Next("Ok(None)"),
     Step::Feed(b"a1 O"),

@@ -13,7 +13,7 @@ use std::borrow::CowStr;
 use std::collections::HashMap;
 use std::test::*;
 
-const TEXTS: Rows = &[
+static TEXTS: Rows = &[
     (b"ab\r\n", r#"Borrowed("ab") then "\r\n""#),
     (b"\xff\xfex\r", r#"Owned("��x") then "\r""#),
     (b"\xe2\x82x\r", r#"Owned("�x") then "\r""#),
@@ -21,17 +21,17 @@ const TEXTS: Rows = &[
     (b"ab", "Incomplete(Unknown)"),
 ];
 
-const STRINGS: Rows = &[
+static STRINGS: Rows = &[
     (b"{2}\r\n\xffax", r#"Owned("�a") then "x""#),
     (b"{1}\r\n", "Incomplete(Size(1))"),
 ];
 
-const QUOTED: Rows = &[
+static QUOTED: Rows = &[
     (b"\"a\\\"\xc3\xa9\"", r#"Borrowed("a\\\"é")"#),
     (b"{1}\r\na", "Error"),
 ];
 
-const ASTRINGS: Rows = &[
+static ASTRINGS: Rows = &[
     (b"a]\x80 ", r#"Owned("a]�") then " ""#),
     (b"\"a b\"", r#"Borrowed("a b")"#),
     (b"a", "Incomplete(Unknown)"),
@@ -165,7 +165,7 @@ impl<'a> Telling for Response<'a> {
     }
 }
 
-const MARKED_LINES: Rows = &[
+static MARKED_LINES: Rows = &[
     (b"* OK hi\r\n", r#"[Borrowed("hi")]"#),
     (b"* OK \xff\xfex\r\n", r#"[Owned("��x")]"#),
     (b"* OK [ALERT] x\r\n", r#"[Borrowed("x")]"#),
@@ -199,7 +199,7 @@ const MARKED_LINES: Rows = &[
 ];
 
 // Lines whose responses are made owned: whichever texts were lent, all are of their own memory then.
-const OWNED_LINES: Rows = &[
+static OWNED_LINES: Rows = &[
     (b"* OK [ALERT] x\r\n", r#"[Owned("x")]"#),
     (b"* ID (\"a\" \"1\")\r\n", r#"[Owned("a"), Owned("1")]"#),
     (

@@ -1,5 +1,7 @@
-use Rattle.std.proofs.Common.{refl, arith, ◌≤◌, rules}
+use Rattle.std.proofs.Common.{refl, arith, ◌≤◌}
+use Rattle.std.proofs.lemmas.Result.{err_from_is_err_and}
 use Rattle.imap_grammar.proofs.Positions.{rests_more}
+use Rattle.imap_grammar.proofs.Agreement.{stops, stops_with}
 use Rattle.imap_envelopes.proofs.Keeping.{kept_rests}
 use Rattle.imap_shapes.specs.EnvelopeValues.{envelope_seen}
 use Rattle.imap_envelopes.specs.Envelopes.{envelope}
@@ -33,4 +35,77 @@ returns-clause-rests g c =
 
 pub returns-clause-steps : goal.returns-clause-steps
 unfolding envelope envelope_seen
-returns-clause-steps g c = search rules depth 2
+returns-clause-steps g c =
+    rw (c.in_ok-p.ensures.steps, c.in_ok-p-2.ensures.steps, c.in_ok-p-3.ensures.steps, c.in_ok-p-4.ensures.steps, c.in_ok-p-5.ensures.steps, c.in_ok-p-6.ensures.steps, c.in_ok-p-7.ensures.steps, c.in_ok-p-8.ensures.steps, c.in_ok-p-9.ensures.steps, c.in_ok-p-10.ensures.steps, c.in_ok-p-11.ensures.steps, c.in_ok-p-12.ensures.steps, c.kept_bytes.ensures.is, c.kept_bytes-2.ensures.is, c.kept_bytes-3.ensures.is, c.kept_bytes-4.ensures.is) refl
+
+pub returns-in_err-p-clause-steps : goal.returns-in_err-p-clause-steps
+unfolding envelope
+returns-in_err-p-clause-steps g c =
+    let r = err_from_is_err_and c.from_residual.result c.from_residual.ensures.1 in
+    rw (r.1, r.2) (stops _ _ (rw (c.in_err-p.ensures.steps) refl))
+
+pub returns-in_err-p-2-clause-steps : goal.returns-in_err-p-2-clause-steps
+unfolding envelope
+returns-in_err-p-2-clause-steps g c =
+    let r = err_from_is_err_and c.from_residual-in_err-p-2.result c.from_residual-in_err-p-2.ensures.1 in
+    rw (r.1, r.2) (stops _ _ (rw (c.in_ok-p.ensures.steps, c.in_err-p-2.ensures.steps) refl))
+
+pub returns-in_err-p-3-clause-steps : goal.returns-in_err-p-3-clause-steps
+unfolding envelope
+returns-in_err-p-3-clause-steps g c =
+    let r = err_from_is_err_and c.from_residual-in_err-p-3.result c.from_residual-in_err-p-3.ensures.1 in
+    rw (r.1, r.2) (stops _ _ (rw (c.in_ok-p.ensures.steps, c.in_ok-p-2.ensures.steps, c.in_err-p-3.ensures.steps) refl))
+
+pub returns-in_err-p-4-clause-steps : goal.returns-in_err-p-4-clause-steps
+unfolding envelope
+returns-in_err-p-4-clause-steps g c =
+    let r = err_from_is_err_and c.from_residual-in_err-p-4.result c.from_residual-in_err-p-4.ensures.1 in
+    rw (r.1, r.2) (stops_with _ _ _ c.in_err-p-4.ensures.steps (λ d h. rw (c.in_ok-p.ensures.steps, c.in_ok-p-2.ensures.steps, c.in_ok-p-3.ensures.steps, h) refl))
+
+pub returns-in_err-p-5-clause-steps : goal.returns-in_err-p-5-clause-steps
+unfolding envelope
+returns-in_err-p-5-clause-steps g c =
+    let r = err_from_is_err_and c.from_residual-in_err-p-5.result c.from_residual-in_err-p-5.ensures.1 in
+    rw (r.1, r.2) (stops_with _ _ _ c.in_err-p-5.ensures.steps (λ d h. rw (c.in_ok-p.ensures.steps, c.in_ok-p-2.ensures.steps, c.in_ok-p-3.ensures.steps, c.in_ok-p-4.ensures.steps, h) refl))
+
+pub returns-in_err-p-6-clause-steps : goal.returns-in_err-p-6-clause-steps
+unfolding envelope
+returns-in_err-p-6-clause-steps g c =
+    let r = err_from_is_err_and c.from_residual-in_err-p-6.result c.from_residual-in_err-p-6.ensures.1 in
+    rw (r.1, r.2) (stops_with _ _ _ c.in_err-p-6.ensures.steps (λ d h. rw (c.in_ok-p.ensures.steps, c.in_ok-p-2.ensures.steps, c.in_ok-p-3.ensures.steps, c.in_ok-p-4.ensures.steps, c.in_ok-p-5.ensures.steps, h) refl))
+
+pub returns-in_err-p-7-clause-steps : goal.returns-in_err-p-7-clause-steps
+unfolding envelope
+returns-in_err-p-7-clause-steps g c =
+    let r = err_from_is_err_and c.from_residual-in_err-p-7.result c.from_residual-in_err-p-7.ensures.1 in
+    rw (r.1, r.2) (stops_with _ _ _ c.in_err-p-7.ensures.steps (λ d h. rw (c.in_ok-p.ensures.steps, c.in_ok-p-2.ensures.steps, c.in_ok-p-3.ensures.steps, c.in_ok-p-4.ensures.steps, c.in_ok-p-5.ensures.steps, c.in_ok-p-6.ensures.steps, h) refl))
+
+pub returns-in_err-p-8-clause-steps : goal.returns-in_err-p-8-clause-steps
+unfolding envelope
+returns-in_err-p-8-clause-steps g c =
+    let r = err_from_is_err_and c.from_residual-in_err-p-8.result c.from_residual-in_err-p-8.ensures.1 in
+    rw (r.1, r.2) (stops_with _ _ _ c.in_err-p-8.ensures.steps (λ d h. rw (c.in_ok-p.ensures.steps, c.in_ok-p-2.ensures.steps, c.in_ok-p-3.ensures.steps, c.in_ok-p-4.ensures.steps, c.in_ok-p-5.ensures.steps, c.in_ok-p-6.ensures.steps, c.in_ok-p-7.ensures.steps, h) refl))
+
+pub returns-in_err-p-9-clause-steps : goal.returns-in_err-p-9-clause-steps
+unfolding envelope
+returns-in_err-p-9-clause-steps g c =
+    let r = err_from_is_err_and c.from_residual-in_err-p-9.result c.from_residual-in_err-p-9.ensures.1 in
+    rw (r.1, r.2) (stops_with _ _ _ c.in_err-p-9.ensures.steps (λ d h. rw (c.in_ok-p.ensures.steps, c.in_ok-p-2.ensures.steps, c.in_ok-p-3.ensures.steps, c.in_ok-p-4.ensures.steps, c.in_ok-p-5.ensures.steps, c.in_ok-p-6.ensures.steps, c.in_ok-p-7.ensures.steps, c.in_ok-p-8.ensures.steps, h) refl))
+
+pub returns-in_err-p-10-clause-steps : goal.returns-in_err-p-10-clause-steps
+unfolding envelope
+returns-in_err-p-10-clause-steps g c =
+    let r = err_from_is_err_and c.from_residual-in_err-p-10.result c.from_residual-in_err-p-10.ensures.1 in
+    rw (r.1, r.2) (stops _ _ (rw (c.in_ok-p.ensures.steps, c.in_ok-p-2.ensures.steps, c.in_ok-p-3.ensures.steps, c.in_ok-p-4.ensures.steps, c.in_ok-p-5.ensures.steps, c.in_ok-p-6.ensures.steps, c.in_ok-p-7.ensures.steps, c.in_ok-p-8.ensures.steps, c.in_ok-p-9.ensures.steps, c.in_err-p-10.ensures.steps) refl))
+
+pub returns-in_err-p-11-clause-steps : goal.returns-in_err-p-11-clause-steps
+unfolding envelope
+returns-in_err-p-11-clause-steps g c =
+    let r = err_from_is_err_and c.from_residual-in_err-p-11.result c.from_residual-in_err-p-11.ensures.1 in
+    rw (r.1, r.2) (stops _ _ (rw (c.in_ok-p.ensures.steps, c.in_ok-p-2.ensures.steps, c.in_ok-p-3.ensures.steps, c.in_ok-p-4.ensures.steps, c.in_ok-p-5.ensures.steps, c.in_ok-p-6.ensures.steps, c.in_ok-p-7.ensures.steps, c.in_ok-p-8.ensures.steps, c.in_ok-p-9.ensures.steps, c.in_ok-p-10.ensures.steps, c.in_err-p-11.ensures.steps) refl))
+
+pub returns-in_err-p-12-clause-steps : goal.returns-in_err-p-12-clause-steps
+unfolding envelope
+returns-in_err-p-12-clause-steps g c =
+    let r = err_from_is_err_and c.from_residual-in_err-p-12.result c.from_residual-in_err-p-12.ensures.1 in
+    rw (r.1, r.2) (stops _ _ (rw (c.in_ok-p.ensures.steps, c.in_ok-p-2.ensures.steps, c.in_ok-p-3.ensures.steps, c.in_ok-p-4.ensures.steps, c.in_ok-p-5.ensures.steps, c.in_ok-p-6.ensures.steps, c.in_ok-p-7.ensures.steps, c.in_ok-p-8.ensures.steps, c.in_ok-p-9.ensures.steps, c.in_ok-p-10.ensures.steps, c.in_ok-p-11.ensures.steps, c.in_err-p-12.ensures.steps) refl))

@@ -1,7 +1,8 @@
 use Rattle.std.proofs.Common.{refl, sym, drop, arith, ◌<◌, ◌≤◌}
 use Rattle.std.proofs.lemmas.Result.{err_from_is_err_and}
 use Rattle.imap_grammar.proofs.Positions.{rests_more}
-use Rattle.imap_structure.specs.Bodies.{body, bracketed_body, some_bodies}
+use Rattle.imap_grammar.proofs.Agreement.{stops, stops_with}
+use Rattle.imap_structure.specs.Bodies.{body, bracketed_body, body_type_msg, body_type_mpart, some_bodies}
 use Rattle.imap_shapes.specs.BodyValues.{body_seen}
 use Rattle.imap_envelopes.proofs.Keeping.{kept_rests}
 use Rattle.imap_structure.proofs.Reading.{message_rests, multipart_rests, message_reads, multipart_reads, boxed_rests, unboxed_rests}
@@ -16,6 +17,29 @@ body-returns-then-level-eq0-clause-puts g t c = rw c.if-level-eq0.true refl
 
 pub body-returns-clause-puts : goal.body-returns-clause-puts
 body-returns-clause-puts g t c = rw (body_below c.args.level (drop c.args.p c.args.m.now) c.if-level-eq0.false) c.bracketed_body.ensures.puts
+
+pub bracketed_body-returns-in_err-p-clause-puts : goal.bracketed_body-returns-in_err-p-clause-puts
+unfolding bracketed_body
+bracketed_body-returns-in_err-p-clause-puts g t c =
+    let r = err_from_is_err_and c.from_residual.result c.from_residual.ensures.1 in
+    rw (r.1, r.2) (stops _ _ (rw (c.in_err-p.ensures.steps) refl))
+
+pub bracketed_body-returns-in_err-p-2-clause-puts : goal.bracketed_body-returns-in_err-p-2-clause-puts
+unfolding bracketed_body
+bracketed_body-returns-in_err-p-2-clause-puts g t c =
+    let r = err_from_is_err_and c.from_residual-in_err-p-2.result c.from_residual-in_err-p-2.ensures.1 in
+    rw (r.1, r.2) (stops_with _ _ _ c.in_err-p-2.ensures.puts (λ d h. rw (c.in_ok-p.ensures.steps, h) refl))
+
+pub bracketed_body-returns-in-Err-clause-puts : goal.bracketed_body-returns-in-Err-clause-puts
+unfolding bracketed_body
+bracketed_body-returns-in-Err-clause-puts g t c =
+    let put = c.in_ok-p-2.ensures.puts in
+    stops _ _ (rw (c.in_ok-p.ensures.steps, put.read, c.in-Err.ensures.steps) refl)
+
+pub bracketed_body-returns-in-Err-clause-leaves : goal.bracketed_body-returns-in-Err-clause-leaves
+bracketed_body-returns-in-Err-clause-leaves g t c =
+    let put = c.in_ok-p-2.ensures.puts in
+    c.drop_last.ensures _ put.one put.behind
 
 pub bracketed_body-returns-in-Ok-clause-puts : goal.bracketed_body-returns-in-Ok-clause-puts
 unfolding bracketed_body
@@ -36,6 +60,22 @@ body_type_mpart-returns-in_err-subtype-clause-leaves g t c =
 pub body_type_mpart-push_reserved-requires : goal.body_type_mpart-push_reserved-requires
 body_type_mpart-push_reserved-requires g t c = omega (arith, c.in_ok-reserve.ensures.ok)
 
+pub body_type_mpart-returns-in_err-p-clause-puts : goal.body_type_mpart-returns-in_err-p-clause-puts
+unfolding body_type_mpart
+body_type_mpart-returns-in_err-p-clause-puts g t c =
+    let r = err_from_is_err_and c.from_residual-in_err-p.result c.from_residual-in_err-p.ensures.1 in
+    rw (r.1, r.2) (stops_with _ _ _ c.in_err-p.ensures.steps (λ d h. rw h refl))
+
+pub body_type_mpart-returns-clause-puts : goal.body_type_mpart-returns-clause-puts
+unfolding body_type_mpart
+body_type_mpart-returns-clause-puts g t c =
+    stops _ _ (rw (c.in_ok-p.ensures.steps, c.in-Err-made.ensures.steps) refl)
+
+pub body_type_mpart-returns-2-clause-puts : goal.body_type_mpart-returns-2-clause-puts
+unfolding body_type_mpart
+body_type_mpart-returns-2-clause-puts g t c =
+    stops_with _ _ _ c.in-Err-made-2.ensures.steps (λ d h. rw (c.in_ok-p.ensures.steps, c.in-Ok-made.ensures.steps, h) refl)
+
 pub body_type_mpart-returns-3-clause-puts : goal.body_type_mpart-returns-3-clause-puts
 body_type_mpart-returns-3-clause-puts g t c =
     let q = c.in-Ok-made-2.field-0.0 in
@@ -49,6 +89,38 @@ body_type_mpart-returns-3-clause-puts g t c =
       read = multipart_reads _ _ c.args.level _ _ _ _ _ _ _ _ c.in_ok-ty.ensures.is c.in_ok-p.ensures.steps (rw (sym c.in_ok-subtype.ensures.is) at c.in-Ok-made.ensures.steps) c.in-Ok-made-2.ensures.steps;
       rests = multipart_rests _ _ q _ _ _ _ (rests_more q e1 c.in_ok-p.ensures.rests) ty subtype c.in-Ok-made-2.ensures.rests;
     }
+
+pub body_type_msg-returns-in_err-p-clause-puts : goal.body_type_msg-returns-in_err-p-clause-puts
+unfolding body_type_msg
+body_type_msg-returns-in_err-p-clause-puts g t c =
+    let r = err_from_is_err_and c.from_residual.result c.from_residual.ensures.1 in
+    rw (r.1, r.2) (stops _ _ (rw (c.in_err-p.ensures.steps) refl))
+
+pub body_type_msg-returns-in_err-p-2-clause-puts : goal.body_type_msg-returns-in_err-p-2-clause-puts
+unfolding body_type_msg
+body_type_msg-returns-in_err-p-2-clause-puts g t c =
+    let r = err_from_is_err_and c.from_residual-in_err-p-2.result c.from_residual-in_err-p-2.ensures.1 in
+    rw (r.1, r.2) (stops_with _ _ _ c.in_err-p-2.ensures.steps (λ d h. rw (c.in_ok-p.ensures.steps, h) refl))
+
+pub body_type_msg-returns-clause-puts : goal.body_type_msg-returns-clause-puts
+unfolding body_type_msg
+body_type_msg-returns-clause-puts g t c =
+    stops_with _ _ _ c.in-Err-made.ensures.steps (λ d h. rw (c.in_ok-p.ensures.steps, c.in_ok-p-2.ensures.steps, h) refl)
+
+pub body_type_msg-returns-2-clause-puts : goal.body_type_msg-returns-2-clause-puts
+unfolding body_type_msg
+body_type_msg-returns-2-clause-puts g t c =
+    stops_with _ _ _ c.in-Err-made-2.ensures.steps (λ d h. rw (c.in_ok-p.ensures.steps, c.in_ok-p-2.ensures.steps, c.in-Ok-made.ensures.steps, h) refl)
+
+pub body_type_msg-returns-3-clause-puts : goal.body_type_msg-returns-3-clause-puts
+unfolding body_type_msg
+body_type_msg-returns-3-clause-puts g t c =
+    stops _ _ (rw (c.in_ok-p.ensures.steps, c.in_ok-p-2.ensures.steps, c.in-Ok-made.ensures.steps, c.in-Ok-made-2.ensures.steps, c.in-Err-made-3.ensures.steps) refl)
+
+pub body_type_msg-returns-4-clause-puts : goal.body_type_msg-returns-4-clause-puts
+unfolding body_type_msg
+body_type_msg-returns-4-clause-puts g t c =
+    stops_with _ _ _ c.in-Err-made-4.ensures.steps (λ d h. rw (c.in_ok-p.ensures.steps, c.in_ok-p-2.ensures.steps, c.in-Ok-made.ensures.steps, c.in-Ok-made-2.ensures.steps, c.in-Ok-made-3.ensures.steps, h) refl)
 
 pub body_type_msg-returns-5-clause-puts : goal.body_type_msg-returns-5-clause-puts
 body_type_msg-returns-5-clause-puts g t c =

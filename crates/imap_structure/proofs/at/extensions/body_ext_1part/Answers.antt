@@ -2,6 +2,7 @@ use Rattle.std.proofs.Common.{refl, arith, ◌≤◌}
 use Rattle.imap_grammar.proofs.Positions.{rests_more}
 use Rattle.imap_envelopes.proofs.Keeping.{kept_rests}
 use Rattle.imap_shapes.specs.ExtensionValues.{ext_1part_seen}
+use Rattle.imap_structure.specs.Extensions.{body_ext_1part}
 use Rattle.imap_structure.proofs.at.extensions.body_ext_1part.Goals as goal
 
 pub returns-clause-rests : goal.returns-clause-rests
@@ -17,3 +18,8 @@ returns-clause-rests g c =
     let language = rests_more q e3 c.in_ok-p-3.ensures.rests in
     let location = kept_rests _ _ _ _ _ _ c.in_ok-kept_text-2.ensures (rests_more q e4 c.in_ok-p-4.ensures.rests) in
     record { same = λ m. rw (md5.same m, disposition.same m, language.same m, location.same m, c.in_ok-p-5.ensures.rests.same m) refl }
+
+pub returns-clause-steps : goal.returns-clause-steps
+unfolding body_ext_1part ext_1part_seen
+returns-clause-steps g c =
+    rw (c.in_ok-p.ensures.steps, c.in_ok-p-2.ensures.steps, c.in_ok-p-3.ensures.steps, c.in_ok-p-4.ensures.steps, c.in_ok-p-5.ensures.steps, c.in_ok-kept_text.ensures.is, c.in_ok-kept_text-2.ensures.is) refl
