@@ -169,7 +169,6 @@ impl<'a> Response<'a> {
     /// So `Failure` is not answered where the response is one number (`EXPUNGE`, `EXISTS`, `RECENT`, Gmail's), `ID NIL`, or an
     /// untagged status or a continuation with no list in its code and a borrowed text. One kind is excepted: a text without a code
     /// that begins as a code with a list does, as `[CAPABILITY`, since it is tried as that code first.
-    #[tactic(auto, using(imap_grammar::proofs::Agreement::answered, crate::proofs::LineTexts::line_spells, crate::proofs::Ending::line_ends))]
     #[inline(always)]
     pub fn parse(alloc: Global, msg: &'a [u8]) -> ParseResult<'a>
         ensures steps { Gives response_value result (step rule.response msg.now) }

@@ -1,5 +1,5 @@
 -- What a structure that is kept says, and how a reader puts one behind others.
-use Rattle.std.specs.Prelude.{◌≡◌, ℕ, List, [], ◌∷◌, ◌++◌, drop, Result, Ok, Err}
+use Rattle.std.specs.Prelude.{◌≡◌, ◌≤◌, ℕ, List, [], ◌∷◌, ◌++◌, length, drop, Result, Ok, Err, IfOk}
 use Rattle.std.specs.declared.alloc.Global.{Global}
 use Rattle.std.specs.declared.boxed.Box.{Box}
 use Rattle.imap_grammar.specs.declared.answer.Err.{Err as Fault}
@@ -30,3 +30,7 @@ PutsAt view m old new (Err e) s = Stops e s
 abbrev pub Leaves : {A : Type 0} → List A → List A → Result ℕ Fault → Type 0
 Leaves old new (Ok q) = Unit {0}
 Leaves old new (Err e) = new ≡ old
+
+-- The position that was reached from p is not before it, and not past m's end.
+abbrev pub Reaches : List ℕ → ℕ → Result ℕ Fault → Type 0
+Reaches m p result = IfOk result (λ q. (p ≤ q) × (q ≤ length m))

@@ -6,7 +6,7 @@ ghost use Rattle.imap_grammar.specs.Step.{step};
 ghost use Rattle.imap_envelopes.specs.Envelopes as envelopes;
 ghost use Rattle.imap_envelopes.specs.Envelopes.{spaced};
 ghost use Rattle.imap_structure.specs.Bodies as bodies;
-ghost use Rattle.imap_structure.specs.Kept.{boxed_seen, PutsAt, Leaves};
+ghost use Rattle.imap_structure.specs.Kept.{boxed_seen, PutsAt, Leaves, Reaches};
 ghost use Rattle.imap_shapes.specs.EnvelopeValues.{envelope_seen};
 ghost use Rattle.imap_shapes.specs.BodyValues.{body_seen};
 
@@ -66,7 +66,7 @@ fn body_type_text<K: Keep>(
     requires serves { K.serves keep.now m.now }
     ensures puts { PutsAt (λ n x. body_seen (K.text_said n) (K.bytes_said n) x) m.now others.old.items others.new.items result (step bodies.body_type_text (drop p m.now)) }
     ensures leaves { Leaves others.old.items others.new.items result }
-    ensures ahead { IfOk result (λ q. (p ≤ q) × (q ≤ length m.now)) }
+    ensures ahead { Reaches m.now p result }
 {
     let (p, _) = word(b"\"TEXT\"", m, p)?;
     others.reserve(1)?;
@@ -113,7 +113,7 @@ fn body_type_basic<K: Keep>(
     requires serves { K.serves keep.now m.now }
     ensures puts { PutsAt (λ n x. body_seen (K.text_said n) (K.bytes_said n) x) m.now others.old.items others.new.items result (step bodies.body_type_basic (drop p m.now)) }
     ensures leaves { Leaves others.old.items others.new.items result }
-    ensures ahead { IfOk result (λ q. (p ≤ q) × (q ≤ length m.now)) }
+    ensures ahead { Reaches m.now p result }
 {
     let (p, ty) = string_text(m, p)?;
     let (p, subtype) = spaced_string_text(m, p)?;
@@ -188,7 +188,7 @@ pub fn body<K: Keep>(
     requires serves { K.serves keep.now m.now }
     ensures puts { PutsAt (λ n x. body_seen (K.text_said n) (K.bytes_said n) x) m.now others.old.items others.new.items result (step (bodies.body level) (drop p m.now)) }
     ensures leaves { Leaves others.old.items others.new.items result }
-    ensures ahead { IfOk result (λ q. (p ≤ q) × (q ≤ length m.now)) }
+    ensures ahead { Reaches m.now p result }
 {
     if level == 0 {
         return Err(Err::Error);
@@ -210,7 +210,7 @@ fn bracketed_body<K: Keep>(
     requires serves { K.serves keep.now m.now }
     ensures puts { PutsAt (λ n x. body_seen (K.text_said n) (K.bytes_said n) x) m.now others.old.items others.new.items result (step (bodies.bracketed_body (bodies.body level)) (drop p m.now)) }
     ensures leaves { Leaves others.old.items others.new.items result }
-    ensures ahead { IfOk result (λ q. (p ≤ q) × (q ≤ length m.now)) }
+    ensures ahead { Reaches m.now p result }
 {
     let (p, _) = tag(b"(", m, p)?;
     let p = body_type(keep, alloc, level, m, p, others)?;
@@ -238,7 +238,7 @@ fn body_type<K: Keep>(
     requires serves { K.serves keep.now m.now }
     ensures puts { PutsAt (λ n x. body_seen (K.text_said n) (K.bytes_said n) x) m.now others.old.items others.new.items result (step (bodies.body_type (bodies.body level)) (drop p m.now)) }
     ensures leaves { Leaves others.old.items others.new.items result }
-    ensures ahead { IfOk result (λ q. (p ≤ q) × (q ≤ length m.now)) }
+    ensures ahead { Reaches m.now p result }
 {
     let (_, i) = m.split_at(p);
     match i.first() {
@@ -264,7 +264,7 @@ fn quoted_type<K: Keep>(
     requires serves { K.serves keep.now m.now }
     ensures puts { PutsAt (λ n x. body_seen (K.text_said n) (K.bytes_said n) x) m.now others.old.items others.new.items result (step (bodies.quoted_type (bodies.body level)) (drop p m.now)) }
     ensures leaves { Leaves others.old.items others.new.items result }
-    ensures ahead { IfOk result (λ q. (p ≤ q) × (q ≤ length m.now)) }
+    ensures ahead { Reaches m.now p result }
 {
     first!(body_type_text(keep, alloc, m, p, others));
     first!(body_type_msg(keep, alloc, level, m, p, others));
@@ -286,7 +286,7 @@ fn body_type_msg<K: Keep>(
     requires serves { K.serves keep.now m.now }
     ensures puts { PutsAt (λ n x. body_seen (K.text_said n) (K.bytes_said n) x) m.now others.old.items others.new.items result (step (bodies.body_type_msg (bodies.body level)) (drop p m.now)) }
     ensures leaves { Leaves others.old.items others.new.items result }
-    ensures ahead { IfOk result (λ q. (p ≤ q) × (q ≤ length m.now)) }
+    ensures ahead { Reaches m.now p result }
 {
     let (p, _) = message_word(m, p)?;
     others.reserve(1)?;
@@ -356,7 +356,7 @@ fn body_type_mpart<K: Keep>(
     requires serves { K.serves keep.now m.now }
     ensures puts { PutsAt (λ n x. body_seen (K.text_said n) (K.bytes_said n) x) m.now others.old.items others.new.items result (step (bodies.body_type_mpart (bodies.body level)) (drop p m.now)) }
     ensures leaves { Leaves others.old.items others.new.items result }
-    ensures ahead { IfOk result (λ q. (p ≤ q) × (q ≤ length m.now)) }
+    ensures ahead { Reaches m.now p result }
 {
     others.reserve(1)?;
     let ty = keep.text(m, SpannedText::Multipart)?;

@@ -1,4 +1,5 @@
 use Rattle.std.proofs.Common.{refl, arith, ◌<◌, ◌++◌, ◌∷◌, []}
+use Rattle.std.proofs.Math.Nat.{le_trans}
 use Rattle.std.proofs.lemmas.Result.{err_from_is_err_and}
 use Rattle.imap_grammar.specs.Rule.{◌▹◌}
 use Rattle.imap_grammar.specs.Tags.{sp}
@@ -25,7 +26,7 @@ attributes-preserved g c =
     let before = c.attributes.invariant.so_far in
     record {
       so_far = (before.0 ++ c.in-Some.attribute ∷ [], c.in_ok-add-in-Some.ensures before.0 before.1, next (attribute_said g.K.Keep.text_said g.K.Keep.bytes_said c.args.m.now) _ (sp ▹ attribute) before.0 _ _ c.in-Some.attribute before.2 (rw c.in-Some.is at c.in_ok-after.ensures.steps) refl, up_to_more _ _ _ _ _ _ before.0 c.in-Some.attribute before.3 (rw c.in-Some.is at c.in_ok-after.ensures.stands));
-      ahead = omega (arith, c.attributes.invariant.ahead, c.in_ok-after.ensures.ahead);
+      ahead = le_trans c.attributes.invariant.ahead c.in_ok-after.ensures.ahead.0;
       within = c.in_ok-after.ensures.ahead.1;
     }
 

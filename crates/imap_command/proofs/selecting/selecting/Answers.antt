@@ -1,5 +1,5 @@
-use Rattle.std.proofs.Common.{rules}
+use Rattle.std.proofs.Common.{refl}
 use Rattle.imap_command.proofs.selecting.selecting.Goals as goal
 
 pub returns-clause-next_state : goal.returns-clause-next_state
-returns-clause-next_state c = search rules depth 2
+returns-clause-next_state c = refl

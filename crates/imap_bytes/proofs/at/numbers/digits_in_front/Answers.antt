@@ -1,6 +1,5 @@
 use Rattle.std.proofs.lemmas.Grind.{common_steps}
-use Rattle.std.proofs.Common.{◌≡◌, ◌≤◌, ◌+◌, ◌*◌, ◌-◌, take, ap, ◌∙◌, arith}
-use Rattle.std.specs.Str.Parse.{digits_value}
+use Rattle.std.proofs.Common.{rules, ◌≤◌, ◌+◌, ◌*◌, ◌-◌, ap, ◌∙◌, arith}
 use Rattle.imap_bytes.proofs.Digits.{one_more, is_a_digit, below_next, eleven_digits_fit}
 use Rattle.imap_bytes.proofs.at.numbers.digits_in_front.Goals as goal
 
@@ -23,4 +22,4 @@ loop-count-preserved c =
     }
 
 pub returns-then-digit-gt9-clause-at : goal.returns-then-digit-gt9-clause-at
-returns-then-digit-gt9-clause-at c = grind (arith, common_steps)
+returns-then-digit-gt9-clause-at c = (c.loop-count.invariant.all, grind (arith, common_steps), search rules)

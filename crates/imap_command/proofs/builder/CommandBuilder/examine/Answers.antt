@@ -1,5 +1,4 @@
-use Rattle.std.proofs.Common.{rules}
 use Rattle.imap_command.proofs.builder.CommandBuilder.examine.Goals as goal
 
 pub returns-clause-text : goal.returns-clause-text
-returns-clause-text c = search rules depth 2
+returns-clause-text c = rw (c.with_text.ensures) c.in_ok-args.ensures.text

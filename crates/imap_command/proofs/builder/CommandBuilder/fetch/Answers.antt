@@ -1,5 +1,4 @@
-use Rattle.std.proofs.Common.{rules}
 use Rattle.imap_command.proofs.builder.CommandBuilder.fetch.Goals as goal
 
 pub returns : goal.returns
-returns c = search rules depth 2
+returns c = rw (c.with_text.ensures) c.in_ok-args.ensures.items

@@ -1,5 +1,5 @@
-use Rattle.std.proofs.Common.{rules}
+use Rattle.std.proofs.Common.{refl}
 use Rattle.imap_command.proofs.errors.BuildErrorFromAllocError.from.Goals as goal
 
 pub returns : goal.returns
-returns c = search rules depth 2
+returns c = refl

@@ -1,5 +1,6 @@
-use Rattle.std.proofs.Common.{rules}
+use Rattle.std.proofs.Common.{refl}
 use Rattle.imap_command.proofs.fetching.FetchCommand+Empty.range.Goals as goal
 
 pub returns : goal.returns
-returns c = search rules depth 2
+returns c calls at was =
+    rw (c.with_text.ensures, c.in_ok-push_range.ensures, at, c.self.view_is, was) refl

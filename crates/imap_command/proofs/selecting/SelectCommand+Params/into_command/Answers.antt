@@ -1,6 +1,10 @@
-use Rattle.std.proofs.Common.{rules}
+use Rattle.std.proofs.Common.{refl}
 use Rattle.imap_command.proofs.NextStates.{selects_with_params}
 use Rattle.imap_command.proofs.selecting.SelectCommand+Params.into_command.Goals as goal
 
 pub returns : goal.returns
-returns c = search (rules, selects_with_params) depth 3
+returns c calls at was =
+    record {
+      text = rw (c.selecting.ensures.text, c.in_ok-push.ensures.items, at, c.self.view_is, was) refl;
+      next_state = rw (c.selecting.ensures.next_state, selects_with_params calls at) refl;
+    }

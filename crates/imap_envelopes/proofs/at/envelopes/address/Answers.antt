@@ -1,4 +1,5 @@
 use Rattle.std.proofs.Common.{refl, arith, ◌≤◌}
+use Rattle.std.proofs.Math.Nat.{le_trans}
 use Rattle.imap_grammar.proofs.Positions.{rests_more}
 use Rattle.imap_envelopes.proofs.at.envelopes.address.Goals as goal
 
@@ -6,11 +7,15 @@ pub returns-clause-rests : goal.returns-clause-rests
 returns-clause-rests c =
     let q = c.in_ok-p-6.p in
     let e5 : c.in_ok-p-5.p ≤ q = omega (arith, c.in_ok-p-6.ensures.inside) in
-    let e4 : c.in_ok-p-4.p ≤ q = omega (arith, e5, c.in_ok-p-5.ensures.ahead) in
-    let e3 : c.in_ok-p-3.p ≤ q = omega (arith, e4, c.in_ok-p-4.ensures.ahead) in
-    let e2 : c.in_ok-p-2.p ≤ q = omega (arith, e3, c.in_ok-p-3.ensures.ahead) in
+    let e4 : c.in_ok-p-4.p ≤ q = le_trans c.in_ok-p-5.ensures.ahead.0 e5 in
+    let e3 : c.in_ok-p-3.p ≤ q = le_trans c.in_ok-p-4.ensures.ahead.0 e4 in
+    let e2 : c.in_ok-p-2.p ≤ q = le_trans c.in_ok-p-3.ensures.ahead.0 e3 in
     let name = rests_more q e2 c.in_ok-p-2.ensures.rests in
     let adl = rests_more q e3 c.in_ok-p-3.ensures.rests in
     let mailbox = rests_more q e4 c.in_ok-p-4.ensures.rests in
     let host = rests_more q e5 c.in_ok-p-5.ensures.rests in
     record { same = λ m. rw (name.same m, adl.same m, mailbox.same m, host.same m) refl }
+
+pub returns-clause-ahead : goal.returns-clause-ahead
+returns-clause-ahead c =
+    (le_trans c.in_ok-p.ensures.inside.0.0 (le_trans c.in_ok-p.ensures.inside.0.1 (le_trans c.in_ok-p.ensures.inside.0.2 (le_trans c.in_ok-p-2.ensures.ahead.0 (le_trans c.in_ok-p-3.ensures.ahead.0 (le_trans c.in_ok-p-4.ensures.ahead.0 (le_trans c.in_ok-p-5.ensures.ahead.0 (le_trans c.in_ok-p-6.ensures.inside.0.0 (le_trans c.in_ok-p-6.ensures.inside.0.1 c.in_ok-p-6.ensures.inside.0.2)))))))), c.in_ok-p-6.ensures.inside.1)

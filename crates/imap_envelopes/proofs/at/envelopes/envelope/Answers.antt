@@ -1,4 +1,5 @@
 use Rattle.std.proofs.Common.{refl, arith, ◌≤◌}
+use Rattle.std.proofs.Math.Nat.{le_trans}
 use Rattle.std.proofs.lemmas.Result.{err_from_is_err_and}
 use Rattle.imap_grammar.proofs.Positions.{rests_more}
 use Rattle.imap_grammar.proofs.Agreement.{stops, stops_with}
@@ -12,15 +13,15 @@ unfolding envelope_seen
 returns-clause-rests g c =
     let q = c.in_ok-p-12.p in
     let e11 : c.in_ok-p-11.p ≤ q = omega (arith, c.in_ok-p-12.ensures.inside) in
-    let e10 : c.in_ok-p-10.p ≤ q = omega (arith, e11, c.in_ok-p-11.ensures.ahead) in
-    let e9 : c.in_ok-p-9.p ≤ q = omega (arith, e10, c.in_ok-p-10.ensures.ahead) in
-    let e8 : c.in_ok-p-8.p ≤ q = omega (arith, e9, c.in_ok-p-9.ensures.ahead) in
-    let e7 : c.in_ok-p-7.p ≤ q = omega (arith, e8, c.in_ok-p-8.ensures.ahead) in
-    let e6 : c.in_ok-p-6.p ≤ q = omega (arith, e7, c.in_ok-p-7.ensures.ahead) in
-    let e5 : c.in_ok-p-5.p ≤ q = omega (arith, e6, c.in_ok-p-6.ensures.ahead) in
-    let e4 : c.in_ok-p-4.p ≤ q = omega (arith, e5, c.in_ok-p-5.ensures.ahead) in
-    let e3 : c.in_ok-p-3.p ≤ q = omega (arith, e4, c.in_ok-p-4.ensures.ahead) in
-    let e2 : c.in_ok-p-2.p ≤ q = omega (arith, e3, c.in_ok-p-3.ensures.ahead) in
+    let e10 : c.in_ok-p-10.p ≤ q = le_trans c.in_ok-p-11.ensures.ahead.0 e11 in
+    let e9 : c.in_ok-p-9.p ≤ q = le_trans c.in_ok-p-10.ensures.ahead.0 e10 in
+    let e8 : c.in_ok-p-8.p ≤ q = le_trans c.in_ok-p-9.ensures.ahead.0 e9 in
+    let e7 : c.in_ok-p-7.p ≤ q = le_trans c.in_ok-p-8.ensures.ahead.0 e8 in
+    let e6 : c.in_ok-p-6.p ≤ q = le_trans c.in_ok-p-7.ensures.ahead.0 e7 in
+    let e5 : c.in_ok-p-5.p ≤ q = le_trans c.in_ok-p-6.ensures.ahead.0 e6 in
+    let e4 : c.in_ok-p-4.p ≤ q = le_trans c.in_ok-p-5.ensures.ahead.0 e5 in
+    let e3 : c.in_ok-p-3.p ≤ q = le_trans c.in_ok-p-4.ensures.ahead.0 e4 in
+    let e2 : c.in_ok-p-2.p ≤ q = le_trans c.in_ok-p-3.ensures.ahead.0 e3 in
     let date = kept_rests _ _ _ _ _ _ c.kept_bytes.ensures (rests_more q e2 c.in_ok-p-2.ensures.rests) in
     let subject = kept_rests _ _ _ _ _ _ c.kept_bytes-2.ensures (rests_more q e3 c.in_ok-p-3.ensures.rests) in
     let from = rests_more q e4 c.in_ok-p-4.ensures.rests in
@@ -109,3 +110,7 @@ unfolding envelope
 returns-in_err-p-12-clause-steps g c =
     let r = err_from_is_err_and c.from_residual-in_err-p-12.result c.from_residual-in_err-p-12.ensures.1 in
     rw (r.1, r.2) (stops _ _ (rw (c.in_ok-p.ensures.steps, c.in_ok-p-2.ensures.steps, c.in_ok-p-3.ensures.steps, c.in_ok-p-4.ensures.steps, c.in_ok-p-5.ensures.steps, c.in_ok-p-6.ensures.steps, c.in_ok-p-7.ensures.steps, c.in_ok-p-8.ensures.steps, c.in_ok-p-9.ensures.steps, c.in_ok-p-10.ensures.steps, c.in_ok-p-11.ensures.steps, c.in_err-p-12.ensures.steps) refl))
+
+pub returns-clause-ahead : goal.returns-clause-ahead
+returns-clause-ahead g c =
+    (le_trans c.in_ok-p.ensures.inside.0.0 (le_trans c.in_ok-p.ensures.inside.0.1 (le_trans c.in_ok-p.ensures.inside.0.2 (le_trans c.in_ok-p-2.ensures.ahead.0 (le_trans c.in_ok-p-3.ensures.ahead.0 (le_trans c.in_ok-p-4.ensures.ahead.0 (le_trans c.in_ok-p-5.ensures.ahead.0 (le_trans c.in_ok-p-6.ensures.ahead.0 (le_trans c.in_ok-p-7.ensures.ahead.0 (le_trans c.in_ok-p-8.ensures.ahead.0 (le_trans c.in_ok-p-9.ensures.ahead.0 (le_trans c.in_ok-p-10.ensures.ahead.0 (le_trans c.in_ok-p-11.ensures.ahead.0 (le_trans c.in_ok-p-12.ensures.inside.0.0 (le_trans c.in_ok-p-12.ensures.inside.0.1 c.in_ok-p-12.ensures.inside.0.2)))))))))))))), c.in_ok-p-12.ensures.inside.1)

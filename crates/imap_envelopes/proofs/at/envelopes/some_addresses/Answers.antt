@@ -1,4 +1,5 @@
 use Rattle.std.proofs.Common.{refl, ap, ◌∙◌, arith, rules, ◌≡◌, ◌<◌, ◌≤◌, Ok, map, length, drop}
+use Rattle.std.proofs.Math.Nat.{le_trans}
 use Rattle.std.proofs.lemmas.Result.{err_from_is_err_and}
 use Rattle.std.proofs.lemmas.List.{nil_from_length}
 use Rattle.imap_grammar.proofs.Agreement.{stops}
@@ -34,7 +35,7 @@ addresses-preserved g c =
     record {
       gathered = rw c.in_ok-push-in-Some.ensures.items (next (λ x. address_seen (g.K.Keep.bytes_said c.args.m.now) x) _ listed_address _ _ _ kept.result c.addresses.invariant.gathered (rw kept.ensures.is steps) refl);
       rests = rw c.in_ok-push-in-Some.ensures.items (together (λ n x. address_seen (g.K.Keep.bytes_said n) x) _ _ _ _ (c.in_ok-after.ensures.ahead.0) c.addresses.invariant.rests rests);
-      ahead = omega (arith, c.addresses.invariant.ahead, c.in_ok-after.ensures.ahead);
+      ahead = le_trans c.addresses.invariant.ahead c.in_ok-after.ensures.ahead.0;
       within = c.in_ok-after.ensures.ahead.1;
     }
 

@@ -1,7 +1,8 @@
-use Rattle.std.proofs.Common.{rules}
+use Rattle.std.proofs.Common.{rules, refl, ◌≡◌, true}
+use Rattle.std.specs.List.{list_any}
 use Rattle.imap_grammar.specs.Tags.{word}
 use Rattle.imap_grammar.proofs.Memory.{part_failed, holds_already, begins_word}
-use Rattle.imap_items.specs.Capabilities.{capability_data}
+use Rattle.imap_items.specs.Capabilities.{capability_data, capability_value, is_revision}
 use Rattle.imap_items.proofs.Capabilities.{any_of_values}
 use Rattle.imap_items.proofs.readers.capabilities.with_revision.Goals as goal
 
@@ -13,4 +14,6 @@ returns-in_err-rest-2-clause-memory c = holds_already _ c.from_residual-in_err-r
 
 pub returns-clause-steps : goal.returns-clause-steps
 unfolding capability_data
-returns-clause-steps c = search (rules, any_of_values) depth 3
+returns-clause-steps c =
+    let among : list_any (λ x. is_revision (capability_value x)) c.in_ok-rest-2.items.items ≡ true = search rules in
+    rw (c.in_ok-rest.ensures.steps, c.in_ok-rest-2.ensures, any_of_values c.in_ok-rest-2.items.items, among) refl

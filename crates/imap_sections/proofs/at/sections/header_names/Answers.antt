@@ -1,4 +1,5 @@
 use Rattle.std.proofs.Common.{refl, arith, ◌<◌}
+use Rattle.std.proofs.Math.Nat.{le_trans}
 use Rattle.std.proofs.lemmas.Result.{err_from_is_err_and}
 use Rattle.imap_bytes.specs.Strings.{astring}
 use Rattle.imap_envelopes.specs.Envelopes.{spaced}
@@ -23,7 +24,7 @@ names-preserved c =
     let so_far = c.names.invariant.gathered in
     record {
       gathered = (_, next_one _ (spaced astring) so_far.0 _ _ _ so_far.1 (rw c.in-Some.is at c.in_ok-after.ensures.steps) refl);
-      ahead = omega (arith, c.names.invariant.ahead, c.in_ok-after.ensures.ahead);
+      ahead = le_trans c.names.invariant.ahead c.in_ok-after.ensures.ahead.0;
       within = c.in_ok-after.ensures.ahead.1;
     }
 

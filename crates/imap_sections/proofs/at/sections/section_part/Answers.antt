@@ -1,4 +1,5 @@
 use Rattle.std.proofs.Common.{refl, arith, ◌<◌}
+use Rattle.std.proofs.Math.Nat.{le_trans}
 use Rattle.std.proofs.lemmas.Result.{err_from_is_err_and}
 use Rattle.imap_grammar.specs.Rule.{◌▹◌}
 use Rattle.imap_grammar.specs.Tags.{tag}
@@ -23,7 +24,7 @@ numbers-smaller c =
 pub numbers-preserved : goal.numbers-preserved
 numbers-preserved c = record {
   gathered = rw c.in_ok-push-in-Some.ensures.items (next_one _ (tag "." ▹ number) _ _ _ _ c.numbers.invariant.gathered (rw c.in-Some.is at c.in_ok-after.ensures.steps) refl);
-  ahead = omega (arith, c.numbers.invariant.ahead, c.in_ok-after.ensures.ahead);
+  ahead = le_trans c.numbers.invariant.ahead c.in_ok-after.ensures.ahead.0;
   within = c.in_ok-after.ensures.ahead.1;
 }
 

@@ -1,4 +1,5 @@
 use Rattle.std.proofs.Common.{refl, sym, drop, arith, ◌<◌, ◌≤◌}
+use Rattle.std.proofs.Math.Nat.{le_trans}
 use Rattle.std.proofs.lemmas.Result.{err_from_is_err_and}
 use Rattle.imap_grammar.proofs.Positions.{rests_more}
 use Rattle.imap_grammar.proofs.Agreement.{stops, stops_with}
@@ -79,8 +80,8 @@ body_type_mpart-returns-2-clause-puts g t c =
 pub body_type_mpart-returns-3-clause-puts : goal.body_type_mpart-returns-3-clause-puts
 body_type_mpart-returns-3-clause-puts g t c =
     let q = c.in-Ok-made-2.field-0.0 in
-    let e2 : c.in-Ok-made.field-0.0 ≤ q = omega (arith, c.in-Ok-made-2.ensures.ahead) in
-    let e1 : c.in_ok-p.p ≤ q = omega (arith, e2, c.in-Ok-made.ensures.ahead) in
+    let e2 : c.in-Ok-made.field-0.0 ≤ q = c.in-Ok-made-2.ensures.ahead.0 in
+    let e1 : c.in_ok-p.p ≤ q = le_trans c.in-Ok-made.ensures.ahead.0 e2 in
     let ty = kept_rests _ _ _ q _ _ c.in_ok-ty.ensures (record { same = λ n. refl }) in
     let subtype = kept_rests _ _ _ q _ _ c.in_ok-subtype.ensures (rests_more q e2 c.in-Ok-made.ensures.rests) in
     record {
@@ -125,10 +126,10 @@ body_type_msg-returns-4-clause-puts g t c =
 pub body_type_msg-returns-5-clause-puts : goal.body_type_msg-returns-5-clause-puts
 body_type_msg-returns-5-clause-puts g t c =
     let q = c.in-Ok-made-4.field-0.0 in
-    let e5 : c.in-Ok-made-3.field-0.0 ≤ q = omega (arith, c.in-Ok-made-4.ensures.ahead) in
-    let e4 : c.in-Ok-made-2.field-0.0 ≤ q = omega (arith, e5, c.in-Ok-made-3.ensures.ahead) in
-    let e3 : c.in-Ok-made.field-0.0 ≤ q = omega (arith, e4, c.in-Ok-made-2.ensures.ahead) in
-    let e2 : c.in_ok-p-2.p ≤ q = omega (arith, e3, c.in-Ok-made.ensures.ahead) in
+    let e5 : c.in-Ok-made-3.field-0.0 ≤ q = c.in-Ok-made-4.ensures.ahead.0 in
+    let e4 : c.in-Ok-made-2.field-0.0 ≤ q = le_trans c.in-Ok-made-3.ensures.ahead.0 e5 in
+    let e3 : c.in-Ok-made.field-0.0 ≤ q = le_trans c.in-Ok-made-2.ensures.ahead.0 e4 in
+    let e2 : c.in_ok-p-2.p ≤ q = le_trans c.in-Ok-made.ensures.ahead.0 e3 in
     let ty = kept_rests _ _ _ q _ _ c.in_ok-ty.ensures (record { same = λ n. refl }) in
     let subtype = kept_rests _ _ _ q _ _ c.in_ok-subtype.ensures (record { same = λ n. refl }) in
     record {
@@ -164,7 +165,7 @@ some_bodies-bodies-preserved g t c =
     record {
       gathered = rw put.behind (next (λ x. body_seen (g.K.Keep.text_said c.args.m.now) (g.K.Keep.bytes_said c.args.m.now) x) _ (body c.args.level) _ _ _ put.one c.bodies.invariant.gathered (one_more (body c.args.level) _ _ _ put.read) (body_takes c.args.level));
       rests = rw put.behind (together (λ n x. body_seen (g.K.Keep.text_said n) (g.K.Keep.bytes_said n) x) _ _ _ _ (c.in-Ok.ensures.ahead.0) c.bodies.invariant.rests put.rests);
-      ahead = omega (arith, c.bodies.invariant.ahead, c.in-Ok.ensures.ahead);
+      ahead = le_trans c.bodies.invariant.ahead c.in-Ok.ensures.ahead.0;
       within = c.in-Ok.ensures.ahead.1;
     }
 
@@ -184,3 +185,21 @@ some_bodies-returns-in_default g t c =
       ahead = tt;
       rests = tt;
     }
+
+pub body_type_msg-returns-5-clause-ahead : goal.body_type_msg-returns-5-clause-ahead
+body_type_msg-returns-5-clause-ahead g t c =
+    (le_trans c.in_ok-p.ensures.ahead.0 (le_trans c.in_ok-p-2.ensures.ahead.0 (le_trans c.in-Ok-made.ensures.ahead.0 (le_trans c.in-Ok-made-2.ensures.ahead.0 (le_trans c.in-Ok-made-3.ensures.ahead.0 c.in-Ok-made-4.ensures.ahead.0)))), c.in-Ok-made-4.ensures.ahead.1)
+
+pub body_type_mpart-returns-3-clause-ahead : goal.body_type_mpart-returns-3-clause-ahead
+body_type_mpart-returns-3-clause-ahead g t c =
+    (le_trans c.in_ok-p.ensures.ahead.0 (le_trans c.in-Ok-made.ensures.ahead.0 c.in-Ok-made-2.ensures.ahead.0), c.in-Ok-made-2.ensures.ahead.1)
+
+pub bracketed_body-returns-in-Ok-clause-ahead : goal.bracketed_body-returns-in-Ok-clause-ahead
+bracketed_body-returns-in-Ok-clause-ahead g t c =
+    (le_trans c.in_ok-p.ensures.inside.0.0 (le_trans c.in_ok-p.ensures.inside.0.1 (le_trans c.in_ok-p.ensures.inside.0.2 (le_trans c.in_ok-p-2.ensures.ahead.0 (le_trans c.in-Ok.ensures.inside.0.0 (le_trans c.in-Ok.ensures.inside.0.1 c.in-Ok.ensures.inside.0.2))))), c.in-Ok.ensures.inside.1)
+
+pub some_bodies-returns-in-Error-clause-ahead : goal.some_bodies-returns-in-Error-clause-ahead
+some_bodies-returns-in-Error-clause-ahead g t c = (c.bodies.invariant.ahead, c.bodies.invariant.within)
+
+pub one_body-returns-2-clause-ahead : goal.one_body-returns-2-clause-ahead
+one_body-returns-2-clause-ahead g t c = c.in-Ok-made.ensures.ahead

@@ -1,4 +1,5 @@
-use Rattle.std.proofs.Common.{arith, ◌≤◌, refl, sym}
+use Rattle.std.proofs.Common.{◌≤◌, refl, sym}
+use Rattle.std.proofs.Math.Nat.{le_trans}
 use Rattle.imap_grammar.proofs.Positions.{rests_more}
 use Rattle.imap_envelopes.proofs.Keeping.{kept_rests}
 use Rattle.imap_structure.proofs.Reading.{basic_rests, basic_reads}
@@ -7,9 +8,9 @@ use Rattle.imap_structure.proofs.at.bodies.body_type_basic.Goals as goal
 pub returns-2-clause-puts : goal.returns-2-clause-puts
 returns-2-clause-puts g c =
     let q = c.in-Ok-made.field-0.0 in
-    let e3 : c.in_ok-p-3.p ≤ q = omega (arith, c.in-Ok-made.ensures.ahead) in
-    let e2 : c.in_ok-p-2.p ≤ q = omega (arith, e3, c.in_ok-p-3.ensures.ahead) in
-    let e1 : c.in_ok-p.p ≤ q = omega (arith, e2, c.in_ok-p-2.ensures.ahead) in
+    let e3 : c.in_ok-p-3.p ≤ q = c.in-Ok-made.ensures.ahead.0 in
+    let e2 : c.in_ok-p-2.p ≤ q = le_trans c.in_ok-p-3.ensures.ahead.0 e3 in
+    let e1 : c.in_ok-p.p ≤ q = le_trans c.in_ok-p-2.ensures.ahead.0 e2 in
     let ty = kept_rests _ _ _ _ _ _ c.in_ok-ty.ensures (rests_more q e1 c.in_ok-p.ensures.rests) in
     let subtype = kept_rests _ _ _ _ _ _ c.in_ok-subtype.ensures (rests_more q e2 c.in_ok-p-2.ensures.rests) in
     record {
@@ -18,3 +19,7 @@ returns-2-clause-puts g c =
       read = basic_reads _ _ _ _ _ _ _ _ _ _ _ (rw (sym c.in_ok-ty.ensures.is) at c.in_ok-p.ensures.steps) (rw (sym c.in_ok-subtype.ensures.is) at c.in_ok-p-2.ensures.steps) c.in_ok-p-3.ensures.steps c.in-Ok-made.ensures.steps;
       rests = basic_rests _ _ q _ _ _ _ ty subtype (rests_more q e3 c.in_ok-p-3.ensures.rests) c.in-Ok-made.ensures.rests;
     }
+
+pub returns-2-clause-ahead : goal.returns-2-clause-ahead
+returns-2-clause-ahead g c =
+    (le_trans c.in_ok-p.ensures.ahead.0 (le_trans c.in_ok-p-2.ensures.ahead.0 (le_trans c.in_ok-p-3.ensures.ahead.0 c.in-Ok-made.ensures.ahead.0)), c.in-Ok-made.ensures.ahead.1)

@@ -1,4 +1,5 @@
 use Rattle.std.proofs.Common.{refl, sym, subst, drop, arith, ◌<◌}
+use Rattle.std.proofs.Math.Nat.{le_trans}
 use Rattle.std.proofs.lemmas.Result.{err_from_is_err_and}
 use Rattle.imap_grammar.specs.Positions.{GivesAt}
 use Rattle.imap_grammar.proofs.Positions.{rests_more}
@@ -47,7 +48,7 @@ some_extensions-extensions-preserved g t c =
     record {
       gathered = rw c.in_ok-push-in-Some.ensures.items (next (λ x. extension_seen (g.K.Keep.text_said c.args.m.now) x) _ more _ _ _ c.in-Some.extension c.extensions.invariant.gathered (rw c.in-Some.is at c.in_ok-after.ensures.steps) refl);
       rests = rw c.in_ok-push-in-Some.ensures.items (together (λ n x. extension_seen (g.K.Keep.text_said n) x) _ _ _ _ (c.in_ok-after.ensures.ahead.0) c.extensions.invariant.rests (itself_rests (λ n x. extension_seen (g.K.Keep.text_said n) x) _ _ (rw c.in-Some.is at c.in_ok-after.ensures.rests)));
-      ahead = omega (arith, c.extensions.invariant.ahead, c.in_ok-after.ensures.ahead);
+      ahead = le_trans c.extensions.invariant.ahead c.in_ok-after.ensures.ahead.0;
       within = c.in_ok-after.ensures.ahead.1;
     }
 
@@ -63,3 +64,7 @@ unfolding some_extensions
 some_extensions-returns-in_err-after-clause-steps g t c =
     let p = err_from_is_err_and c.from_residual-in_err-after.result c.from_residual-in_err-after.ensures.1 in
     rw (p.1, p.2) (halted _ (spaced (extension_over (extension_list c.args.level))) _ _ c.in_err-after.field-0.0 c.extensions.invariant.gathered c.in_err-after.ensures.steps)
+
+pub bracketed_extensions-returns-clause-ahead : goal.bracketed_extensions-returns-clause-ahead
+bracketed_extensions-returns-clause-ahead g t c =
+    (le_trans c.in_ok-p.ensures.inside.0.0 (le_trans c.in_ok-p.ensures.inside.0.1 (le_trans c.in_ok-p.ensures.inside.0.2 (le_trans c.in_ok-p-2.ensures.ahead.0 (le_trans c.in_ok-p-3.ensures.inside.0.0 (le_trans c.in_ok-p-3.ensures.inside.0.1 (le_trans c.in_ok-p-3.ensures.inside.0.2 (le_trans c.in_ok-p-4.ensures.inside.0.0 (le_trans c.in_ok-p-4.ensures.inside.0.1 c.in_ok-p-4.ensures.inside.0.2)))))))), c.in_ok-p-4.ensures.inside.1)

@@ -1,4 +1,5 @@
-use Rattle.std.proofs.Common.{refl, arith, ◌≤◌}
+use Rattle.std.proofs.Common.{refl, ◌≤◌}
+use Rattle.std.proofs.Math.Nat.{le_trans}
 use Rattle.imap_grammar.proofs.Positions.{rests_more}
 use Rattle.imap_envelopes.proofs.Keeping.{kept_rests}
 use Rattle.imap_shapes.specs.ExtensionValues.{ext_1part_seen}
@@ -9,10 +10,10 @@ pub returns-clause-rests : goal.returns-clause-rests
 unfolding ext_1part_seen
 returns-clause-rests g c =
     let q = c.in_ok-p-5.p in
-    let e4 : c.in_ok-p-4.p ≤ q = omega (arith, c.in_ok-p-5.ensures.ahead) in
-    let e3 : c.in_ok-p-3.p ≤ q = omega (arith, e4, c.in_ok-p-4.ensures.ahead) in
-    let e2 : c.in_ok-p-2.p ≤ q = omega (arith, e3, c.in_ok-p-3.ensures.ahead) in
-    let e1 : c.in_ok-p.p ≤ q = omega (arith, e2, c.in_ok-p-2.ensures.ahead) in
+    let e4 : c.in_ok-p-4.p ≤ q = c.in_ok-p-5.ensures.ahead.0 in
+    let e3 : c.in_ok-p-3.p ≤ q = le_trans c.in_ok-p-4.ensures.ahead.0 e4 in
+    let e2 : c.in_ok-p-2.p ≤ q = le_trans c.in_ok-p-3.ensures.ahead.0 e3 in
+    let e1 : c.in_ok-p.p ≤ q = le_trans c.in_ok-p-2.ensures.ahead.0 e2 in
     let md5 = kept_rests _ _ _ _ _ _ c.in_ok-kept_text.ensures (rests_more q e1 c.in_ok-p.ensures.rests) in
     let disposition = rests_more q e2 c.in_ok-p-2.ensures.rests in
     let language = rests_more q e3 c.in_ok-p-3.ensures.rests in
@@ -23,3 +24,7 @@ pub returns-clause-steps : goal.returns-clause-steps
 unfolding body_ext_1part ext_1part_seen
 returns-clause-steps g c =
     rw (c.in_ok-p.ensures.steps, c.in_ok-p-2.ensures.steps, c.in_ok-p-3.ensures.steps, c.in_ok-p-4.ensures.steps, c.in_ok-p-5.ensures.steps, c.in_ok-kept_text.ensures.is, c.in_ok-kept_text-2.ensures.is) refl
+
+pub returns-clause-ahead : goal.returns-clause-ahead
+returns-clause-ahead g c =
+    (le_trans c.in_ok-p.ensures.ahead.0 (le_trans c.in_ok-p-2.ensures.ahead.0 (le_trans c.in_ok-p-3.ensures.ahead.0 (le_trans c.in_ok-p-4.ensures.ahead.0 c.in_ok-p-5.ensures.ahead.0))), c.in_ok-p-5.ensures.ahead.1)

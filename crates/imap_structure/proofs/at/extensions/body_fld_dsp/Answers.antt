@@ -1,4 +1,5 @@
 use Rattle.std.proofs.Common.{refl, arith, ◌≤◌}
+use Rattle.std.proofs.Math.Nat.{le_trans}
 use Rattle.imap_grammar.proofs.Positions.{rests_more}
 use Rattle.imap_envelopes.proofs.Keeping.{kept_rests}
 use Rattle.imap_structure.proofs.at.extensions.body_fld_dsp.Goals as goal
@@ -10,7 +11,11 @@ pub returns-3-clause-rests : goal.returns-3-clause-rests
 returns-3-clause-rests g c =
     let q = c.in_ok-q-4.q in
     let e3 : c.in_ok-q-3.q ≤ q = omega (arith, c.in_ok-q-4.ensures.inside) in
-    let e2 : c.in_ok-q-2.q ≤ q = omega (arith, e3, c.in_ok-q-3.ensures.ahead) in
+    let e2 : c.in_ok-q-2.q ≤ q = le_trans c.in_ok-q-3.ensures.ahead.0 e3 in
     let ty = kept_rests _ _ _ _ _ _ c.in_ok-ty.ensures (rests_more q e2 c.in_ok-q-2.ensures.rests) in
     let params = rests_more q e3 c.in_ok-q-3.ensures.rests in
     record { same = λ m. rw (ty.same m, params.same m) refl }
+
+pub returns-3-clause-ahead : goal.returns-3-clause-ahead
+returns-3-clause-ahead g c =
+    (le_trans c.in_ok-q.ensures.inside.0.0 (le_trans c.in_ok-q.ensures.inside.0.1 (le_trans c.in_ok-q.ensures.inside.0.2 (le_trans c.in_ok-q-2.ensures.ahead.0 (le_trans c.in_ok-q-3.ensures.ahead.0 (le_trans c.in_ok-q-4.ensures.inside.0.0 (le_trans c.in_ok-q-4.ensures.inside.0.1 c.in_ok-q-4.ensures.inside.0.2)))))), c.in_ok-q-4.ensures.inside.1)

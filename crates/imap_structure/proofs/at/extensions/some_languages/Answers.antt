@@ -1,4 +1,5 @@
 use Rattle.std.proofs.Common.{refl, arith, ◌<◌}
+use Rattle.std.proofs.Math.Nat.{le_trans}
 use Rattle.std.proofs.lemmas.Result.{err_from_is_err_and}
 use Rattle.imap_grammar.proofs.Agreement.{stops}
 use Rattle.imap_envelopes.specs.Envelopes.{spaced}
@@ -31,7 +32,7 @@ languages-preserved g c =
     record {
       gathered = rw c.in_ok-push-in-Some.ensures.items (next (λ x. g.K.Keep.text_said c.args.m.now x) _ (spaced string_utf8) _ _ _ kept.field-0 c.languages.invariant.gathered (rw kept.ensures.is steps) refl);
       rests = rw c.in_ok-push-in-Some.ensures.items (together g.K.Keep.text_said _ _ _ _ (c.in_ok-after.ensures.ahead.0) c.languages.invariant.rests rests);
-      ahead = omega (arith, c.languages.invariant.ahead, c.in_ok-after.ensures.ahead);
+      ahead = le_trans c.languages.invariant.ahead c.in_ok-after.ensures.ahead.0;
       within = c.in_ok-after.ensures.ahead.1;
     }
 

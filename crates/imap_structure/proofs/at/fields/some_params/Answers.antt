@@ -1,4 +1,5 @@
 use Rattle.std.proofs.Common.{refl, arith, ◌<◌}
+use Rattle.std.proofs.Math.Nat.{le_trans}
 use Rattle.std.proofs.lemmas.Result.{err_from_is_err_and}
 use Rattle.imap_grammar.proofs.Agreement.{stops}
 use Rattle.imap_envelopes.specs.Envelopes.{spaced}
@@ -31,7 +32,7 @@ params-preserved g c =
     record {
       gathered = rw c.in_ok-push-in-Some.ensures.items (next (λ x. pair_seen (g.K.Keep.text_said c.args.m.now) x) _ (spaced body_param) _ _ _ kept.field-0 c.params.invariant.gathered (rw kept.ensures.is steps) refl);
       rests = rw c.in_ok-push-in-Some.ensures.items (together (λ n x. pair_seen (g.K.Keep.text_said n) x) _ _ _ _ (c.in_ok-after.ensures.ahead.0) c.params.invariant.rests rests);
-      ahead = omega (arith, c.params.invariant.ahead, c.in_ok-after.ensures.ahead);
+      ahead = le_trans c.params.invariant.ahead c.in_ok-after.ensures.ahead.0;
       within = c.in_ok-after.ensures.ahead.1;
     }
 

@@ -1,6 +1,10 @@
-use Rattle.std.proofs.Common.{rules}
+use Rattle.std.proofs.Common.{refl}
 use Rattle.imap_command.proofs.NextStates.{fetches_attributes}
 use Rattle.imap_command.proofs.fetching.attributes.FetchCommand+Attributes.into_command.Goals as goal
 
 pub returns : goal.returns
-returns c = search (rules, fetches_attributes) depth 3
+returns c calls at was =
+    record {
+      text = rw (c.in_ok-closed.ensures, at, was) refl;
+      next_state = rw (fetches_attributes calls at) refl;
+    }

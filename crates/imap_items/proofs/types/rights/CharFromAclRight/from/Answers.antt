@@ -1,5 +1,5 @@
-use Rattle.std.proofs.Common.{rules}
+use Rattle.std.proofs.Common.{refl}
 use Rattle.imap_items.proofs.types.rights.CharFromAclRight.from.Goals as goal
 
 pub returns-in-Custom : goal.returns-in-Custom
-returns-in-Custom c = search rules depth 2
+returns-in-Custom c = rw (c.in-Custom.is) refl
