@@ -1,5 +1,4 @@
 use Rattle.std.proofs.Common.{refl}
-use Rattle.std.proofs.Math.Nat.{le_trans}
 use Rattle.std.proofs.lemmas.Result.{err_from_is_err_and}
 use Rattle.imap_items.specs.Gmail.{gmail_thrid}
 use Rattle.imap_body.specs.Attributes.{msg_att_gmail_thrid}
@@ -20,7 +19,3 @@ unfolding msg_att_gmail_thrid gmail_thrid
 returns-in_err-p-2-clause-steps g c =
     let r = err_from_is_err_and c.from_residual-in_err-p-2.result c.from_residual-in_err-p-2.ensures.1 in
     rw (r.1, r.2, c.in_ok-p.ensures.steps, c.in_err-p-2.ensures.steps) refl
-
-pub returns-clause-ahead : goal.returns-clause-ahead
-returns-clause-ahead g c =
-    (le_trans c.in_ok-p.ensures.inside.0.0 (le_trans c.in_ok-p.ensures.inside.0.1 (le_trans c.in_ok-p.ensures.inside.0.2 c.in_ok-p-2.ensures.ahead.0)), c.in_ok-p-2.ensures.ahead.1)

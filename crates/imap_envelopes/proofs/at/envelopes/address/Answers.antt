@@ -15,7 +15,3 @@ returns-clause-rests c =
     let mailbox = rests_more q e4 c.in_ok-p-4.ensures.rests in
     let host = rests_more q e5 c.in_ok-p-5.ensures.rests in
     record { same = λ m. rw (name.same m, adl.same m, mailbox.same m, host.same m) refl }
-
-pub returns-clause-ahead : goal.returns-clause-ahead
-returns-clause-ahead c =
-    (le_trans c.in_ok-p.ensures.inside.0.0 (le_trans c.in_ok-p.ensures.inside.0.1 (le_trans c.in_ok-p.ensures.inside.0.2 (le_trans c.in_ok-p-2.ensures.ahead.0 (le_trans c.in_ok-p-3.ensures.ahead.0 (le_trans c.in_ok-p-4.ensures.ahead.0 (le_trans c.in_ok-p-5.ensures.ahead.0 (le_trans c.in_ok-p-6.ensures.inside.0.0 (le_trans c.in_ok-p-6.ensures.inside.0.1 c.in_ok-p-6.ensures.inside.0.2)))))))), c.in_ok-p-6.ensures.inside.1)

@@ -1,5 +1,4 @@
 use Rattle.std.proofs.Common.{refl, arith}
-use Rattle.std.proofs.Math.Nat.{le_trans}
 use Rattle.imap_grammar.proofs.Positions.{rests_more}
 use Rattle.imap_shapes.specs.EnvelopeValues.{address_seen}
 use Rattle.imap_envelopes.proofs.Naming.{listed_rest}
@@ -10,7 +9,3 @@ returns-clause-rests g c = record { same = λ n. refl }
 
 pub returns-3-clause-rests : goal.returns-3-clause-rests
 returns-3-clause-rests g c = listed_rest (λ n x. address_seen (g.K.Keep.bytes_said n) x) _ _ (rests_more _ (omega (arith, c.in_ok-q-3.ensures.inside)) c.in_ok-q-2.ensures.rests)
-
-pub returns-3-clause-ahead : goal.returns-3-clause-ahead
-returns-3-clause-ahead g c =
-    (le_trans c.in_ok-q.ensures.inside.0.0 (le_trans c.in_ok-q.ensures.inside.0.1 (le_trans c.in_ok-q.ensures.inside.0.2 (le_trans c.in_ok-q-2.ensures.ahead.0 (le_trans c.in_ok-q-3.ensures.inside.0.0 (le_trans c.in_ok-q-3.ensures.inside.0.1 c.in_ok-q-3.ensures.inside.0.2))))), c.in_ok-q-3.ensures.inside.1)

@@ -110,7 +110,3 @@ unfolding envelope
 returns-in_err-p-12-clause-steps g c =
     let r = err_from_is_err_and c.from_residual-in_err-p-12.result c.from_residual-in_err-p-12.ensures.1 in
     rw (r.1, r.2) (stops _ _ (rw (c.in_ok-p.ensures.steps, c.in_ok-p-2.ensures.steps, c.in_ok-p-3.ensures.steps, c.in_ok-p-4.ensures.steps, c.in_ok-p-5.ensures.steps, c.in_ok-p-6.ensures.steps, c.in_ok-p-7.ensures.steps, c.in_ok-p-8.ensures.steps, c.in_ok-p-9.ensures.steps, c.in_ok-p-10.ensures.steps, c.in_ok-p-11.ensures.steps, c.in_err-p-12.ensures.steps) refl))
-
-pub returns-clause-ahead : goal.returns-clause-ahead
-returns-clause-ahead g c =
-    (le_trans c.in_ok-p.ensures.inside.0.0 (le_trans c.in_ok-p.ensures.inside.0.1 (le_trans c.in_ok-p.ensures.inside.0.2 (le_trans c.in_ok-p-2.ensures.ahead.0 (le_trans c.in_ok-p-3.ensures.ahead.0 (le_trans c.in_ok-p-4.ensures.ahead.0 (le_trans c.in_ok-p-5.ensures.ahead.0 (le_trans c.in_ok-p-6.ensures.ahead.0 (le_trans c.in_ok-p-7.ensures.ahead.0 (le_trans c.in_ok-p-8.ensures.ahead.0 (le_trans c.in_ok-p-9.ensures.ahead.0 (le_trans c.in_ok-p-10.ensures.ahead.0 (le_trans c.in_ok-p-11.ensures.ahead.0 (le_trans c.in_ok-p-12.ensures.inside.0.0 (le_trans c.in_ok-p-12.ensures.inside.0.1 c.in_ok-p-12.ensures.inside.0.2)))))))))))))), c.in_ok-p-12.ensures.inside.1)

@@ -186,18 +186,6 @@ some_bodies-returns-in_default g t c =
       rests = tt;
     }
 
-pub body_type_msg-returns-5-clause-ahead : goal.body_type_msg-returns-5-clause-ahead
-body_type_msg-returns-5-clause-ahead g t c =
-    (le_trans c.in_ok-p.ensures.ahead.0 (le_trans c.in_ok-p-2.ensures.ahead.0 (le_trans c.in-Ok-made.ensures.ahead.0 (le_trans c.in-Ok-made-2.ensures.ahead.0 (le_trans c.in-Ok-made-3.ensures.ahead.0 c.in-Ok-made-4.ensures.ahead.0)))), c.in-Ok-made-4.ensures.ahead.1)
-
-pub body_type_mpart-returns-3-clause-ahead : goal.body_type_mpart-returns-3-clause-ahead
-body_type_mpart-returns-3-clause-ahead g t c =
-    (le_trans c.in_ok-p.ensures.ahead.0 (le_trans c.in-Ok-made.ensures.ahead.0 c.in-Ok-made-2.ensures.ahead.0), c.in-Ok-made-2.ensures.ahead.1)
-
-pub bracketed_body-returns-in-Ok-clause-ahead : goal.bracketed_body-returns-in-Ok-clause-ahead
-bracketed_body-returns-in-Ok-clause-ahead g t c =
-    (le_trans c.in_ok-p.ensures.inside.0.0 (le_trans c.in_ok-p.ensures.inside.0.1 (le_trans c.in_ok-p.ensures.inside.0.2 (le_trans c.in_ok-p-2.ensures.ahead.0 (le_trans c.in-Ok.ensures.inside.0.0 (le_trans c.in-Ok.ensures.inside.0.1 c.in-Ok.ensures.inside.0.2))))), c.in-Ok.ensures.inside.1)
-
 pub some_bodies-returns-in-Error-clause-ahead : goal.some_bodies-returns-in-Error-clause-ahead
 some_bodies-returns-in-Error-clause-ahead g t c = (c.bodies.invariant.ahead, c.bodies.invariant.within)
 

@@ -19,7 +19,3 @@ returns-2-clause-puts g c =
       read = basic_reads _ _ _ _ _ _ _ _ _ _ _ (rw (sym c.in_ok-ty.ensures.is) at c.in_ok-p.ensures.steps) (rw (sym c.in_ok-subtype.ensures.is) at c.in_ok-p-2.ensures.steps) c.in_ok-p-3.ensures.steps c.in-Ok-made.ensures.steps;
       rests = basic_rests _ _ q _ _ _ _ ty subtype (rests_more q e3 c.in_ok-p-3.ensures.rests) c.in-Ok-made.ensures.rests;
     }
-
-pub returns-2-clause-ahead : goal.returns-2-clause-ahead
-returns-2-clause-ahead g c =
-    (le_trans c.in_ok-p.ensures.ahead.0 (le_trans c.in_ok-p-2.ensures.ahead.0 (le_trans c.in_ok-p-3.ensures.ahead.0 c.in-Ok-made.ensures.ahead.0)), c.in-Ok-made.ensures.ahead.1)

@@ -19,7 +19,3 @@ returns-3-clause-puts g c =
       read = text_reads _ _ _ _ _ _ _ _ _ _ _ _ _ _ c.in_ok-ty.ensures.is c.in_ok-p.ensures.steps (rw c.in_ok-subtype.ensures.is c.in_ok-p-2.ensures.steps) c.in_ok-p-3.ensures.steps c.in-Ok-made.ensures.steps c.in-Ok-made-2.ensures.steps;
       rests = text_rests _ _ q _ _ _ _ _ ty subtype (rests_more q e3 c.in_ok-p-3.ensures.rests) c.in-Ok-made-2.ensures.rests;
     }
-
-pub returns-3-clause-ahead : goal.returns-3-clause-ahead
-returns-3-clause-ahead g c =
-    (le_trans c.in_ok-p.ensures.inside.0.0 (le_trans c.in_ok-p.ensures.inside.0.1 (le_trans c.in_ok-p.ensures.inside.0.2 (le_trans c.in_ok-p-2.ensures.ahead.0 (le_trans c.in_ok-p-3.ensures.ahead.0 (le_trans c.in-Ok-made.ensures.ahead.0 c.in-Ok-made-2.ensures.ahead.0))))), c.in-Ok-made-2.ensures.ahead.1)

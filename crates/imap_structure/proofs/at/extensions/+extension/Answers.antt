@@ -64,7 +64,3 @@ unfolding some_extensions
 some_extensions-returns-in_err-after-clause-steps g t c =
     let p = err_from_is_err_and c.from_residual-in_err-after.result c.from_residual-in_err-after.ensures.1 in
     rw (p.1, p.2) (halted _ (spaced (extension_over (extension_list c.args.level))) _ _ c.in_err-after.field-0.0 c.extensions.invariant.gathered c.in_err-after.ensures.steps)
-
-pub bracketed_extensions-returns-clause-ahead : goal.bracketed_extensions-returns-clause-ahead
-bracketed_extensions-returns-clause-ahead g t c =
-    (le_trans c.in_ok-p.ensures.inside.0.0 (le_trans c.in_ok-p.ensures.inside.0.1 (le_trans c.in_ok-p.ensures.inside.0.2 (le_trans c.in_ok-p-2.ensures.ahead.0 (le_trans c.in_ok-p-3.ensures.inside.0.0 (le_trans c.in_ok-p-3.ensures.inside.0.1 (le_trans c.in_ok-p-3.ensures.inside.0.2 (le_trans c.in_ok-p-4.ensures.inside.0.0 (le_trans c.in_ok-p-4.ensures.inside.0.1 c.in_ok-p-4.ensures.inside.0.2)))))))), c.in_ok-p-4.ensures.inside.1)

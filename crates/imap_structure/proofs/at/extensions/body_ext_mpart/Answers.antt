@@ -24,7 +24,3 @@ pub returns-clause-steps : goal.returns-clause-steps
 unfolding body_ext_mpart ext_mpart_seen
 returns-clause-steps g c =
     rw (c.in_ok-p.ensures.steps, c.in_ok-p-2.ensures.steps, c.in_ok-p-3.ensures.steps, c.in_ok-p-4.ensures.steps, c.in_ok-p-5.ensures.steps, c.in_ok-kept_text.ensures.is) refl
-
-pub returns-clause-ahead : goal.returns-clause-ahead
-returns-clause-ahead g c =
-    (le_trans c.in_ok-p.ensures.ahead.0 (le_trans c.in_ok-p-2.ensures.ahead.0 (le_trans c.in_ok-p-3.ensures.ahead.0 (le_trans c.in_ok-p-4.ensures.ahead.0 c.in_ok-p-5.ensures.ahead.0))), c.in_ok-p-5.ensures.ahead.1)

@@ -15,7 +15,3 @@ returns-3-clause-rests g c =
     let ty = kept_rests _ _ _ _ _ _ c.in_ok-ty.ensures (rests_more q e2 c.in_ok-q-2.ensures.rests) in
     let params = rests_more q e3 c.in_ok-q-3.ensures.rests in
     record { same = λ m. rw (ty.same m, params.same m) refl }
-
-pub returns-3-clause-ahead : goal.returns-3-clause-ahead
-returns-3-clause-ahead g c =
-    (le_trans c.in_ok-q.ensures.inside.0.0 (le_trans c.in_ok-q.ensures.inside.0.1 (le_trans c.in_ok-q.ensures.inside.0.2 (le_trans c.in_ok-q-2.ensures.ahead.0 (le_trans c.in_ok-q-3.ensures.ahead.0 (le_trans c.in_ok-q-4.ensures.inside.0.0 (le_trans c.in_ok-q-4.ensures.inside.0.1 c.in_ok-q-4.ensures.inside.0.2)))))), c.in_ok-q-4.ensures.inside.1)

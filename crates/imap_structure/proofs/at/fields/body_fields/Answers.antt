@@ -24,11 +24,3 @@ pub returns-clause-steps : goal.returns-clause-steps
 unfolding body_fields fields_seen
 returns-clause-steps g c =
     rw (c.in_ok-p.ensures.steps, c.in_ok-p-2.ensures.steps, c.in_ok-p-3.ensures.steps, c.in_ok-p-4.ensures.steps, c.in_ok-p-5.ensures.steps, c.in_ok-kept_text.ensures.is, c.in_ok-kept_text-2.ensures.is, c.in_ok-kept_encoding.ensures.is) refl
-
-pub returns-clause-ahead : goal.returns-clause-ahead
-returns-clause-ahead g c =
-    let e4 : c.in_ok-p-4.p ≤ c.in_ok-p-5.p = c.in_ok-p-5.ensures.ahead.0 in
-    let e3 : c.in_ok-p-3.p ≤ c.in_ok-p-5.p = le_trans c.in_ok-p-4.ensures.ahead.0 e4 in
-    let e2 : c.in_ok-p-2.p ≤ c.in_ok-p-5.p = le_trans c.in_ok-p-3.ensures.ahead.0 e3 in
-    let e1 : c.in_ok-p.p ≤ c.in_ok-p-5.p = le_trans c.in_ok-p-2.ensures.ahead.0 e2 in
-    (le_trans c.in_ok-p.ensures.ahead.0 e1, c.in_ok-p-5.ensures.ahead.1)

@@ -1,5 +1,4 @@
 use Rattle.std.proofs.Common.{refl}
-use Rattle.std.proofs.Math.Nat.{le_trans}
 use Rattle.imap_grammar.proofs.Positions.{rests_more}
 use Rattle.imap_structure.proofs.at.fields.param.Goals as goal
 
@@ -7,7 +6,3 @@ pub returns-clause-rests : goal.returns-clause-rests
 returns-clause-rests c =
     let key = rests_more c.in_ok-p-2.p c.in_ok-p-2.ensures.ahead.0 c.in_ok-p.ensures.rests in
     record { same = λ m. rw (key.same m, c.in_ok-p-2.ensures.rests.same m) refl }
-
-pub returns-clause-ahead : goal.returns-clause-ahead
-returns-clause-ahead c =
-    (le_trans c.in_ok-p.ensures.ahead.0 c.in_ok-p-2.ensures.ahead.0, c.in_ok-p-2.ensures.ahead.1)
