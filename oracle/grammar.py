@@ -507,12 +507,12 @@ def extension_list(level):
 EXTENSIONS = ["first", "disposition", "language", "location", "extension"]
 
 
-def extension_data(first, none):
+def extension_data(first):
     """The fields behind the others: each after a space, and left out with it where it is denied."""
     return mapped(
         lambda v: dict(zip(EXTENSIONS, v)),
         sequence(
-            mapped(lambda found: found or none, maybe(spaced(first))),
+            mapped(lambda found: found or "None", maybe(spaced(first))),
             mapped(lambda found: maybe_shown(itself, found), maybe(spaced(disposition))),
             mapped(lambda found: maybe_shown(shown_texts, found), maybe(spaced(language))),
             mapped(maybe_text, maybe(spaced(nstring_utf8))),
@@ -521,8 +521,8 @@ def extension_data(first, none):
     )
 
 
-ext_1part = extension_data(shown_nstring_utf8, "None")
-ext_mpart = extension_data(param, "None")
+ext_1part = extension_data(shown_nstring_utf8)
+ext_mpart = extension_data(param)
 
 
 def common(ty, subtype, params, ext):
