@@ -82,7 +82,7 @@ fn has_revision(items: &[Capability<'_>]) -> bool
     items.iter().any(|c| is_revision(c))
 }
 
-#[tactic(auto, using(crate::proofs::Capabilities::any_of_values), unfolding(crate::specs::Capabilities::capability_data))]
+#[tactic(auto, unfolding(crate::specs::Capabilities::capability_data))]
 fn with_revision(alloc: Global, i: &[u8]) -> IResult<&[u8], Vec<Capability<'_>>>
     ensures steps { Gives (λ x. map capability_value x.items) result (step capabilities.capability_data i.now) }
     ensures memory { FailsOnlyIf (BeginsWord "CAPABILITY" i.now) result }

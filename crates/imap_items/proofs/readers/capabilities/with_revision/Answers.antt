@@ -1,4 +1,4 @@
-use Rattle.std.proofs.Common.{rules, refl, ◌≡◌, true}
+use Rattle.std.proofs.Common.{rules, refl, ◌≡◌, true, false}
 use Rattle.std.specs.List.{list_any}
 use Rattle.imap_grammar.specs.Tags.{word}
 use Rattle.imap_grammar.proofs.Memory.{part_failed, holds_already, begins_word}
@@ -16,4 +16,10 @@ pub returns-clause-steps : goal.returns-clause-steps
 unfolding capability_data
 returns-clause-steps c =
     let among : list_any (λ x. is_revision (capability_value x)) c.in_ok-rest-2.items.items ≡ true = search rules in
+    rw (c.in_ok-rest.ensures.steps, c.in_ok-rest-2.ensures, any_of_values c.in_ok-rest-2.items.items, among) refl
+
+pub returns-then-not-has_revision-clause-steps : goal.returns-then-not-has_revision-clause-steps
+unfolding capability_data
+returns-then-not-has_revision-clause-steps c =
+    let among : list_any (λ x. is_revision (capability_value x)) c.in_ok-rest-2.items.items ≡ false = search rules in
     rw (c.in_ok-rest.ensures.steps, c.in_ok-rest-2.ensures, any_of_values c.in_ok-rest-2.items.items, among) refl
