@@ -5,7 +5,8 @@ use Rattle.imap_grammar.specs.Text.{Text, as_text}
 use Rattle.imap_grammar.specs.Rule.{Rule, gives, opt, some1, ◌⨾◌, ◌▹◌, ◌◃◌}
 use Rattle.imap_grammar.specs.Tags.{tag, sp}
 use Rattle.imap_bytes.specs.Strings.{nstring, nil_or}
-use Rattle.imap_shapes.specs.EnvelopeValues.{AddressValue, EnvelopeValue}
+use Rattle.imap_shapes.specs.EnvelopeValues.{AddressValue, EnvelopeValue, addresses_seen}
+use Rattle.imap_envelopes.specs.declared.at.envelopes.LastFields.{LastFields}
 
 -- SP A
 abbrev pub spaced : {A : Type 0} → Rule A → Rule A
@@ -60,3 +61,11 @@ envelope =
     ⨾ spaced addresses ⨾ spaced addresses ⨾ spaced addresses
     ⨾ spaced addresses ⨾ spaced addresses ⨾ spaced addresses
     ⨾ spaced byte_string ⨾ spaced byte_string ◃ tag ")")
+
+-- The end of an envelope, which has a reader of its own: SP env-to SP env-cc SP env-bcc SP env-in-reply-to SP env-message-id ")"
+abbrev pub last_fields : Rule (Addresses × (Addresses × (Addresses × (Option Text × Option Text))))
+last_fields = spaced addresses ⨾ spaced addresses ⨾ spaced addresses ⨾ spaced byte_string ⨾ spaced byte_string ◃ tag ")"
+
+-- What these fields say, where f is what a byte string says.
+unfoldable pub last_fields_seen : {B : Type 0} → (B → Text) → LastFields B → Addresses × (Addresses × (Addresses × (Option Text × Option Text)))
+last_fields_seen f x = (addresses_seen f x.to, (addresses_seen f x.cc, (addresses_seen f x.bcc, (option_map f x.in_reply_to, option_map f x.message_id))))

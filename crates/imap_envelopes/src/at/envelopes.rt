@@ -7,7 +7,7 @@ ghost use Rattle.imap_grammar.specs.Memory.{NeverFails};
 ghost use Rattle.imap_grammar.specs.Step.{step};
 ghost use Rattle.imap_grammar.specs.Rule.{opt};
 ghost use Rattle.imap_envelopes.specs.Envelopes as envelopes;
-ghost use Rattle.imap_envelopes.specs.Envelopes.{spaced};
+ghost use Rattle.imap_envelopes.specs.Envelopes.{spaced, last_fields_seen};
 ghost use Rattle.imap_envelopes.specs.Spanned.{address_in};
 ghost use Rattle.imap_shapes.specs.EnvelopeValues.{address_seen, addresses_seen, envelope_seen};
 
@@ -21,6 +21,16 @@ use imap_bytes::{Err, first, maybe};
 use imap_shapes::shapes::envelopes::{Address, Envelope};
 use imap_shapes::spans::Span;
 use std::alloc::Global;
+
+// The last fields of an envelope, as they are kept.
+#[derive(Drop)]
+struct LastFields<B> {
+    to: Option<Vec<Address<B>>>,
+    cc: Option<Vec<Address<B>>>,
+    bcc: Option<Vec<Address<B>>>,
+    in_reply_to: Option<B>,
+    message_id: Option<B>,
+}
 
 /// An address (RFC 3501, section 9: address). No memory.
 #[tactic(auto, unfolding(crate::specs::Envelopes::address))]
@@ -140,6 +150,40 @@ fn spaced_addresses<K: Keep>(
     addresses(keep, alloc, m, p)
 }
 
+// To whom a message went, and which message it is, up to the end of the envelope. A reader of its own, since one of all ten
+// fields takes twice as long to prove.
+#[tactic(auto, unfolding(crate::specs::Envelopes::last_fields_seen))]
+#[inline(always)]
+fn last_fields<K: Keep>(
+    keep: &K,
+    alloc: Global,
+    m: &[u8],
+    p: usize,
+) -> Reached<LastFields<K::Bytes>>
+    requires inside { p ≤ length m.now }
+    requires serves { K.serves keep.now m.now }
+    ensures steps { GivesAt (λ x. last_fields_seen (K.bytes_said m.now) x) m.now result (step envelopes.last_fields (drop p m.now)) }
+    ensures ahead { Ahead m.now p result }
+    ensures rests { RestsOn (λ n x. last_fields_seen (K.bytes_said n) x) result }
+{
+    let (p, to) = spaced_addresses(keep, alloc, m, p)?;
+    let (p, cc) = spaced_addresses(keep, alloc, m, p)?;
+    let (p, bcc) = spaced_addresses(keep, alloc, m, p)?;
+    let (p, in_reply_to) = spaced_byte_string(m, p)?;
+    let (p, message_id) = spaced_byte_string(m, p)?;
+    let (p, _) = tag(b")", m, p)?;
+    Ok((
+        p,
+        LastFields {
+            to,
+            cc,
+            bcc,
+            in_reply_to: kept_bytes(keep, m, in_reply_to),
+            message_id: kept_bytes(keep, m, message_id),
+        },
+    ))
+}
+
 /// An envelope (RFC 3501, section 9: envelope). It takes memory for its lists of addresses.
 #[tactic(auto, unfolding(crate::specs::Envelopes::envelope, imap_shapes::specs::EnvelopeValues::envelope_seen))]
 pub fn envelope<K: Keep>(keep: &K, alloc: Global, m: &[u8], p: usize) -> Reached<Envelope<K::Bytes>>
@@ -155,12 +199,7 @@ pub fn envelope<K: Keep>(keep: &K, alloc: Global, m: &[u8], p: usize) -> Reached
     let (p, from) = spaced_addresses(keep, alloc, m, p)?;
     let (p, sender) = spaced_addresses(keep, alloc, m, p)?;
     let (p, reply_to) = spaced_addresses(keep, alloc, m, p)?;
-    let (p, to) = spaced_addresses(keep, alloc, m, p)?;
-    let (p, cc) = spaced_addresses(keep, alloc, m, p)?;
-    let (p, bcc) = spaced_addresses(keep, alloc, m, p)?;
-    let (p, in_reply_to) = spaced_byte_string(m, p)?;
-    let (p, message_id) = spaced_byte_string(m, p)?;
-    let (p, _) = tag(b")", m, p)?;
+    let (p, last) = last_fields(keep, alloc, m, p)?;
     Ok((
         p,
         Envelope {
@@ -169,11 +208,11 @@ pub fn envelope<K: Keep>(keep: &K, alloc: Global, m: &[u8], p: usize) -> Reached
             from,
             sender,
             reply_to,
-            to,
-            cc,
-            bcc,
-            in_reply_to: kept_bytes(keep, m, in_reply_to),
-            message_id: kept_bytes(keep, m, message_id),
+            to: last.to,
+            cc: last.cc,
+            bcc: last.bcc,
+            in_reply_to: last.in_reply_to,
+            message_id: last.message_id,
         },
     ))
 }

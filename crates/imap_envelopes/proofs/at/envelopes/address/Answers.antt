@@ -1,6 +1,7 @@
 use Rattle.std.proofs.Common.{refl, arith, ◌≤◌}
 use Rattle.std.proofs.Math.Nat.{le_trans}
 use Rattle.imap_grammar.proofs.Positions.{rests_more}
+use Rattle.imap_envelopes.specs.Envelopes.{address}
 use Rattle.imap_envelopes.proofs.at.envelopes.address.Goals as goal
 
 pub returns-clause-rests : goal.returns-clause-rests
@@ -15,3 +16,8 @@ returns-clause-rests c =
     let mailbox = rests_more q e4 c.in_ok-p-4.ensures.rests in
     let host = rests_more q e5 c.in_ok-p-5.ensures.rests in
     record { same = λ m. rw (name.same m, adl.same m, mailbox.same m, host.same m) refl }
+
+pub returns-clause-steps : goal.returns-clause-steps
+unfolding address
+returns-clause-steps c =
+    rw (c.in_ok-p.ensures.steps, c.in_ok-p-2.ensures.steps, c.in_ok-p-3.ensures.steps, c.in_ok-p-4.ensures.steps, c.in_ok-p-5.ensures.steps, c.in_ok-p-6.ensures.steps) refl

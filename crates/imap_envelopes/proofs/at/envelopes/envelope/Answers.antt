@@ -1,23 +1,25 @@
-use Rattle.std.proofs.Common.{refl, arith, ◌≤◌}
+use Rattle.std.proofs.Common.{refl, ap, ◌≤◌, ◌≡◌}
+use Rattle.std.specs.Prelude.{Option}
 use Rattle.std.proofs.Math.Nat.{le_trans}
 use Rattle.std.proofs.lemmas.Result.{err_from_is_err_and}
+use Rattle.imap_grammar.specs.Text.{Text}
 use Rattle.imap_grammar.proofs.Positions.{rests_more}
 use Rattle.imap_grammar.proofs.Agreement.{stops, stops_with}
 use Rattle.imap_envelopes.proofs.Keeping.{kept_rests}
+use Rattle.imap_envelopes.specs.Envelopes.{Addresses, envelope, envelope_of, last_fields_seen}
 use Rattle.imap_shapes.specs.EnvelopeValues.{envelope_seen}
-use Rattle.imap_envelopes.specs.Envelopes.{envelope}
 use Rattle.imap_envelopes.proofs.at.envelopes.envelope.Goals as goal
 
+-- What is the same in front of the same last fields is the same envelope.
+same_behind : {x y : Addresses × (Addresses × (Addresses × (Option Text × Option Text)))} → (date subject : Option Text) → (from sender reply_to : Addresses)
+    → x ≡ y → envelope_of (date, (subject, (from, (sender, (reply_to, x))))) ≡ envelope_of (date, (subject, (from, (sender, (reply_to, y)))))
+same_behind date subject from sender reply_to same = ap (λ v. envelope_of (date, (subject, (from, (sender, (reply_to, v)))))) same
+
 pub returns-clause-rests : goal.returns-clause-rests
-unfolding envelope_seen
+unfolding envelope_seen last_fields_seen
 returns-clause-rests g c =
-    let q = c.in_ok-p-12.p in
-    let e11 : c.in_ok-p-11.p ≤ q = omega (arith, c.in_ok-p-12.ensures.inside) in
-    let e10 : c.in_ok-p-10.p ≤ q = le_trans c.in_ok-p-11.ensures.ahead.0 e11 in
-    let e9 : c.in_ok-p-9.p ≤ q = le_trans c.in_ok-p-10.ensures.ahead.0 e10 in
-    let e8 : c.in_ok-p-8.p ≤ q = le_trans c.in_ok-p-9.ensures.ahead.0 e9 in
-    let e7 : c.in_ok-p-7.p ≤ q = le_trans c.in_ok-p-8.ensures.ahead.0 e8 in
-    let e6 : c.in_ok-p-6.p ≤ q = le_trans c.in_ok-p-7.ensures.ahead.0 e7 in
+    let q = c.in_ok-p-7.p in
+    let e6 : c.in_ok-p-6.p ≤ q = c.in_ok-p-7.ensures.ahead.0 in
     let e5 : c.in_ok-p-5.p ≤ q = le_trans c.in_ok-p-6.ensures.ahead.0 e6 in
     let e4 : c.in_ok-p-4.p ≤ q = le_trans c.in_ok-p-5.ensures.ahead.0 e5 in
     let e3 : c.in_ok-p-3.p ≤ q = le_trans c.in_ok-p-4.ensures.ahead.0 e4 in
@@ -27,17 +29,13 @@ returns-clause-rests g c =
     let from = rests_more q e4 c.in_ok-p-4.ensures.rests in
     let sender = rests_more q e5 c.in_ok-p-5.ensures.rests in
     let reply_to = rests_more q e6 c.in_ok-p-6.ensures.rests in
-    let to = rests_more q e7 c.in_ok-p-7.ensures.rests in
-    let copies = rests_more q e8 c.in_ok-p-8.ensures.rests in
-    let bcc = rests_more q e9 c.in_ok-p-9.ensures.rests in
-    let in_reply_to = kept_rests _ _ _ _ _ _ c.kept_bytes-3.ensures (rests_more q e10 c.in_ok-p-10.ensures.rests) in
-    let message_id = kept_rests _ _ _ _ _ _ c.kept_bytes-4.ensures (rests_more q e11 c.in_ok-p-11.ensures.rests) in
-    record { same = λ m. rw (date.same m, subject.same m, from.same m, sender.same m, reply_to.same m, to.same m, copies.same m, bcc.same m, in_reply_to.same m, message_id.same m) refl }
+    let last = c.in_ok-p-7.ensures.rests in
+    record { same = λ m. rw (date.same m, subject.same m, from.same m, sender.same m, reply_to.same m) (same_behind _ _ _ _ _ (last.same m)) }
 
 pub returns-clause-steps : goal.returns-clause-steps
-unfolding envelope envelope_seen
+unfolding envelope envelope_seen last_fields_seen
 returns-clause-steps g c =
-    rw (c.in_ok-p.ensures.steps, c.in_ok-p-2.ensures.steps, c.in_ok-p-3.ensures.steps, c.in_ok-p-4.ensures.steps, c.in_ok-p-5.ensures.steps, c.in_ok-p-6.ensures.steps, c.in_ok-p-7.ensures.steps, c.in_ok-p-8.ensures.steps, c.in_ok-p-9.ensures.steps, c.in_ok-p-10.ensures.steps, c.in_ok-p-11.ensures.steps, c.in_ok-p-12.ensures.steps, c.kept_bytes.ensures.is, c.kept_bytes-2.ensures.is, c.kept_bytes-3.ensures.is, c.kept_bytes-4.ensures.is) refl
+    rw (c.in_ok-p.ensures.steps, c.in_ok-p-2.ensures.steps, c.in_ok-p-3.ensures.steps, c.in_ok-p-4.ensures.steps, c.in_ok-p-5.ensures.steps, c.in_ok-p-6.ensures.steps, c.in_ok-p-7.ensures.steps, c.kept_bytes.ensures.is, c.kept_bytes-2.ensures.is) refl
 
 pub returns-in_err-p-clause-steps : goal.returns-in_err-p-clause-steps
 unfolding envelope
@@ -80,33 +78,3 @@ unfolding envelope
 returns-in_err-p-7-clause-steps g c =
     let r = err_from_is_err_and c.from_residual-in_err-p-7.result c.from_residual-in_err-p-7.ensures.1 in
     rw (r.1, r.2) (stops_with _ _ _ c.in_err-p-7.ensures.steps (λ d h. rw (c.in_ok-p.ensures.steps, c.in_ok-p-2.ensures.steps, c.in_ok-p-3.ensures.steps, c.in_ok-p-4.ensures.steps, c.in_ok-p-5.ensures.steps, c.in_ok-p-6.ensures.steps, h) refl))
-
-pub returns-in_err-p-8-clause-steps : goal.returns-in_err-p-8-clause-steps
-unfolding envelope
-returns-in_err-p-8-clause-steps g c =
-    let r = err_from_is_err_and c.from_residual-in_err-p-8.result c.from_residual-in_err-p-8.ensures.1 in
-    rw (r.1, r.2) (stops_with _ _ _ c.in_err-p-8.ensures.steps (λ d h. rw (c.in_ok-p.ensures.steps, c.in_ok-p-2.ensures.steps, c.in_ok-p-3.ensures.steps, c.in_ok-p-4.ensures.steps, c.in_ok-p-5.ensures.steps, c.in_ok-p-6.ensures.steps, c.in_ok-p-7.ensures.steps, h) refl))
-
-pub returns-in_err-p-9-clause-steps : goal.returns-in_err-p-9-clause-steps
-unfolding envelope
-returns-in_err-p-9-clause-steps g c =
-    let r = err_from_is_err_and c.from_residual-in_err-p-9.result c.from_residual-in_err-p-9.ensures.1 in
-    rw (r.1, r.2) (stops_with _ _ _ c.in_err-p-9.ensures.steps (λ d h. rw (c.in_ok-p.ensures.steps, c.in_ok-p-2.ensures.steps, c.in_ok-p-3.ensures.steps, c.in_ok-p-4.ensures.steps, c.in_ok-p-5.ensures.steps, c.in_ok-p-6.ensures.steps, c.in_ok-p-7.ensures.steps, c.in_ok-p-8.ensures.steps, h) refl))
-
-pub returns-in_err-p-10-clause-steps : goal.returns-in_err-p-10-clause-steps
-unfolding envelope
-returns-in_err-p-10-clause-steps g c =
-    let r = err_from_is_err_and c.from_residual-in_err-p-10.result c.from_residual-in_err-p-10.ensures.1 in
-    rw (r.1, r.2) (stops _ _ (rw (c.in_ok-p.ensures.steps, c.in_ok-p-2.ensures.steps, c.in_ok-p-3.ensures.steps, c.in_ok-p-4.ensures.steps, c.in_ok-p-5.ensures.steps, c.in_ok-p-6.ensures.steps, c.in_ok-p-7.ensures.steps, c.in_ok-p-8.ensures.steps, c.in_ok-p-9.ensures.steps, c.in_err-p-10.ensures.steps) refl))
-
-pub returns-in_err-p-11-clause-steps : goal.returns-in_err-p-11-clause-steps
-unfolding envelope
-returns-in_err-p-11-clause-steps g c =
-    let r = err_from_is_err_and c.from_residual-in_err-p-11.result c.from_residual-in_err-p-11.ensures.1 in
-    rw (r.1, r.2) (stops _ _ (rw (c.in_ok-p.ensures.steps, c.in_ok-p-2.ensures.steps, c.in_ok-p-3.ensures.steps, c.in_ok-p-4.ensures.steps, c.in_ok-p-5.ensures.steps, c.in_ok-p-6.ensures.steps, c.in_ok-p-7.ensures.steps, c.in_ok-p-8.ensures.steps, c.in_ok-p-9.ensures.steps, c.in_ok-p-10.ensures.steps, c.in_err-p-11.ensures.steps) refl))
-
-pub returns-in_err-p-12-clause-steps : goal.returns-in_err-p-12-clause-steps
-unfolding envelope
-returns-in_err-p-12-clause-steps g c =
-    let r = err_from_is_err_and c.from_residual-in_err-p-12.result c.from_residual-in_err-p-12.ensures.1 in
-    rw (r.1, r.2) (stops _ _ (rw (c.in_ok-p.ensures.steps, c.in_ok-p-2.ensures.steps, c.in_ok-p-3.ensures.steps, c.in_ok-p-4.ensures.steps, c.in_ok-p-5.ensures.steps, c.in_ok-p-6.ensures.steps, c.in_ok-p-7.ensures.steps, c.in_ok-p-8.ensures.steps, c.in_ok-p-9.ensures.steps, c.in_ok-p-10.ensures.steps, c.in_ok-p-11.ensures.steps, c.in_err-p-12.ensures.steps) refl))
