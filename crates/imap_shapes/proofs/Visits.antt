@@ -1,12 +1,13 @@
 -- What a search goes over.
-use Rattle.std.proofs.Common.{◌≡◌, ℕ, List, [], ◌∷◌, refl, sym, ap, ◌∙◌, subst, map, Vec, Global, Bool, true, false, ◌||◌, nat_lt, Option, Some, drop, inl, inr, ◌+◌, ◌<◌, suc, length, get_or, arith}
+use Rattle.std.proofs.Common.{◌≡◌, ℕ, List, [], ◌∷◌, refl, sym, ap, ◌∙◌, subst, map, Vec, Global, Bool, true, false, ◌||◌, nat_lt, Option, Some, drop, inl, inr, ◌+◌, ◌<◌, ◌≤◌, suc, length, get_or, arith}
 use Rattle.std.proofs.Math.Seq.{drop-cons}
-use Rattle.std.proofs.lemmas.Bool.{lt-ltb}
+use Rattle.std.proofs.lemmas.Bool.{lt-ltb, le-ltb}
+use Rattle.std.proofs.lemmas.List.{drop_all}
 use Rattle.std.specs.declared.borrow.CowStr.{CowStr}
 use Rattle.std.specs.declared.borrow.CowSlice.{CowSlice}
 use Rattle.imap_grammar.specs.Text.{text_of}
 use Rattle.imap_shapes.specs.Spans.{bytes_of}
-use Rattle.imap_shapes.specs.BodyValues.{BodyValue, one_body, bodies_of, body_seen}
+use Rattle.imap_shapes.specs.BodyValues.{BodyValue, no_bodies, one_body, bodies_of, body_seen}
 use Rattle.imap_shapes.specs.Search.{visited, visited_from, count, too_many, too_many_in, FindsFirst}
 use Rattle.imap_shapes.specs.declared.shapes.extensions.BodyExtension.{BodyExtension}
 use Rattle.imap_shapes.specs.declared.shapes.bodies.BodyContentCommon.{BodyContentCommon}
@@ -62,6 +63,14 @@ many_here xs k x less is h = ap too_many_in (opened xs k x less is) ∙ ap (λ b
 -- more bodies than a part number can count
 pub crowded : (b : Body) (common : BodyContentCommon (CowStr Global)) (v : Vec Body Global) (last : Option (BodyExtension (CowStr Global))) → b ≡ body.Multipart common v last → 4294967295 < length v.items → too_many (body_seen text_of bytes_of b) ≡ true
 crowded b common v last is more = too_many_multipart b common v last is ∙ ap (λ x. x || too_many_in (bodies_of (map seen v.items))) (lt-ltb 4294967295 (length v.items) more)
+
+-- no more than it can count
+pub uncrowded : (b : Body) (common : BodyContentCommon (CowStr Global)) (v : Vec Body Global) (last : Option (BodyExtension (CowStr Global))) → b ≡ body.Multipart common v last → length v.items ≤ 4294967295 → too_many_in (bodies_of (map (body_seen text_of bytes_of) v.items)) ≡ too_many (body_seen text_of bytes_of b)
+uncrowded b common v last is few = sym (too_many_multipart b common v last is ∙ ap (λ x. x || too_many_in (bodies_of (map seen v.items))) (le-ltb 4294967295 (length v.items) few))
+
+-- behind the last body
+pub none_left : (xs : List Body) (k : ℕ) → length xs ≤ k → bodies_of (map (body_seen text_of bytes_of) (drop k xs)) ≡ no_bodies
+none_left xs k all = ap (λ l. bodies_of (map seen l)) (drop_all k xs all)
 
 -- ---- bodies of other kinds
 

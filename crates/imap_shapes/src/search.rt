@@ -1,6 +1,6 @@
 //! Part search: the path of the first body at which a predicate holds.
 
-ghost use Rattle.std.specs.Prelude.{◌≡◌, ◌++◌, ℕ, [], true, false, Some, map, slice_get, IfOk, OnOk, IfErr};
+ghost use Rattle.std.specs.Prelude.{◌≡◌, ◌++◌, ◌∷◌, ℕ, [], true, false, Some, map, slice_get, IfOk, OnOk, IfErr};
 ghost use Rattle.std.specs.Option.{option_map};
 ghost use Rattle.std.specs.Fn.{FnReturnsAt};
 ghost use Rattle.imap_grammar.specs.Text.{text_of};
@@ -53,6 +53,20 @@ fn copied(path: &Vec<u32>) -> Result<Vec<u32>, AllocError>
     path.clone()
 }
 
+// Puts a body at its path behind the parts.
+fn hold<'b, 'a>(
+    body: &'b BodyStructure<'a>,
+    path: &Vec<u32>,
+    parts: &mut Vec<Part<'b, 'a>>,
+) -> Result<(), AllocError>
+    ensures { OnOk result (map part_seen parts.new.items ≡ map part_seen parts.old.items ++ ((path.now.items, body_seen text_of bytes_of body.now) ∷ [])) }
+{
+    parts.reserve(1)?;
+    let path = copied(path)?;
+    parts.push_reserved(Part { path, body });
+    Ok(())
+}
+
 // Puts a body at its path, and the bodies inside it, behind the parts.
 fn visit<'b, 'a>(
     body: &'b BodyStructure<'a>,
@@ -64,10 +78,7 @@ fn visit<'b, 'a>(
     ensures few { OnOk result (too_many (body_seen text_of bytes_of body.now) ≡ false) }
     ensures many { IfErr result (λ e. e ≡ TooManyParts → too_many (body_seen text_of bytes_of body.now) ≡ true) }
 {
-    parts.push(Part {
-        path: copied(path)?,
-        body,
-    })?;
+    hold(body, path, parts)?;
     if let BodyStructure::Multipart { bodies, .. } = body {
         if bodies.len() > u32::MAX as usize {
             return Err(PartsError::TooManyParts);
@@ -120,11 +131,22 @@ impl<'b, 'a> BodyStructParser<'b, 'a> {
         requires may { (i : ℕ) (part : _) → slice_get self.now.parts.items i ≡ Some part → F.pre f part.body }
         ensures { IfOk result (λ found. FindsFirst (λ p. FnReturnsAt F.Fn f p.body.now) (λ p. p.path.items) self.now.parts.items (option_map (λ v. v.items) found)) }
     {
+        let Some(part) = self.first(f) else {
+            return Ok(None);
+        };
+        Ok(Some(copied(&part.path)?))
+    }
+
+    // The first part at whose body f holds.
+    fn first<F: Fn(&BodyStructure<'a>) -> bool>(&self, f: F) -> Option<&Part<'b, 'a>>
+        requires may { (i : ℕ) (part : _) → slice_get self.now.parts.items i ≡ Some part → F.pre f part.body }
+        ensures { FindsFirst (λ p. FnReturnsAt F.Fn f p.body.now) (λ p. p.path.items) self.now.parts.items (option_map (λ p. p.now.path.items) result) }
+    {
         for part in &self.parts {
             if f(part.body) {
-                return Ok(Some(copied(&part.path)?));
+                return Some(part);
             }
         }
-        Ok(None)
+        None
     }
 }
