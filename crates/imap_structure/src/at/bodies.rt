@@ -225,7 +225,7 @@ fn bracketed_body<K: Keep>(
 
 // What stands in the parentheses of a body, where the bodies inside have this level.
 #[cycle(body)]
-#[tactic(auto, using(crate::proofs::FirstBytes::type_none, crate::proofs::FirstBytes::type_is_quoted, crate::proofs::FirstBytes::type_is_literal, crate::proofs::FirstBytes::type_is_mpart, crate::proofs::FirstBytes::type_other))]
+#[tactic(auto, using(crate::proofs::FirstBytes::type_other))]
 fn body_type<K: Keep>(
     keep: &K,
     alloc: Global,

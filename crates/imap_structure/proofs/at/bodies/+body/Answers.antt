@@ -1,4 +1,5 @@
-use Rattle.std.proofs.Common.{refl, sym, drop, arith, ◌<◌, ◌≤◌}
+use Rattle.std.proofs.Common.{refl, sym, drop, arith, rules, ◌≡◌, ◌<◌, ◌≤◌, Some, None}
+use Rattle.std.specs.Prelude.{slice_get}
 use Rattle.std.proofs.Math.Nat.{le_trans}
 use Rattle.std.proofs.lemmas.Result.{err_from_is_err_and}
 use Rattle.imap_grammar.proofs.Positions.{rests_more}
@@ -7,6 +8,7 @@ use Rattle.imap_structure.specs.Bodies.{body, bracketed_body, body_type_msg, bod
 use Rattle.imap_shapes.specs.BodyValues.{body_seen}
 use Rattle.imap_envelopes.proofs.Keeping.{kept_rests}
 use Rattle.imap_structure.proofs.Reading.{message_rests, multipart_rests, message_reads, multipart_reads, boxed_rests, unboxed_rests}
+use Rattle.imap_structure.proofs.FirstBytes.{type_none, type_is_quoted, type_is_literal, type_is_mpart}
 use Rattle.imap_structure.proofs.Levels.{body_below, body_takes}
 use Rattle.imap_structure.proofs.Putting.{one_more, none, neither}
 use Rattle.imap_envelopes.proofs.Gathering.{first, next, all, halted, onward, alone, together}
@@ -191,3 +193,23 @@ some_bodies-returns-in-Error-clause-ahead g t c = (c.bodies.invariant.ahead, c.b
 
 pub one_body-returns-2-clause-ahead : goal.one_body-returns-2-clause-ahead
 one_body-returns-2-clause-ahead g t c = c.in-Ok-made.ensures.ahead
+
+pub body_type-returns-in-Some-eq34-clause-puts : goal.body_type-returns-in-Some-eq34-clause-puts
+body_type-returns-in-Some-eq34-clause-puts g t c =
+    let here : slice_get (drop c.args.p c.args.m.now) 0 ≡ Some 34 = search rules in
+    rw (type_is_quoted c.args.level (drop c.args.p c.args.m.now) here) c.quoted_type.ensures.puts
+
+pub body_type-returns-in-Some-eq123-clause-puts : goal.body_type-returns-in-Some-eq123-clause-puts
+body_type-returns-in-Some-eq123-clause-puts g t c =
+    let here : slice_get (drop c.args.p c.args.m.now) 0 ≡ Some 123 = search rules in
+    rw (type_is_literal c.args.level (drop c.args.p c.args.m.now) here) c.body_type_basic.ensures.puts
+
+pub body_type-returns-in-Some-eq40-clause-puts : goal.body_type-returns-in-Some-eq40-clause-puts
+body_type-returns-in-Some-eq40-clause-puts g t c =
+    let here : slice_get (drop c.args.p c.args.m.now) 0 ≡ Some 40 = search rules in
+    rw (type_is_mpart c.args.level (drop c.args.p c.args.m.now) here) c.body_type_mpart.ensures.puts
+
+pub body_type-returns-in-None-clause-puts : goal.body_type-returns-in-None-clause-puts
+body_type-returns-in-None-clause-puts g t c =
+    let here : slice_get (drop c.args.p c.args.m.now) 0 ≡ None = search rules in
+    type_none c.args.level (drop c.args.p c.args.m.now) here
