@@ -249,8 +249,8 @@ def status_line(value):
 
 def is_bracketed(value):
     """Whether the value is a line without a code whose information begins with a bracket: such a text may be read as a code."""
-    said = {"Continue": lambda: value[0], "Done": lambda: value.outcome, "Data": lambda: value.outcome}.get(value.kind)
-    return said is not None and said().code is None and (said().information or "").startswith("[")
+    said = value[0] if value.kind == "Continue" else value.by_name.get("outcome")
+    return said is not None and said.code is None and (said.information or "").startswith("[")
 
 
 # Data of mailboxes, and the lines of extensions.
