@@ -24,7 +24,7 @@ unfoldable pub origin : Rule ℕ
 origin = tag "<" ▹ number ◃ tag ">"
 
 abbrev pub section_of : Option PathValue × (Option ℕ × Option Text) → AttributeValue
-section_of v = BodySection v.0 v.1.0 v.1.1
+section_of (section, (index, contents)) = BodySection section index contents
 
 -- section ["<" number ">"] SP nstring
 unfoldable pub section_contents : Rule AttributeValue

@@ -1,9 +1,8 @@
 //! Lists of attributes at a position, whatever is kept of each: one reader for positions and for what these name.
 
-ghost use Rattle.std.specs.Prelude.{◌≡◌, ◌≤◌, ◌+◌, ◌++◌, ◌∷◌, [], List, length, drop, map, IfOk, OnOk, IfSome};
-ghost use Rattle.std.specs.Option.{option_map};
+ghost use Rattle.std.specs.Prelude.{◌≡◌, ◌≤◌, ◌+◌, ◌++◌, ◌∷◌, [], List, length, drop, map, IfOk, OnOk};
 ghost use Rattle.imap_grammar.specs.Positions.{GivesAt, Ahead, RestsOn};
-ghost use Rattle.imap_grammar.specs.Rule.{list1, opt, ◌▹◌};
+ghost use Rattle.imap_grammar.specs.Rule.{list1, ◌▹◌};
 ghost use Rattle.imap_grammar.specs.Step.{step};
 ghost use Rattle.imap_grammar.specs.Tags.{sp};
 ghost use Rattle.imap_grammar.specs.declared.at.span.Span.{Span};
@@ -22,7 +21,7 @@ use crate::spanned::{SpannedAttribute, spanned_attribute};
 use crate::types::attributes::AttributeValue;
 use imap_bytes::at::Reached;
 use imap_bytes::at::tags::{blanks0, tag};
-use imap_bytes::maybe;
+use imap_bytes::lists::tried;
 use imap_envelopes::{Keep, Named, Positions};
 use imap_items::{at, readers};
 use imap_shapes::made;
@@ -204,21 +203,6 @@ fn spaced_attribute<K: KeepAttribute>(
     spanned_attribute(keep, alloc, m, p)
 }
 
-fn next_attribute<K: KeepAttribute>(
-    keep: &K,
-    alloc: Global,
-    m: &[u8],
-    p: usize,
-) -> Reached<Option<SpannedAttribute<K::Text, K::Bytes>>>
-    requires inside { p ≤ length m.now }
-    requires serves { K.serves keep.now m.now }
-    ensures steps { GivesAt (λ x. option_map (attribute_said K.text_said K.bytes_said m.now) x) m.now result (step (opt (sp ▹ rules.attribute)) (drop p m.now)) }
-    ensures ahead { Ahead m.now p result }
-    ensures stands { IfOk result (λ x. IfSome x.1 (λ a. EndsAt K.text_said K.bytes_said m.now (p + 1) x.0 a)) }
-{
-    maybe!(spaced_attribute(keep, alloc, m, p), p)
-}
-
 fn some_attributes<K: KeepAttribute>(
     keep: &K,
     alloc: Global,
@@ -234,16 +218,11 @@ fn some_attributes<K: KeepAttribute>(
     let mut kept = keep.start(alloc)?;
     let (mut q, first) = made!(spanned_attribute(keep, alloc, m, p), kept);
     keep.add(first, &mut kept)?;
-    'attributes: loop {
-        let (after, next) = next_attribute(keep, alloc, m, q)?;
-        match next {
-            None => return Ok((q, kept)),
-            Some(attribute) => {
-                keep.add(attribute, &mut kept)?;
-                q = after;
-            }
-        }
+    'attributes: while let Some((after, attribute)) = tried(spaced_attribute(keep, alloc, m, q))? {
+        keep.add(attribute, &mut kept)?;
+        q = after;
     }
+    Ok((q, kept))
 }
 
 /// The attributes of a message in parentheses, one or more, by one space (RFC 3501, section 9: msg-att).

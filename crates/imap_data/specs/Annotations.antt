@@ -6,13 +6,13 @@ use Rattle.imap_extensions.specs.Annotations.{MetadataValue, metadata_mailbox, a
 use Rattle.imap_data.specs.MailboxValues.{MailboxValue, MetadataSolicited, MetadataUnsolicited}
 
 abbrev pub solicited_of : Text × List MetadataValue → MailboxValue
-solicited_of v = MetadataSolicited v.0 v.1
+solicited_of (mailbox, values) = MetadataSolicited mailbox values
 
 unfoldable pub metadata_solicited : Rule MailboxValue
 metadata_solicited = gives solicited_of (metadata_mailbox ⨾ annotations)
 
 abbrev pub unsolicited_of : Text × List Text → MailboxValue
-unsolicited_of v = MetadataUnsolicited v.0 v.1
+unsolicited_of (mailbox, entries) = MetadataUnsolicited mailbox entries
 
 unfoldable pub metadata_unsolicited : Rule MailboxValue
 metadata_unsolicited = gives unsolicited_of (metadata_mailbox ⨾ entries)

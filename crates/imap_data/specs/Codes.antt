@@ -98,10 +98,10 @@ bad_charset = gives BadCharset (word "BADCHARSET" ▹ opt charsets)
 
 -- a UIDVALIDITY and UIDs; the same with a second set
 abbrev pub append_uid_of : ℕ × List MemberValue → CodeValue
-append_uid_of v = AppendUid v.0 v.1
+append_uid_of (validity, uids) = AppendUid validity uids
 
 abbrev pub copy_uid_of : ℕ × (List MemberValue × List MemberValue) → CodeValue
-copy_uid_of v = CopyUid v.0 v.1.0 v.1.1
+copy_uid_of (validity, (source, destination)) = CopyUid validity source destination
 
 unfoldable pub append_uid : Rule CodeValue
 append_uid = gives append_uid_of (word "APPENDUID " ▹ number ⨾ sp ▹ uid_set)

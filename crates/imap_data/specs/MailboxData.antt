@@ -25,7 +25,7 @@ unfoldable pub lsub : Rule MailboxValue
 lsub = gives Listed (word "LSUB " ▹ list_data)
 
 abbrev pub status_of : Text × List StatusAttribute → MailboxValue
-status_of v = Status v.0 v.1
+status_of (mailbox, items) = Status mailbox items
 
 unfoldable pub status : Rule MailboxValue
 status = gives status_of (word "STATUS " ▹ mailbox ⨾ sp ▹ status_items)

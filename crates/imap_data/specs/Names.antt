@@ -96,7 +96,7 @@ unfoldable pub delimiter : Rule (Option Text)
 delimiter = some_delimiter or nil ▹ nothing None
 
 abbrev pub listed : List NameAttributeValue × (Option Text × Text) → ListValue
-listed v = record { name_attributes = v.0; delimiter = v.1.0; name = v.1.1 }
+listed (attributes, (delimiter, name)) = record { name_attributes = attributes; delimiter = delimiter; name = name }
 
 unfoldable pub list_data : Rule ListValue
 list_data = gives listed (name_attributes ⨾ sp ▹ delimiter ⨾ sp ▹ mailbox)

@@ -33,14 +33,5 @@ nothing_rests view q = record { same = λ m. refl }
 pub something_rests : {A V : Type 0} (view : List ℕ → A → V) (q : ℕ) (x : A) → Rests view q x → Rests (λ n y. option_map (view n) y) q (Some x)
 something_rests view q x h = record { same = λ m. ap (λ y. Some y) (h.same m) }
 
-abbrev one : {V : Type 0} → V → Option V
-one x = Some x
-
-is_one : {V : Type 0} (x y : V) → one x ≡ one y → x ≡ y
-is_one x y e = cc
-
-pub itself_rests : {A V : Type 0} (view : List ℕ → A → V) (q : ℕ) (x : A) → Rests (λ n y. option_map (view n) y) q (Some x) → Rests view q x
-itself_rests view q x h = record { same = λ m. is_one (view (take q m) x) (view m x) (h.same m) }
-
 pub listed_rest : {A V : Type 0} (view : List ℕ → A → V) (q : ℕ) (x : Vec A) → Rests (λ n v. map (view n) v.items) q x → Rests (λ n y. option_map (λ v. map (view n) v.items) y) q (Some x)
 listed_rest view q x h = record { same = λ m. ap (λ y. Some y) (h.same m) }

@@ -17,7 +17,7 @@ unfoldable pub byte_string : Rule (Option Text)
 byte_string = gives (option_map as_text) nstring
 
 abbrev pub address_of : Option Text × (Option Text × (Option Text × Option Text)) → AddressValue
-address_of v = record { name = v.0; adl = v.1.0; mailbox = v.1.1.0; host = v.1.1.1 }
+address_of (name, (adl, (mailbox, host))) = record { name = name; adl = adl; mailbox = mailbox; host = host }
 
 -- address = "(" addr-name SP addr-adl SP addr-mailbox SP addr-host ")", each an nstring
 unfoldable pub address : Rule AddressValue
@@ -39,18 +39,18 @@ unfoldable pub addresses : Rule Addresses
 addresses = nil_or (tag "(" ▹ some_addresses ◃ tag ")")
 
 abbrev pub envelope_of : Option Text × (Option Text × (Addresses × (Addresses × (Addresses × (Addresses × (Addresses × (Addresses × (Option Text × Option Text)))))))) → EnvelopeValue
-envelope_of v =
+envelope_of (date, (subject, (from, (sender, (reply_to, (to, (cc, (bcc, (in_reply_to, message_id))))))))) =
     record {
-      date = v.0;
-      subject = v.1.0;
-      from = v.1.1.0;
-      sender = v.1.1.1.0;
-      reply_to = v.1.1.1.1.0;
-      to = v.1.1.1.1.1.0;
-      cc = v.1.1.1.1.1.1.0;
-      bcc = v.1.1.1.1.1.1.1.0;
-      in_reply_to = v.1.1.1.1.1.1.1.1.0;
-      message_id = v.1.1.1.1.1.1.1.1.1;
+      date = date;
+      subject = subject;
+      from = from;
+      sender = sender;
+      reply_to = reply_to;
+      to = to;
+      cc = cc;
+      bcc = bcc;
+      in_reply_to = in_reply_to;
+      message_id = message_id;
     }
 
 -- envelope = "(" env-date SP env-subject SP env-from SP env-sender SP env-reply-to SP env-to SP env-cc SP env-bcc SP env-in-reply-to SP env-message-id ")"

@@ -38,7 +38,7 @@ pub record MyRightsValue : Type 0 where
 -- ---- rules
 
 abbrev pub acl_entry_of : Text × List AclRight → AclEntryValue
-acl_entry_of v = record { identifier = v.0; rights = v.1 }
+acl_entry_of (identifier, rights) = record { identifier = identifier; rights = rights }
 
 unfoldable pub acl_entry : Rule AclEntryValue
 acl_entry = gives acl_entry_of (astring_utf8 ⨾ blanks1 ▹ rights)
@@ -47,7 +47,7 @@ unfoldable pub acl_entries : Rule (List AclEntryValue)
 acl_entries = list0 (separator Blanks) acl_entry
 
 abbrev pub acl_of : Text × List AclEntryValue → AclValue
-acl_of v = record { mailbox = v.0; acls = v.1 }
+acl_of (mailbox, acls) = record { mailbox = mailbox; acls = acls }
 
 unfoldable pub acl : Rule AclValue
 acl = gives acl_of (word "ACL" ▹ blanks1 ▹ mailbox ⨾ blanks0 ▹ acl_entries)
@@ -63,13 +63,13 @@ unfoldable pub optional_rights : Rule (List AclRight)
 optional_rights = gives joined (blanks0 ▹ right_groups)
 
 abbrev pub list_rights_of : Text × (Text × (List AclRight × List AclRight)) → ListRightsValue
-list_rights_of v = record { mailbox = v.0; identifier = v.1.0; required = v.1.1.0; optional = v.1.1.1 }
+list_rights_of (mailbox, (identifier, (required, optional))) = record { mailbox = mailbox; identifier = identifier; required = required; optional = optional }
 
 unfoldable pub list_rights : Rule ListRightsValue
 list_rights = gives list_rights_of (word "LISTRIGHTS" ▹ blanks1 ▹ mailbox ⨾ blanks1 ▹ astring_utf8 ⨾ blanks1 ▹ rights ⨾ optional_rights)
 
 abbrev pub my_rights_of : Text × List AclRight → MyRightsValue
-my_rights_of v = record { mailbox = v.0; rights = v.1 }
+my_rights_of (mailbox, rights) = record { mailbox = mailbox; rights = rights }
 
 unfoldable pub my_rights : Rule MyRightsValue
 my_rights = gives my_rights_of (word "MYRIGHTS" ▹ blanks1 ▹ mailbox ⨾ blanks1 ▹ rights)

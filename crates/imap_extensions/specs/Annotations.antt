@@ -97,7 +97,7 @@ abbrev pub bytes_in : Text → Bytes
 bytes_in t = t.bytes
 
 abbrev pub annotation_of : Text × Option Text → MetadataValue
-annotation_of v = record { entry = v.0.bytes; value = option_map bytes_in v.1 }
+annotation_of (entry, value) = record { entry = entry.bytes; value = option_map bytes_in value }
 
 -- an entry with its value
 unfoldable pub annotation : Rule MetadataValue

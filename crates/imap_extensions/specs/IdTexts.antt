@@ -9,7 +9,7 @@ use Rattle.imap_extensions.specs.Ids.{IdValue, map_of_pairs}
 
 -- a field and its value
 abbrev pub canonical_field : Bytes × Text → Pieces
-canonical_field e = lit e.0 then space then literal_text e.1
+canonical_field (key, value) = lit key then space then literal_text value
 
 -- the fields by rising bytes of their names; no field at all is one without a value
 abbrev pub canonical_fields : List (Bytes × Text) → Pieces
@@ -24,7 +24,7 @@ abbrev pub canonical_id : Option IdValue → Pieces
 canonical_id params = words "ID" then space then canonical_params params
 
 abbrev pub spells_pair : Text × Option Text → Texts
-spells_pair p = spells_string_text p.0 and some_blanks and spells_ntext p.1
+spells_pair (key, value) = spells_string_text key and some_blanks and spells_ntext value
 
 -- at least one pair, in any order: those without a value tell nothing, and the last of equal names wins
 abbrev pub spells_params : Option IdValue → Texts

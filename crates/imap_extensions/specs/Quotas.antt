@@ -86,7 +86,7 @@ unfoldable pub quota_resource_name : Rule QuotaResourceNameValue
 quota_resource_name = names "STORAGE" Storage or names "MESSAGE" Message or gives Atom astring_utf8
 
 abbrev pub resource_of : QuotaResourceNameValue × (ℕ × ℕ) → QuotaResourceValue
-resource_of v = record { name = v.0; usage = v.1.0; limit = v.1.1 }
+resource_of (name, (usage, limit)) = record { name = name; usage = usage; limit = limit }
 
 -- a name, its usage, its limit
 unfoldable pub quota_resource : Rule QuotaResourceValue
@@ -99,7 +99,7 @@ unfoldable pub quota_list : Rule (List QuotaResourceValue)
 quota_list = tag "(" ▹ quota_resources ◃ tag ")"
 
 abbrev pub quota_of : Text × List QuotaResourceValue → QuotaValue
-quota_of v = record { root_name = v.0; resources = v.1 }
+quota_of (root_name, resources) = record { root_name = root_name; resources = resources }
 
 unfoldable pub quota : Rule QuotaValue
 quota = gives quota_of (word "QUOTA" ▹ blanks1 ▹ astring_utf8 ⨾ blanks1 ▹ quota_list)
@@ -111,7 +111,7 @@ unfoldable pub quota_root_names : Rule (List Text)
 quota_root_names = many quota_root_name
 
 abbrev pub quota_root_of : Text × List Text → QuotaRootValue
-quota_root_of v = record { mailbox_name = v.0; quota_root_names = v.1 }
+quota_root_of (mailbox_name, names) = record { mailbox_name = mailbox_name; quota_root_names = names }
 
 unfoldable pub quota_root : Rule QuotaRootValue
 quota_root = gives quota_root_of (word "QUOTAROOT" ▹ blanks1 ▹ astring_utf8 ⨾ quota_root_names)

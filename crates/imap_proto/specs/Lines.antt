@@ -30,7 +30,7 @@ continuation = gives Continue (tag "+" ▹ maybe_space ▹ outcome ◃ crlf)
 -- ---- data
 
 abbrev pub data_of : Status × OutcomeValue → ResponseValue
-data_of v = Data v.0 v.1
+data_of (status, outcome) = Data status outcome
 
 unfoldable pub status_data : Rule ResponseValue
 status_data = gives data_of (status ⨾ spaced_outcome)
@@ -39,7 +39,7 @@ unfoldable pub expunge : Rule ResponseValue
 expunge = gives Expunge (number ◃ word " EXPUNGE")
 
 abbrev pub fetch_of : ℕ × List AttributeValue → ResponseValue
-fetch_of v = Fetch v.0 v.1
+fetch_of (number, attributes) = Fetch number attributes
 
 -- "FETCH" SP msg-att behind the number of a message
 unfoldable pub fetched : Rule (List AttributeValue)
@@ -49,7 +49,7 @@ unfoldable pub fetch : Rule ResponseValue
 fetch = gives fetch_of (number ⨾ fetched)
 
 abbrev pub vanished_of : Bool × List Range → ResponseValue
-vanished_of v = Vanished v.0 v.1
+vanished_of (earlier, uids) = Vanished earlier uids
 
 unfoldable pub vanished_data : Rule ResponseValue
 vanished_data = gives vanished_of vanished
@@ -154,7 +154,7 @@ unfoldable pub request_tag : Rule Bytes
 request_tag = in_utf8 (run1 is_tag_char)
 
 abbrev pub done_of : Bytes × (Status × OutcomeValue) → ResponseValue
-done_of v = Done v.0 v.1.0 v.1.1
+done_of (tag, (status, outcome)) = Done tag status outcome
 
 -- the command's tag, a status, an outcome
 unfoldable pub tagged : Rule ResponseValue

@@ -26,7 +26,7 @@ information None t = unless_empty t.bytes t
 information (Some code) t = unless_empty t.bytes (after_first t)
 
 abbrev pub outcome_of : Option CodeValue × Text → OutcomeValue
-outcome_of v = record { code = v.0; information = information v.0 v.1 }
+outcome_of (code, text) = record { code = code; information = information code text }
 
 unfoldable pub outcome : Rule OutcomeValue
 outcome = gives outcome_of (opt response_code ⨾ text)

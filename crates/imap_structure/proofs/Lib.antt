@@ -1,6 +1,5 @@
 pub mod Seeing
 pub mod Levels
-pub mod Putting
 pub mod Reading
 pub mod FieldTexts
 pub mod ExtensionTexts

@@ -23,24 +23,24 @@ abbrev pub single_of : FieldsValue → Ext1PartValue → SingleValue
 single_of fields ext = record { id = fields.id; md5 = ext.md5; description = fields.description; transfer_encoding = fields.transfer_encoding; octets = fields.octets }
 
 abbrev pub text_of_parts : Text × (FieldsValue × (ℕ × Ext1PartValue)) → BodyValue
-text_of_parts v = TextBody (common_of (as_text (codes "TEXT")) v.0 v.1.0 v.1.1.1) (single_of v.1.0 v.1.1.1) v.1.1.0 v.1.1.1.extension
+text_of_parts (subtype, (fields, (lines, ext))) = TextBody (common_of (as_text (codes "TEXT")) subtype fields ext) (single_of fields ext) lines ext.extension
 
 abbrev pub message_of : FieldsValue × (EnvelopeValue × (BodyValue × (ℕ × Ext1PartValue))) → BodyValue
-message_of v = Message (common_of (as_text (codes "MESSAGE")) (as_text (codes "RFC822")) v.0 v.1.1.1.1) (single_of v.0 v.1.1.1.1) v.1.0 v.1.1.0 v.1.1.1.0 v.1.1.1.1.extension
+message_of (fields, (envelope, (body, (lines, ext)))) = Message (common_of (as_text (codes "MESSAGE")) (as_text (codes "RFC822")) fields ext) (single_of fields ext) envelope body lines ext.extension
 
 abbrev pub basic_of : Text × (Text × (FieldsValue × Ext1PartValue)) → BodyValue
-basic_of v = Basic (common_of v.0 v.1.0 v.1.1.0 v.1.1.1) (single_of v.1.1.0 v.1.1.1) v.1.1.1.extension
+basic_of (ty, (subtype, (fields, ext))) = Basic (common_of ty subtype fields ext) (single_of fields ext) ext.extension
 
 abbrev pub multipart_of : List BodyValue × (Text × ExtMPartValue) → BodyValue
-multipart_of v =
+multipart_of (bodies, (subtype, ext)) =
     Multipart
     (record {
-      ty = record { ty = as_text (codes "MULTIPART"); subtype = v.1.0; params = v.1.1.param };
-      disposition = v.1.1.disposition;
-      language = v.1.1.language;
-      location = v.1.1.location;
+      ty = record { ty = as_text (codes "MULTIPART"); subtype = subtype; params = ext.param };
+      disposition = ext.disposition;
+      language = ext.language;
+      location = ext.location;
     })
-    (bodies_of v.0) v.1.1.extension
+    (bodies_of bodies) ext.extension
 
 -- ---- rules
 

@@ -16,7 +16,7 @@ use Rattle.imap_structure.specs.Fields.{body_fld_param}
 -- ---- disposition and language
 
 abbrev pub disposition_of : Text × ParamsValue → DispositionValue
-disposition_of v = record { ty = v.0; params = v.1 }
+disposition_of (ty, params) = record { ty = ty; params = params }
 
 -- body-fld-dsp = "(" string SP body-fld-param ")" / nil
 unfoldable pub body_fld_dsp : Rule (Option DispositionValue)
@@ -90,7 +90,7 @@ abbrev pub Ext : Type 0 → Type 0
 Ext A = A × (Option DispositionValue × (Option (List Text) × (Option Text × Option ExtensionValue)))
 
 abbrev pub ext_1part_of : Ext (Option Text) → Ext1PartValue
-ext_1part_of v = record { md5 = v.0; disposition = v.1.0; language = v.1.1.0; location = v.1.1.1.0; extension = v.1.1.1.1 }
+ext_1part_of (md5, (disposition, (language, (location, extension)))) = record { md5 = md5; disposition = disposition; language = language; location = location; extension = extension }
 
 -- body-ext-1part = body-fld-md5 [SP body-fld-dsp [SP body-fld-lang [SP body-fld-loc *(SP body-extension)]]],
 -- each after its space, any of them missing, and one body-extension at most
@@ -98,7 +98,7 @@ unfoldable pub body_ext_1part : Rule Ext1PartValue
 body_ext_1part = gives ext_1part_of (maybe_spaced nstring_utf8 ⨾ maybe_spaced body_fld_dsp ⨾ maybe_spaced body_fld_lang ⨾ maybe_spaced nstring_utf8 ⨾ last_extension)
 
 abbrev pub ext_mpart_of : Ext ParamsValue → ExtMPartValue
-ext_mpart_of v = record { param = v.0; disposition = v.1.0; language = v.1.1.0; location = v.1.1.1.0; extension = v.1.1.1.1 }
+ext_mpart_of (param, (disposition, (language, (location, extension)))) = record { param = param; disposition = disposition; language = language; location = location; extension = extension }
 
 -- body-ext-mpart = body-fld-param [SP body-fld-dsp [SP body-fld-lang [SP body-fld-loc *(SP body-extension)]]], in the same way
 unfoldable pub body_ext_mpart : Rule ExtMPartValue

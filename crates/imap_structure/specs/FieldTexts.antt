@@ -13,7 +13,7 @@ use Rattle.imap_envelopes.specs.EnvelopeTexts.{behind_space}
 
 -- the name of a parameter and its value
 abbrev pub canonical_pair : Text × Text → Pieces
-canonical_pair p = literal_text p.0 then space then literal_text p.1
+canonical_pair (name, value) = literal_text name then space then literal_text value
 
 abbrev pub canonical_params : ParamsValue → Pieces
 canonical_params None = words "NIL"
@@ -37,7 +37,7 @@ canonical_fields f =
 -- ---- spelling
 
 abbrev pub spells_pair : Text × Text → Texts
-spells_pair p = spells_string_text p.0 and behind_space (spells_string_text p.1)
+spells_pair (name, value) = spells_string_text name and behind_space (spells_string_text value)
 
 abbrev pub spells_params : ParamsValue → Texts
 spells_params = nil_or (spells_some_list spells_pair)

@@ -58,7 +58,7 @@ unfoldable pub encoding_in_quotes : Rule EncodingValue
 encoding_in_quotes = quoted_encoding or other_encoding
 
 abbrev pub fields_of : ParamsValue × (Option Text × (Option Text × (EncodingValue × ℕ))) → FieldsValue
-fields_of v = record { param = v.0; id = v.1.0; description = v.1.1.0; transfer_encoding = v.1.1.1.0; octets = v.1.1.1.1 }
+fields_of (param, (id, (description, (transfer_encoding, octets)))) = record { param = param; id = id; description = description; transfer_encoding = transfer_encoding; octets = octets }
 
 -- body-fields = body-fld-param SP body-fld-id SP body-fld-desc SP body-fld-enc SP body-fld-octets
 unfoldable pub body_fields : Rule FieldsValue

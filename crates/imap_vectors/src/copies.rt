@@ -4,7 +4,6 @@ use crate::answers::{Rows, says};
 use imap_data::readers::{
     id, mailbox_datum, metadata_solicited, metadata_unsolicited, quota, quota_root,
 };
-use imap_proto::imap_core::IResult;
 use imap_proto::rfc2087::{Quota, QuotaResource, QuotaResourceName, QuotaRoot};
 use imap_proto::rfc3501::{MailboxDatum, MailboxListData, NameAttribute, Outcome, RequestId};
 use imap_proto::rfc4314::AclRight;
@@ -16,72 +15,10 @@ use std::collections::HashSet;
 use std::hash::Hash;
 use std::test::*;
 
-/// What has a copy that takes memory.
-trait Copied: Sized {
-    fn copied(&self) -> Result<Self, AllocError>;
-}
-
-impl<'a> Copied for MailboxDatum<'a> {
-    fn copied(&self) -> Result<Self, AllocError> {
-        self.clone()
-    }
-}
-
-impl<'a> Copied for MailboxListData<'a> {
-    fn copied(&self) -> Result<Self, AllocError> {
-        self.clone()
-    }
-}
-
-impl<'a> Copied for NameAttribute<'a> {
-    fn copied(&self) -> Result<Self, AllocError> {
-        self.clone()
-    }
-}
-
-impl<'a> Copied for Quota<'a> {
-    fn copied(&self) -> Result<Self, AllocError> {
-        self.clone()
-    }
-}
-
-impl<'a> Copied for QuotaResource<'a> {
-    fn copied(&self) -> Result<Self, AllocError> {
-        self.clone()
-    }
-}
-
-impl<'a> Copied for QuotaResourceName<'a> {
-    fn copied(&self) -> Result<Self, AllocError> {
-        self.clone()
-    }
-}
-
-impl<'a> Copied for QuotaRoot<'a> {
-    fn copied(&self) -> Result<Self, AllocError> {
-        self.clone()
-    }
-}
-
-impl Copied for RequestId {
-    fn copied(&self) -> Result<Self, AllocError> {
-        self.clone()
-    }
-}
-
-impl Copied for Metadata {
-    fn copied(&self) -> Result<Self, AllocError> {
-        self.clone()
-    }
-}
-
-// Whether there is a copy of what a reader answered, and it equals that.
-fn is_copied<T: Copied + PartialEq + Drop>(answer: IResult<&[u8], T>) -> bool {
-    match answer {
-        Ok((_, value)) => match value.copied() {
-            Ok(copy) => copy == value,
-            Err(_) => false,
-        },
+// Whether a copy was made, and equals the value.
+fn equals<T: PartialEq + Drop>(value: &T, copy: Result<T, AllocError>) -> bool {
+    match copy {
+        Ok(copy) => copy == *value,
         Err(_) => false,
     }
 }
@@ -107,67 +44,65 @@ static DATA_OF_MAILBOXES: Rows = &[
 ];
 
 #[test]
-fn data_of_mailboxes(rt: HostRuntime) {
+fn data_of_mailboxes(rt: HostRuntime) -> Result<(), Fail> {
     let alloc = rt.alloc();
     for (line, told) in DATA_OF_MAILBOXES {
-        let answer = mailbox_datum(alloc, line);
-        assert!(rt; is_copied(answer), "{told}");
+        let (_, datum) = mailbox_datum(alloc, line)?;
+        assert!(rt; equals(&datum, datum.clone()), "{told}");
     }
+    Ok(())
 }
 
 #[test]
-fn annotations(rt: HostRuntime) {
+fn annotations(rt: HostRuntime) -> Result<(), Fail> {
     let alloc = rt.alloc();
     let line = b"METADATA \"\xff\" (/shared/comment NIL /private/comment \"a\")\r";
-    let answer = metadata_solicited(alloc, line);
-    assert!(rt; is_copied(answer));
-    let answer = metadata_unsolicited(alloc, b"METADATA \"x\" /shared/comment\r");
-    assert!(rt; is_copied(answer));
+    let (_, datum) = metadata_solicited(alloc, line)?;
+    assert!(rt; equals(&datum, datum.clone()));
+    let (_, datum) = metadata_unsolicited(alloc, b"METADATA \"x\" /shared/comment\r")?;
+    assert!(rt; equals(&datum, datum.clone()));
+    Ok(())
 }
 
 #[test]
-fn quotas(rt: HostRuntime) {
+fn quotas(rt: HostRuntime) -> Result<(), Fail> {
     let alloc = rt.alloc();
-    let answer = quota(
-        alloc,
-        b"QUOTA a\xff (STORAGE 1 2 MESSAGE 3 4 \"x\xff\" 5 6 y 7 8)\r",
-    );
-    assert!(rt; is_copied(answer));
-    let answer = quota_root(alloc, b"QUOTAROOT b\xff a \xffc\r");
-    assert!(rt; is_copied(answer));
+    let line = b"QUOTA a\xff (STORAGE 1 2 MESSAGE 3 4 \"x\xff\" 5 6 y 7 8)\r";
+    let (_, limits) = quota(alloc, line)?;
+    assert!(rt; equals(&limits, limits.clone()));
+    let (_, root) = quota_root(alloc, b"QUOTAROOT b\xff a \xffc\r")?;
+    assert!(rt; equals(&root, root.clone()));
+    Ok(())
 }
-
-const NOTHING: &[u8] = b"";
 
 #[test]
 fn parts_of_lists(rt: HostRuntime) -> Result<(), Fail> {
-    let alloc = rt.alloc();
     let names = MailboxListData {
-        name_attributes: Vec::new(alloc),
+        name_attributes: Vec::new(rt.alloc()),
         delimiter: Some(CowStr::Borrowed("/")),
         name: CowStr::Borrowed("x"),
     };
-    assert!(rt; is_copied(Ok((NOTHING, names))));
-    assert!(rt; is_copied(Ok((NOTHING, NameAttribute::Sent))));
+    assert!(rt; equals(&names, names.clone()));
+    let sent = NameAttribute::Sent;
+    assert!(rt; equals(&sent, sent.clone()));
     Ok(())
 }
 
 #[test]
 fn parts_of_annotations_and_quotas(rt: HostRuntime) -> Result<(), Fail> {
-    let alloc = rt.alloc();
     let annotation = Metadata {
-        entry: String::from_str(alloc, "/shared/comment")?,
+        entry: String::from_str(rt.alloc(), "/shared/comment")?,
         value: None,
     };
-    assert!(rt; is_copied(Ok((NOTHING, annotation))));
+    assert!(rt; equals(&annotation, annotation.clone()));
     let resource = QuotaResource {
         name: QuotaResourceName::Message,
         usage: 1,
         limit: 2,
     };
-    assert!(rt; is_copied(Ok((NOTHING, resource))));
+    assert!(rt; equals(&resource, resource.clone()));
     let name = QuotaResourceName::Atom(CowStr::Borrowed("x"));
-    assert!(rt; is_copied(Ok((NOTHING, name))));
+    assert!(rt; equals(&name, name.clone()));
     Ok(())
 }
 
@@ -178,66 +113,34 @@ fn members_of_sets(rt: HostRuntime) -> Result<(), Fail> {
     Ok(())
 }
 
-// Whether two readers answered equal values.
-fn are_equal<T: PartialEq + Drop>(one: IResult<&[u8], T>, other: IResult<&[u8], T>) -> bool {
-    match (one, other) {
-        (Ok((_, one)), Ok((_, other))) => one == other,
-        _ => false,
-    }
-}
-
-// Whether a set of what the first reader answered has what the second did.
-fn is_found<T: Eq + Hash + Drop>(
-    alloc: Global,
-    one: IResult<&[u8], T>,
-    other: IResult<&[u8], T>,
-) -> bool {
+// Whether a set of the first value has the second.
+fn is_found<T: Eq + Hash + Drop>(alloc: Global, one: T, other: &T) -> bool {
     let mut values = HashSet::new(alloc);
-    match (one, other) {
-        (Ok((_, one)), Ok((_, other))) => { values.insert(one).is_ok() && values.contains(&other) }
-        _ => false,
-    }
+    values.insert(one).is_ok() && values.contains(other)
 }
 
-// A copy of what a reader answered.
-fn copy_of<'a, T: Copied + Drop>(answer: IResult<&'a [u8], T>) -> IResult<&'a [u8], T> {
-    match answer {
-        Ok((rest, value)) => Ok((rest, value.copied()?)),
-        Err(error) => Err(error),
-    }
-}
-
-// A quota that was read, with its texts owned.
-fn owned_of<'a>(
-    alloc: Global,
-    answer: IResult<&'a [u8], Quota<'_>>,
-) -> IResult<&'a [u8], Quota<'static>> {
-    match answer {
-        Ok((rest, value)) => Ok((rest, value.into_owned(alloc)?)),
-        Err(error) => Err(error),
-    }
-}
-
-// Texts compare and hash by content, whichever are borrowed, and identities compare as finite maps.
+// Texts compare and hash by content, whichever are borrowed.
 #[test]
-fn equality_and_hashes(rt: HostRuntime) {
+fn equality_and_hashes(rt: HostRuntime) -> Result<(), Fail> {
     let alloc = rt.alloc();
-    let lent = b"QUOTA \xef\xbf\xbd (STORAGE 1 2)\r";
-    let owned = b"QUOTA \"\xff\" (STORAGE 1 2)\r";
-    assert!(rt; are_equal(quota(alloc, lent), quota(alloc, owned)));
-    assert!(rt; is_found(alloc, quota(alloc, lent), quota(alloc, owned)));
-    let made_owned = owned_of(alloc, quota(alloc, lent));
-    assert!(rt; is_found(alloc, quota(alloc, lent), made_owned));
-    let copy = copy_of(quota(alloc, lent));
-    assert!(rt; is_found(alloc, quota(alloc, lent), copy));
+    let (_, lent) = quota(alloc, b"QUOTA \xef\xbf\xbd (STORAGE 1 2)\r")?;
+    let (_, owned) = quota(alloc, b"QUOTA \"\xff\" (STORAGE 1 2)\r")?;
+    assert!(rt; lent == owned);
+    assert!(rt; is_found(alloc, lent.clone()?, &owned));
+    assert!(rt; is_found(alloc, lent.clone()?, &lent));
+    let made_owned = lent.clone()?.into_owned(alloc)?;
+    assert!(rt; is_found(alloc, lent, &made_owned));
+    Ok(())
 }
 
+// Identities compare as finite maps.
 #[test]
-fn equal_identities(rt: HostRuntime) {
+fn equal_identities(rt: HostRuntime) -> Result<(), Fail> {
     let alloc = rt.alloc();
-    let in_order = id(alloc, b"ID (\"a\" \"1\" \"b\" \"2\")\r");
-    let turned = id(alloc, b"ID (\"b\" \"2\" \"a\" \"1\")\r");
-    assert!(rt; are_equal(in_order, turned));
+    let (_, in_order) = id(alloc, b"ID (\"a\" \"1\" \"b\" \"2\")\r")?;
+    let (_, turned) = id(alloc, b"ID (\"b\" \"2\" \"a\" \"1\")\r")?;
+    assert!(rt; in_order == turned);
+    Ok(())
 }
 
 #[test]
@@ -255,8 +158,8 @@ fn letters_of_rights(rt: HostRuntime) {
 fn parts_of_status_lines(rt: HostRuntime) -> Result<(), Fail> {
     let tag = RequestId(String::from_str(rt.alloc(), "a1")?);
     assert!(rt; tag.as_bytes() == b"a1".as_slice());
-    assert!(rt; is_copied(Ok((NOTHING, tag))));
-    let nothing = Ok((NOTHING, Outcome::default()));
+    assert!(rt; equals(&tag, tag.clone()));
+    let nothing = Ok((b"".as_slice(), Outcome::default()));
     let want = "Outcome { code: None, information: None }";
     assert!(rt; says(rt.alloc(), nothing, want));
     Ok(())

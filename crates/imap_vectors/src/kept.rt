@@ -263,35 +263,30 @@ fn told_values(
 
 const NOTHING: &[u8] = b"";
 
-// Whether the attributes name these values in a message.
-fn name(alloc: Global, attributes: &[SpannedAttribute], m: &[u8], want: &str) -> bool {
-    match told_values(alloc, attributes, m) {
-        Ok(values) => says(alloc, Ok((NOTHING, values)), want),
-        Err(_) => false,
-    }
-}
-
-// Whether the attributes stand there, and name what is wanted in both messages.
-fn stand(alloc: Global, want: &Places) -> bool {
-    if want.start > want.message.len() {
-        return false;
-    }
-    match attribute_list_at(alloc, want.message, want.start) {
-        Ok((reached, attributes)) => match spans(alloc, &attributes) {
-            Ok(spans) => {
-                says_at(alloc, Ok((reached, spans)), want.spans)
-                    && name(alloc, &attributes, want.message, want.values)
-                    && name(alloc, &attributes, want.other, want.others)
-            }
-            Err(_) => false,
-        },
-        Err(_) => false,
-    }
-}
-
 #[test]
-fn positions(rt: HostRuntime) {
+fn positions(rt: HostRuntime) -> Result<(), Fail> {
+    let alloc = rt.alloc();
     for want in PLACES {
-        assert!(rt; stand(rt.alloc(), want), "{}", want.spans);
+        assert!(rt; want.start <= want.message.len());
+        let (reached, attributes) = attribute_list_at(alloc, want.message, want.start)?;
+        let places = spans(alloc, &attributes)?;
+        assert!(rt;
+            says_at(alloc, Ok((reached, places)), want.spans),
+            "{}",
+            want.spans
+        );
+        let values = told_values(alloc, &attributes, want.message)?;
+        assert!(rt;
+            says(alloc, Ok((NOTHING, values)), want.values),
+            "{}",
+            want.values
+        );
+        let others = told_values(alloc, &attributes, want.other)?;
+        assert!(rt;
+            says(alloc, Ok((NOTHING, others)), want.others),
+            "{}",
+            want.others
+        );
     }
+    Ok(())
 }

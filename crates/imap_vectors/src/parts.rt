@@ -2,8 +2,7 @@
 
 use crate::answers::says;
 use imap_body::readers::body_structure;
-use imap_proto::bodystructure::BodyStructParser;
-use imap_proto::imap_core::{Err, IResult};
+use imap_proto::bodystructure::{BodyStructParser, PartsError};
 use imap_proto::rfc3501::body_structure::BodyStructure;
 use std::alloc::Global;
 use std::test::*;
@@ -37,43 +36,14 @@ fn is_sought(body: &BodyStructure<'_>, sought: Sought) -> bool {
     }
 }
 
+// The path of the first body that is sought.
 fn searched(
     alloc: Global,
     root: &BodyStructure<'_>,
     sought: Sought,
-) -> Result<Option<Vec<u32>>, Err> {
-    match BodyStructParser::new(alloc, root) {
-        Ok(parser) => Ok(parser.search(|body| is_sought(body, sought))?),
-        Err(_) => Err(Err::Failure),
-    }
-}
-
-/// What can be searched.
-trait Tree {
-    /// Whether the search is told so.
-    fn finds(&self, alloc: Global, sought: Sought, want: &str) -> bool;
-}
-
-impl<'a> Tree for BodyStructure<'a> {
-    fn finds(&self, alloc: Global, sought: Sought, want: &str) -> bool {
-        match searched(alloc, self, sought) {
-            Ok(path) => says(alloc, Ok((NOTHING, path)), want),
-            Err(_) => false,
-        }
-    }
-}
-
-/// Whether the search in what was read, which is dropped behind it, is told so.
-fn finds<T: Tree + Drop>(
-    alloc: Global,
-    answer: IResult<&[u8], T>,
-    sought: Sought,
-    want: &str,
-) -> bool {
-    match answer {
-        Ok((_, root)) => root.finds(alloc, sought, want),
-        Err(_) => false,
-    }
+) -> Result<Option<Vec<u32>>, PartsError> {
+    let parser = BodyStructParser::new(alloc, root)?;
+    Ok(parser.search(|body| is_sought(body, sought))?)
 }
 
 const NOTHING: &[u8] = b"";
@@ -110,9 +80,12 @@ static SEARCHES: &[(&[u8], Sought, &str)] = &[
 ];
 
 #[test]
-fn parts(rt: HostRuntime) {
+fn parts(rt: HostRuntime) -> Result<(), Fail> {
+    let alloc = rt.alloc();
     for (input, sought, want) in SEARCHES {
-        let answer = body_structure(rt.alloc(), input);
-        assert!(rt; finds(rt.alloc(), answer, *sought, want), "{want}");
+        let (_, root) = body_structure(alloc, input)?;
+        let path = searched(alloc, &root, *sought)?;
+        assert!(rt; says(alloc, Ok((NOTHING, path)), want), "{want}");
     }
+    Ok(())
 }

@@ -1,7 +1,6 @@
 //! Lines with long texts.
 
 use imap_proto::Response;
-use imap_proto::imap_core::IResult;
 use imap_proto::rfc3501::MailboxDatum;
 use std::alloc::{AllocError, Global};
 use std::test::*;
@@ -16,30 +15,15 @@ fn line(alloc: Global, before: &[u8], letters: u32, after: &[u8]) -> Result<Vec<
     Ok(line)
 }
 
-/// What has a long text.
-trait Long {
-    /// How long it is.
-    fn length(&self) -> Option<usize>;
-}
-
-impl<'a> Long for Response<'a> {
-    // of the information of a status line, or of the name of the mailbox that a state is of
-    fn length(&self) -> Option<usize> {
-        match self {
-            Response::Data { outcome, .. } => match &outcome.information {
-                Some(text) => Some(text.len()),
-                None => None,
-            },
-            Response::MailboxData(MailboxDatum::Status { mailbox, .. }) => Some(mailbox.len()),
-            _ => None,
-        }
-    }
-}
-
-fn length<T: Long + Drop>(answer: IResult<&[u8], T>) -> Option<usize> {
-    match answer {
-        Ok((_, value)) => value.length(),
-        Err(_) => None,
+// How long the information of a status line is, or the name of the mailbox that a state is of.
+fn length(response: &Response<'_>) -> Option<usize> {
+    match response {
+        Response::Data { outcome, .. } => match &outcome.information {
+            Some(text) => Some(text.len()),
+            None => None,
+        },
+        Response::MailboxData(MailboxDatum::Status { mailbox, .. }) => Some(mailbox.len()),
+        _ => None,
     }
 }
 
@@ -47,8 +31,10 @@ fn length<T: Long + Drop>(answer: IResult<&[u8], T>) -> Option<usize> {
 fn long_texts(rt: HostRuntime) -> Result<(), Fail> {
     let alloc = rt.alloc();
     let status = line(alloc, b"* OK ", 70000, b"\r\n")?;
-    assert!(rt; length(Response::parse(alloc, &status)) == Some(70000));
+    let (_, response) = Response::parse(alloc, &status)?;
+    assert!(rt; length(&response) == Some(70000));
     let state = line(alloc, b"* STATUS ", 300, b" ()\r\n")?;
-    assert!(rt; length(Response::parse(alloc, &state)) == Some(300));
+    let (_, response) = Response::parse(alloc, &state)?;
+    assert!(rt; length(&response) == Some(300));
     Ok(())
 }

@@ -1,11 +1,9 @@
 //! Addresses and envelopes at a position, and what is kept of their byte strings.
 
 ghost use Rattle.std.specs.Prelude.{◌≤◌, length, drop, map};
-ghost use Rattle.std.specs.Option.{option_map};
 ghost use Rattle.imap_grammar.specs.Positions.{ExactlyAt, GivesAt, Ahead, RestsOn};
 ghost use Rattle.imap_grammar.specs.Memory.{NeverFails};
 ghost use Rattle.imap_grammar.specs.Step.{step};
-ghost use Rattle.imap_grammar.specs.Rule.{opt};
 ghost use Rattle.imap_envelopes.specs.Envelopes as envelopes;
 ghost use Rattle.imap_envelopes.specs.Envelopes.{spaced, last_fields_seen};
 ghost use Rattle.imap_envelopes.specs.Spanned.{address_in};
@@ -17,7 +15,8 @@ use crate::kept::{kept_address, kept_bytes};
 use imap_bytes::at::Reached;
 use imap_bytes::at::strings::nil;
 use imap_bytes::at::tags::tag;
-use imap_bytes::{Err, first, maybe};
+use imap_bytes::lists::tried;
+use imap_bytes::{Err, first};
 use imap_shapes::shapes::envelopes::{Address, Envelope};
 use imap_shapes::spans::Span;
 use std::alloc::Global;
@@ -71,15 +70,6 @@ fn listed_address(m: &[u8], p: usize) -> Reached<Address<Span>>
     Ok((q, address))
 }
 
-fn next_address(m: &[u8], p: usize) -> Reached<Option<Address<Span>>>
-    requires { p ≤ length m.now }
-    ensures steps { ExactlyAt (λ x. option_map (address_in m.now) x) m.now result (step (opt envelopes.listed_address) (drop p m.now)) }
-    ensures ahead { Ahead m.now p result }
-    ensures rests { RestsOn (λ n x. option_map (address_in n) x) result }
-{
-    maybe!(listed_address(m, p), p)
-}
-
 #[tactic(auto, unfolding(crate::specs::Envelopes::some_addresses))]
 fn some_addresses<K: Keep>(
     keep: &K,
@@ -96,21 +86,14 @@ fn some_addresses<K: Keep>(
     // The first is read in the loop, too, so that an address is read in one place, whose calls the compiler takes in.
     let mut items = Vec::new(alloc);
     let mut q = p;
-    'addresses: loop {
-        let (after, next) = next_address(m, q)?;
-        match next {
-            None => {
-                if items.is_empty() {
-                    return Err(Err::Error);
-                }
-                return Ok((q, items));
-            }
-            Some(address) => {
-                items.push(kept_address(keep, m, address))?;
-                q = after;
-            }
-        }
+    'addresses: while let Some((after, address)) = tried(listed_address(m, q))? {
+        items.push(kept_address(keep, m, address))?;
+        q = after;
     }
+    if items.is_empty() {
+        return Err(Err::Error);
+    }
+    Ok((q, items))
 }
 
 /// `NIL`, or addresses in parentheses (RFC 3501, section 9: env-from).
@@ -151,7 +134,7 @@ fn spaced_addresses<K: Keep>(
 }
 
 // To whom a message went, and which message it is, up to the end of the envelope. A reader of its own, since one of all ten
-// fields takes twice as long to prove.
+// fields takes longer to prove.
 #[tactic(auto, unfolding(crate::specs::Envelopes::last_fields_seen))]
 #[inline(always)]
 fn last_fields<K: Keep>(

@@ -20,6 +20,7 @@ use imap_bytes::at::numbers::number;
 use imap_bytes::at::span::Span;
 use imap_bytes::at::strings::astring;
 use imap_bytes::at::tags::{maybe_space, tag, word};
+use imap_bytes::lists::tried;
 use imap_bytes::{Err, Needed, first, maybe};
 use imap_envelopes::at::lists::list_of_one;
 use std::alloc::Global;
@@ -33,14 +34,6 @@ fn spaced_name(m: &[u8], p: usize) -> Reached<Span>
     astring(m, p)
 }
 
-fn next_name(m: &[u8], p: usize) -> Reached<Option<Span>>
-    requires { p ≤ length m.now }
-    ensures steps { ExactlyAt (λ x. option_map (λ y. named_in m.now y) x) m.now result (step (opt (spaced strings.astring)) (drop p m.now)) }
-    ensures ahead { Ahead m.now p result }
-{
-    maybe!(spaced_name(m, p), p)
-}
-
 // Names of header fields, read and dropped.
 #[tactic(auto, unfolding(crate::specs::Sections::header_names))]
 fn header_names(m: &[u8], p: usize) -> Reached<()>
@@ -49,13 +42,10 @@ fn header_names(m: &[u8], p: usize) -> Reached<()>
     ensures ahead { Ahead m.now p result }
 {
     let (mut q, _) = astring(m, p)?;
-    'names: loop {
-        let (after, name) = next_name(m, q)?;
-        match name {
-            None => return Ok((q, ())),
-            Some(_) => q = after,
-        }
+    'names: while let Some((after, _)) = tried(spaced_name(m, q))? {
+        q = after;
     }
+    Ok((q, ()))
 }
 
 fn maybe_header_names(m: &[u8], p: usize) -> Reached<()>
@@ -191,14 +181,6 @@ fn dotted_number(m: &[u8], p: usize) -> Reached<u32>
     number(m, p)
 }
 
-fn next_number(m: &[u8], p: usize) -> Reached<Option<u32>>
-    requires { p ≤ length m.now }
-    ensures steps { ExactlyAt (λ x. option_map (λ n. n) x) m.now result (step (opt (tags.tag "." ▹ numbers.number)) (drop p m.now)) }
-    ensures ahead { Ahead m.now p result }
-{
-    maybe!(dotted_number(m, p), p)
-}
-
 /// The path of a part (RFC 3501, section 9: section-part). It takes memory for the path.
 #[tactic(auto, unfolding(crate::specs::Sections::section_part))]
 pub fn section_part(alloc: Global, m: &[u8], p: usize) -> Reached<Vec<u32>>
@@ -208,16 +190,11 @@ pub fn section_part(alloc: Global, m: &[u8], p: usize) -> Reached<Vec<u32>>
 {
     let (mut q, first) = number(m, p)?;
     let mut items = list_of_one(alloc, first)?;
-    'numbers: loop {
-        let (after, next) = next_number(m, q)?;
-        match next {
-            None => return Ok((q, items)),
-            Some(n) => {
-                items.push(n)?;
-                q = after;
-            }
-        }
+    'numbers: while let Some((after, n)) = tried(dotted_number(m, q))? {
+        items.push(n)?;
+        q = after;
     }
+    Ok((q, items))
 }
 
 #[tactic(auto, unfolding(crate::specs::Sections::part_text))]

@@ -5,13 +5,11 @@ ghost use Rattle.imap_grammar.specs.Text.{Text};
 ghost use Rattle.std.specs.Option.{option_map};
 ghost use Rattle.imap_grammar.specs.Positions.{ExactlyAt, GivesAt, Ahead, RestsOn};
 ghost use Rattle.imap_grammar.specs.Step.{step};
-ghost use Rattle.imap_grammar.specs.Rule.{opt};
 ghost use Rattle.imap_bytes.specs.Texts as texts;
 ghost use Rattle.imap_envelopes.specs.Envelopes.{spaced};
 ghost use Rattle.imap_structure.specs.Fields as fields;
 ghost use Rattle.imap_structure.specs.Extensions as extensions;
 ghost use Rattle.imap_structure.specs.Extensions.{maybe_spaced};
-ghost use Rattle.imap_shapes.specs.Spans.{text_in};
 ghost use Rattle.imap_envelopes.specs.Spanned.{maybe_text_in};
 ghost use Rattle.imap_shapes.specs.FieldValues.{params_seen};
 ghost use Rattle.imap_shapes.specs.ExtensionValues.{disposition_seen, languages_seen, extension_seen, ext_1part_seen, ext_mpart_seen};
@@ -22,6 +20,7 @@ use imap_bytes::at::Reached;
 use imap_bytes::at::numbers::number;
 use imap_bytes::at::strings::nil;
 use imap_bytes::at::tags::{blanks0, tag};
+use imap_bytes::lists::tried;
 use imap_bytes::{Err, Needed, first, maybe};
 use imap_envelopes::Keep;
 use imap_envelopes::at::lists::list_of_one;
@@ -77,15 +76,6 @@ fn body_fld_dsp<K: Keep>(
 
 // ---- languages
 
-fn next_language(m: &[u8], p: usize) -> Reached<Option<SpannedText>>
-    requires { p ≤ length m.now }
-    ensures steps { ExactlyAt (λ x. option_map (text_in m.now) x) m.now result (step (opt (spaced texts.string_utf8)) (drop p m.now)) }
-    ensures ahead { Ahead m.now p result }
-    ensures rests { RestsOn (λ n x. option_map (text_in n) x) result }
-{
-    maybe!(spaced_string_text(m, p), p)
-}
-
 #[tactic(auto, unfolding(crate::specs::Extensions::some_languages))]
 fn some_languages<K: Keep>(keep: &K, alloc: Global, m: &[u8], p: usize) -> Reached<Vec<K::Text>>
     requires inside { p ≤ length m.now }
@@ -97,16 +87,11 @@ fn some_languages<K: Keep>(keep: &K, alloc: Global, m: &[u8], p: usize) -> Reach
     let (mut q, first) = string_text(m, p)?;
     let first = keep.text(m, first)?;
     let mut items = list_of_one(alloc, first)?;
-    'languages: loop {
-        let (after, next) = next_language(m, q)?;
-        match next {
-            None => return Ok((q, items)),
-            Some(language) => {
-                items.push(keep.text(m, language)?)?;
-                q = after;
-            }
-        }
+    'languages: while let Some((after, language)) = tried(spaced_string_text(m, q))? {
+        items.push(keep.text(m, language)?)?;
+        q = after;
     }
+    Ok((q, items))
 }
 
 #[tactic(auto, unfolding(crate::specs::Extensions::language_list))]
@@ -271,33 +256,13 @@ fn some_extensions<K: Keep>(
 {
     let (mut q, first) = extension(keep, alloc, level, m, p)?;
     let mut items = list_of_one(alloc, first)?;
-    'extensions: loop {
-        let (after, next) = next_extension(keep, alloc, level, m, q)?;
-        match next {
-            None => return Ok((q, items)),
-            Some(extension) => {
-                items.push(extension)?;
-                q = after;
-            }
-        }
+    'extensions: while let Some((after, extension)) = tried(spaced_extension(
+        keep, alloc, level, m, q,
+    ))? {
+        items.push(extension)?;
+        q = after;
     }
-}
-
-#[cycle(extension)]
-fn next_extension<K: Keep>(
-    keep: &K,
-    alloc: Global,
-    level: u32,
-    m: &[u8],
-    p: usize,
-) -> Reached<Option<BodyExtension<K::Text>>>
-    requires inside { p ≤ length m.now }
-    requires serves { K.serves keep.now m.now }
-    ensures steps { GivesAt (λ x. option_map (extension_seen (K.text_said m.now)) x) m.now result (step (opt (spaced (extensions.extension level))) (drop p m.now)) }
-    ensures ahead { Ahead m.now p result }
-    ensures rests { RestsOn (λ n x. option_map (extension_seen (K.text_said n)) x) result }
-{
-    maybe!(spaced_extension(keep, alloc, level, m, p), p)
+    Ok((q, items))
 }
 
 #[cycle(extension)]
@@ -442,7 +407,7 @@ fn last_extension<K: Keep>(
     ensures ahead { Ahead m.now p result }
     ensures rests { RestsOn (λ n x. option_map (extension_seen (K.text_said n)) x) result }
 {
-    next_extension(keep, alloc, MAX_EXTENSION_DEPTH, m, p)
+    maybe!(spaced_extension(keep, alloc, MAX_EXTENSION_DEPTH, m, p), p)
 }
 
 /// Extension data of a single part (RFC 3501, section 9: body-ext-1part).

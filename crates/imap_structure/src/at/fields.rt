@@ -1,11 +1,9 @@
 //! Parameters, encodings and fields of bodies at a position.
 
 ghost use Rattle.std.specs.Prelude.{◌≤◌, length, drop, map};
-ghost use Rattle.std.specs.Option.{option_map};
 ghost use Rattle.imap_grammar.specs.Positions.{ExactlyAt, GivesAt, Ahead, RestsOn};
 ghost use Rattle.imap_grammar.specs.Memory.{NeverFails};
 ghost use Rattle.imap_grammar.specs.Step.{step};
-ghost use Rattle.imap_grammar.specs.Rule.{opt};
 ghost use Rattle.imap_envelopes.specs.Envelopes.{spaced};
 ghost use Rattle.imap_structure.specs.Fields as fields;
 ghost use Rattle.imap_structure.specs.Spanned.{pair_in, encoding_in};
@@ -14,7 +12,8 @@ ghost use Rattle.imap_shapes.specs.FieldValues.{pair_seen, params_seen, fields_s
 use imap_bytes::at::Reached;
 use imap_bytes::at::strings::nil;
 use imap_bytes::at::tags::{blanks0, tag, word};
-use imap_bytes::{Err, Needed, first, maybe};
+use imap_bytes::lists::tried;
+use imap_bytes::{Err, Needed, first};
 use imap_envelopes::Keep;
 use imap_envelopes::at::lists::list_of_one;
 use imap_envelopes::at::texts::{
@@ -47,15 +46,6 @@ fn spaced_param(m: &[u8], p: usize) -> Reached<(SpannedText, SpannedText)>
     param(m, p)
 }
 
-fn next_param(m: &[u8], p: usize) -> Reached<Option<(SpannedText, SpannedText)>>
-    requires { p ≤ length m.now }
-    ensures steps { ExactlyAt (λ x. option_map (pair_in m.now) x) m.now result (step (opt (spaced fields.body_param)) (drop p m.now)) }
-    ensures ahead { Ahead m.now p result }
-    ensures rests { RestsOn (λ n x. option_map (pair_in n) x) result }
-{
-    maybe!(spaced_param(m, p), p)
-}
-
 #[tactic(auto, unfolding(crate::specs::Fields::some_params))]
 fn some_params<K: Keep>(
     keep: &K,
@@ -72,16 +62,11 @@ fn some_params<K: Keep>(
     let (mut q, first) = param(m, p)?;
     let first = kept_pair(keep, m, first)?;
     let mut items = list_of_one(alloc, first)?;
-    'params: loop {
-        let (after, next) = next_param(m, q)?;
-        match next {
-            None => return Ok((q, items)),
-            Some(param) => {
-                items.push(kept_pair(keep, m, param)?)?;
-                q = after;
-            }
-        }
+    'params: while let Some((after, param)) = tried(spaced_param(m, q))? {
+        items.push(kept_pair(keep, m, param)?)?;
+        q = after;
     }
+    Ok((q, items))
 }
 
 /// `NIL`, or parameters in parentheses (RFC 3501, section 9: body-fld-param).

@@ -10,7 +10,6 @@ use Rattle.imap_envelopes.proofs.Keeping.{kept_rests}
 use Rattle.imap_structure.proofs.Reading.{message_rests, multipart_rests, message_reads, multipart_reads, boxed_rests, unboxed_rests}
 use Rattle.imap_structure.proofs.FirstBytes.{type_none, type_is_quoted, type_is_literal, type_is_mpart}
 use Rattle.imap_structure.proofs.Levels.{body_below, body_takes}
-use Rattle.imap_structure.proofs.Putting.{one_more, none, neither}
 use Rattle.imap_envelopes.proofs.Gathering.{first, next, all, halted, onward, alone, together}
 use Rattle.imap_structure.proofs.at.bodies.+body.Goals as goal
 
@@ -158,14 +157,14 @@ some_bodies-bodies-init g t c =
 
 pub some_bodies-bodies-smaller : goal.some_bodies-bodies-smaller
 some_bodies-bodies-smaller g t c =
-    let less : c.bodies.q < c.in-Ok.after = onward (body c.args.level) c.args.m.now _ _ _ (one_more (body c.args.level) _ _ _ c.in-Ok.ensures.puts.read) (body_takes c.args.level) in
+    let less : c.bodies.q < c.in-Ok.after = onward (body c.args.level) c.args.m.now _ _ _ c.in-Ok.ensures.puts.read (body_takes c.args.level) in
     omega (arith, less, c.in-Ok.ensures.ahead)
 
 pub some_bodies-bodies-preserved : goal.some_bodies-bodies-preserved
 some_bodies-bodies-preserved g t c =
     let put = c.in-Ok.ensures.puts in
     record {
-      gathered = rw put.behind (next (λ x. body_seen (g.K.Keep.text_said c.args.m.now) (g.K.Keep.bytes_said c.args.m.now) x) _ (body c.args.level) _ _ _ put.one c.bodies.invariant.gathered (one_more (body c.args.level) _ _ _ put.read) (body_takes c.args.level));
+      gathered = rw put.behind (next (λ x. body_seen (g.K.Keep.text_said c.args.m.now) (g.K.Keep.bytes_said c.args.m.now) x) _ (body c.args.level) _ _ _ put.one c.bodies.invariant.gathered put.read (body_takes c.args.level));
       rests = rw put.behind (together (λ n x. body_seen (g.K.Keep.text_said n) (g.K.Keep.bytes_said n) x) _ _ _ _ (c.in-Ok.ensures.ahead.0) c.bodies.invariant.rests put.rests);
       ahead = le_trans c.bodies.invariant.ahead c.in-Ok.ensures.ahead.0;
       within = c.in-Ok.ensures.ahead.1;
@@ -174,7 +173,7 @@ some_bodies-bodies-preserved g t c =
 pub some_bodies-returns-in-Error-clause-steps : goal.some_bodies-returns-in-Error-clause-steps
 unfolding some_bodies
 some_bodies-returns-in-Error-clause-steps g t c =
-    rw c.in-Err.ensures.leaves (all _ (body c.args.level) _ _ _ c.bodies.invariant.gathered (none (body c.args.level) _ (rw c.in-Error.is at c.in-Err.ensures.puts)))
+    rw c.in-Err.ensures.leaves (all _ (body c.args.level) _ _ c.bodies.invariant.gathered (rw c.in-Error.is at c.in-Err.ensures.puts))
 
 pub some_bodies-returns-in-Error-clause-rests : goal.some_bodies-returns-in-Error-clause-rests
 some_bodies-returns-in-Error-clause-rests g t c = record { same = λ n. rw c.in-Err.ensures.leaves (c.bodies.invariant.rests.same n) }
@@ -183,7 +182,7 @@ pub some_bodies-returns-in_default : goal.some_bodies-returns-in_default
 unfolding some_bodies
 some_bodies-returns-in_default g t c =
     record {
-      steps = halted _ (body c.args.level) _ _ c.in-Err.error c.bodies.invariant.gathered (neither (body c.args.level) _ c.in-Err.error c.in_default.not-Error c.in-Err.ensures.puts);
+      steps = halted _ (body c.args.level) _ _ c.in-Err.error c.bodies.invariant.gathered c.in_default.not-Error c.in-Err.ensures.puts;
       ahead = tt;
       rests = tt;
     }

@@ -1,4 +1,4 @@
-use Rattle.std.proofs.Common.{refl, sym, subst, drop, arith, ◌<◌}
+use Rattle.std.proofs.Common.{refl, sym, subst, drop, arith, ◌<◌, ◌∙◌}
 use Rattle.std.proofs.Math.Nat.{le_trans}
 use Rattle.std.proofs.lemmas.Result.{err_from_is_err_and}
 use Rattle.imap_grammar.specs.Positions.{GivesAt}
@@ -6,7 +6,7 @@ use Rattle.imap_grammar.proofs.Positions.{rests_more}
 use Rattle.imap_envelopes.specs.Envelopes.{spaced}
 use Rattle.imap_structure.specs.Extensions.{extension_over, some_extensions, extension_list}
 use Rattle.imap_shapes.specs.ExtensionValues.{extension_seen}
-use Rattle.imap_envelopes.proofs.Naming.{something_rests, itself_rests}
+use Rattle.imap_grammar.proofs.Joins.{tried_some, tried_none, tried_fault}
 use Rattle.imap_structure.proofs.Seeing.{list_rests}
 use Rattle.imap_structure.proofs.Levels.{list_below}
 use Rattle.imap_envelopes.proofs.Gathering.{first, next, all, halted, onward, alone, together}
@@ -23,9 +23,6 @@ extension_list-returns-clause-steps g t c =
 pub bracketed_extensions-returns-clause-rests : goal.bracketed_extensions-returns-clause-rests
 bracketed_extensions-returns-clause-rests g t c = list_rests _ _ _ (rests_more _ (omega (arith, c.in_ok-p-3.ensures.inside, c.in_ok-p-4.ensures.inside)) c.in_ok-p-2.ensures.rests)
 
-pub next_extension-returns-in-Ok-maybe-clause-rests : goal.next_extension-returns-in-Ok-maybe-clause-rests
-next_extension-returns-in-Ok-maybe-clause-rests g t c = something_rests (λ n x. extension_seen (g.K.Keep.text_said n) x) _ _ c.in-Ok-maybe.ensures.rests
-
 pub some_extensions-extensions-init : goal.some_extensions-extensions-init
 some_extensions-extensions-init g t c =
     let one = extension_over (extension_list c.args.level) in
@@ -38,29 +35,35 @@ some_extensions-extensions-init g t c =
 
 pub some_extensions-extensions-smaller : goal.some_extensions-extensions-smaller
 some_extensions-extensions-smaller g t c =
+    let is = tried_some _ _ _ (sym c.tried.ensures ∙ c.in_ok-after.was) c.in-Some.is in
     let more = spaced (extension_over (extension_list c.args.level)) in
-    let less : c.extensions.q < c.in_ok-after.after = onward more c.args.m.now _ _ _ (rw c.in-Some.is at c.in_ok-after.ensures.steps) refl in
-    omega (arith, less, c.in_ok-after.ensures.ahead)
+    let less : c.extensions.q < c.in-Some.after = onward more c.args.m.now _ _ _ (rw is at c.spaced_extension.ensures.steps) refl in
+    omega (arith, less, rw is at c.spaced_extension.ensures.ahead)
 
 pub some_extensions-extensions-preserved : goal.some_extensions-extensions-preserved
 some_extensions-extensions-preserved g t c =
+    let is = tried_some _ _ _ (sym c.tried.ensures ∙ c.in_ok-after.was) c.in-Some.is in
+    let far = rw is at c.spaced_extension.ensures.ahead in
     let more = spaced (extension_over (extension_list c.args.level)) in
     record {
-      gathered = rw c.in_ok-push-in-Some.ensures.items (next (λ x. extension_seen (g.K.Keep.text_said c.args.m.now) x) _ more _ _ _ c.in-Some.extension c.extensions.invariant.gathered (rw c.in-Some.is at c.in_ok-after.ensures.steps) refl);
-      rests = rw c.in_ok-push-in-Some.ensures.items (together (λ n x. extension_seen (g.K.Keep.text_said n) x) _ _ _ _ (c.in_ok-after.ensures.ahead.0) c.extensions.invariant.rests (itself_rests (λ n x. extension_seen (g.K.Keep.text_said n) x) _ _ (rw c.in-Some.is at c.in_ok-after.ensures.rests)));
-      ahead = le_trans c.extensions.invariant.ahead c.in_ok-after.ensures.ahead.0;
-      within = c.in_ok-after.ensures.ahead.1;
+      gathered = rw c.in_ok-push.ensures.items (next (λ x. extension_seen (g.K.Keep.text_said c.args.m.now) x) _ more _ _ _ _ c.extensions.invariant.gathered (rw is at c.spaced_extension.ensures.steps) refl);
+      rests = rw c.in_ok-push.ensures.items (together (λ n x. extension_seen (g.K.Keep.text_said n) x) _ _ _ _ far.0 c.extensions.invariant.rests (rw is at c.spaced_extension.ensures.rests));
+      ahead = le_trans c.extensions.invariant.ahead far.0;
+      within = far.1;
     }
 
-pub some_extensions-returns-in-None-clause-steps : goal.some_extensions-returns-in-None-clause-steps
+pub some_extensions-returns-clause-steps : goal.some_extensions-returns-clause-steps
 unfolding some_extensions
-some_extensions-returns-in-None-clause-steps g t c = all _ (spaced (extension_over (extension_list c.args.level))) _ _ _ c.extensions.invariant.gathered (rw c.in-None.is at c.in_ok-after.ensures.steps)
+some_extensions-returns-clause-steps g t c =
+    let is = tried_none _ _ (sym c.tried.ensures ∙ c.in_ok-after.was) c.in_default.is in
+    all _ (spaced (extension_over (extension_list c.args.level))) _ _ c.extensions.invariant.gathered (rw is at c.spaced_extension.ensures.steps)
 
-pub some_extensions-returns-in-None-clause-rests : goal.some_extensions-returns-in-None-clause-rests
-some_extensions-returns-in-None-clause-rests g t c = record { same = λ n. c.extensions.invariant.rests.same n }
+pub some_extensions-returns-clause-rests : goal.some_extensions-returns-clause-rests
+some_extensions-returns-clause-rests g t c = record { same = λ n. c.extensions.invariant.rests.same n }
 
 pub some_extensions-returns-in_err-after-clause-steps : goal.some_extensions-returns-in_err-after-clause-steps
 unfolding some_extensions
 some_extensions-returns-in_err-after-clause-steps g t c =
     let p = err_from_is_err_and c.from_residual-in_err-after.result c.from_residual-in_err-after.ensures.1 in
-    rw (p.1, p.2) (halted _ (spaced (extension_over (extension_list c.args.level))) _ _ c.in_err-after.field-0.0 c.extensions.invariant.gathered c.in_err-after.ensures.steps)
+    let q = tried_fault _ _ (sym c.tried.ensures ∙ c.in_err-after.was) in
+    rw (p.1, p.2) (halted _ (spaced (extension_over (extension_list c.args.level))) _ _ c.in_err-after.field-0.0 c.extensions.invariant.gathered q.1 (rw q.0 at c.spaced_extension.ensures.steps))

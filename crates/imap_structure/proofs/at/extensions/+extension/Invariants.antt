@@ -10,22 +10,19 @@ use Rattle.imap_envelopes.proofs.Gathering.{Gathered}
 use Rattle.imap_structure.proofs.at.extensions.+extension.Given as goal
 
 abbrev pub decreases-extension : goal.decreases-extension
-decreases-extension g l = 6 * l.level + 1
+decreases-extension g l = 5 * l.level + 1
 
 abbrev pub decreases-extension_list : goal.decreases-extension_list
-decreases-extension_list g l = 6 * l.level
+decreases-extension_list g l = 5 * l.level
 
 abbrev pub decreases-bracketed_extensions : goal.decreases-bracketed_extensions
-decreases-bracketed_extensions g l = 6 * l.level + 5
+decreases-bracketed_extensions g l = 5 * l.level + 4
 
 abbrev pub decreases-some_extensions : goal.decreases-some_extensions
-decreases-some_extensions g l = 6 * l.level + 4
-
-abbrev pub decreases-next_extension : goal.decreases-next_extension
-decreases-next_extension g l = 6 * l.level + 3
+decreases-some_extensions g l = 5 * l.level + 3
 
 abbrev pub decreases-spaced_extension : goal.decreases-spaced_extension
-decreases-spaced_extension g l = 6 * l.level + 2
+decreases-spaced_extension g l = 5 * l.level + 2
 
 abbrev pub invariant-some_extensions-extensions : goal.invariant-some_extensions-extensions
 invariant-some_extensions-extensions g l = record {
