@@ -17,8 +17,8 @@ use std::test::*;
 
 // Whether a copy was made, and equals the value.
 fn equals<T: PartialEq + Drop>(value: &T, copy: Result<T, AllocError>) -> bool {
-    match copy {
-        Ok(copy) => copy == *value,
+    match &copy {
+        Ok(copy) => copy == value,
         Err(_) => false,
     }
 }

@@ -42,8 +42,10 @@ fn searched(
     root: &BodyStructure<'_>,
     sought: Sought,
 ) -> Result<Option<Vec<u32>>, PartsError> {
-    let parser = BodyStructParser::new(alloc, root)?;
-    Ok(parser.search(|body| is_sought(body, sought))?)
+    match BodyStructParser::new(alloc, root) {
+        Ok(parser) => Ok(parser.search(|body| is_sought(body, sought))?),
+        Err(error) => Err(error),
+    }
 }
 
 const NOTHING: &[u8] = b"";
