@@ -249,7 +249,7 @@ def attribute(value):
 
 
 def response(value):
-    """A response; none where it is an ID with fields, since the checker doesn't compute the order of a map."""
+    """A response; none where it is an ID but `NIL`, since the checker doesn't compute the order of a map."""
     kind = value.kind
     head = f"response.{kind}"
     if kind == "Done":

@@ -66,7 +66,7 @@ AttributeKept S B = AttributeParts S B (Box (Structure S B) Global)
 abbrev pub AttributeSpans : Type 0
 AttributeSpans = AttributeKept SpannedText Span
 
--- what it says in m, where its texts and its byte strings are said so
+-- the value that it stands for in m, by the values of its texts and byte strings
 abbrev pub parts_said : {S B : Type 0} → (Bytes → S → Text) → (Bytes → B → Text) → Bytes → AttributeKept S B → AttributeValue
 parts_said text bytes m x = attribute_seen (text m) (bytes m) (λ b. boxed_seen (text m) (bytes m) b) x
 

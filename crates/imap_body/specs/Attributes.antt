@@ -70,7 +70,7 @@ date = string_utf8
 unfoldable pub msg_att_internal_date : Rule AttributeValue
 msg_att_internal_date = word "INTERNALDATE " ▹ gives InternalDate date
 
--- "FLAGS" SP "(" [flag-fetch *(SP flag-fetch)] ")", where `\*` is read too
+-- "FLAGS" SP "(" [flag-fetch *(SP flag-fetch)] ")", where `\*` is read too, and a space before the `)`
 unfoldable pub msg_att_flags : Rule AttributeValue
 msg_att_flags = word "FLAGS " ▹ gives Flags flag_list
 
@@ -84,15 +84,15 @@ msg_att_uid = word "UID " ▹ gives Uid number
 unfoldable pub msg_att_mod_seq : Rule AttributeValue
 msg_att_mod_seq = word "MODSEQ " ▹ gives ModSeq (tag "(" ▹ number_64 ◃ tag ")")
 
--- "X-GM-LABELS" SP "(" [label *(SP label)] ")"
+-- "X-GM-LABELS" SP "(" [label *(SP label)] ")", where a space may stand before the `)`
 unfoldable pub msg_att_gmail_labels : Rule AttributeValue
 msg_att_gmail_labels = gives GmailLabels gmail_label_list
 
--- "X-GM-MSGID" SP number
+-- "X-GM-MSGID" SP number of 64 bits
 unfoldable pub msg_att_gmail_msgid : Rule AttributeValue
 msg_att_gmail_msgid = gives GmailMsgId gmail_msgid
 
--- "X-GM-THRID" SP number
+-- "X-GM-THRID" SP number of 64 bits
 unfoldable pub msg_att_gmail_thrid : Rule AttributeValue
 msg_att_gmail_thrid = gives GmailThrId gmail_thrid
 
@@ -167,7 +167,7 @@ attribute =
     or msg_att_thread_id
     or msg_att_unknown
 
--- msg-att = "(" (msg-att-dynamic / msg-att-static) *(SP (msg-att-dynamic / msg-att-static)) ")"
+-- msg-att = "(" (msg-att-dynamic / msg-att-static) *(SP (msg-att-dynamic / msg-att-static)) ")", where blanks may stand before the `)`
 unfoldable pub attribute_list : Rule (List AttributeValue)
 attribute_list = nonempty_list_of attribute
 

@@ -17,7 +17,8 @@ use Rattle.imap_shapes.specs.declared.spans.SpannedText.TheVariants as spanned
 use Rattle.imap_body.specs.AttributeValues.{AttributeValue, AttributeSpans, attribute_seen, parts_said, lent_attribute}
 use Rattle.imap_body.specs.Attributes.{attribute}
 
--- What it says in m, its texts and its byte strings being said so: its positions count from where its span starts, and name bytes of the span alone.
+-- The value that the attribute stands for in m, by the values of its texts and byte strings. Its positions count from
+-- where its span starts, and name bytes of the span alone.
 abbrev pub attribute_said : {S B : Type 0} → (Bytes → S → Text) → (Bytes → B → Text) → Bytes → SpannedAttribute S B → AttributeValue
 attribute_said text bytes m s = parts_said text bytes (named_in m s.span) s.parts
 
@@ -25,7 +26,8 @@ attribute_said text bytes m s = parts_said text bytes (named_in m s.span) s.part
 abbrev pub attribute_in : Bytes → SpannedAttribute SpannedText Span → AttributeValue
 attribute_in m s = attribute_said text_in bytes_in m s
 
--- It stands in m from p on and ends by q: what is read from p on is what it says, and leaves what is behind its span.
+-- The attribute stands in m at p, and ends at q or before: the rule yields its value at p, and the rest begins where
+-- its span ends.
 pub record StandsAt {S B : Type 0} (text : Bytes → S → Text) (bytes : Bytes → B → Text) (m : Bytes) (p q : ℕ) (s : SpannedAttribute S B) : Type 0 where
   pub start : s.span.start ≡ p
   pub ordered : p ≤ s.span.end
@@ -45,7 +47,8 @@ InTurn m p q xs = TurnsAt text_in bytes_in m p q xs
 abbrev pub EndsAt : {S B : Type 0} → (Bytes → S → Text) → (Bytes → B → Text) → Bytes → ℕ → ℕ → SpannedAttribute S B → Type 0
 EndsAt text bytes m p q s = StandsAt text bytes m p q s × (s.span.end ≡ q)
 
--- What a reader keeps of the attributes that it read from p on, of which s is the rule's answer: they stand in turn, and end by the position that was reached.
+-- What a reader keeps of the attributes that it read from p on, where s is the rule's answer: s yields the values that
+-- they stand for in m; and they stand in turn from p on, and end at the position that was reached, or before.
 abbrev pub KeepsAt : {S B K : Type 0} → (Bytes → S → Text) → (Bytes → B → Text) → (List (SpannedAttribute S B) → List K → Type 0) → Bytes → ℕ → Reached (Vec K Global) → Step (List AttributeValue) → Type 0
 KeepsAt {S} {B} text bytes keeps m p (Ok x) s = (read : List (SpannedAttribute S B)) × keeps read x.1.items × (s ≡ Ok (drop x.0 m, map (attribute_said text bytes m) read)) × TurnsAt text bytes m p x.0 read
 KeepsAt text bytes keeps m p (Err e) s = Stops e s

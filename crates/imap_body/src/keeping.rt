@@ -32,7 +32,7 @@ use std::borrow::{CowSlice, CowStr};
 // How many attributes a list of values gets room for: their values are large, and most lists have one or two.
 const ROOM: usize = 2;
 
-// The same of positions, which are small.
+// How many attributes a list of positions gets room for: positions are small.
 const ROOM_FOR_POSITIONS: usize = 4;
 
 /// What a list keeps of each attribute that is read.
@@ -42,7 +42,7 @@ pub(crate) trait KeepAttribute: Keep + Drop {
     /// These are kept of the attributes that were read.
     ghost keeps: { Self → List (SpannedAttribute Self.Text Self.Bytes) → List Self.Attribute → Type 0 };
 
-    /// The same for what stands behind p in its message. No memory.
+    /// The keeper of what stands from p on in its message. No memory.
     fn behind(&self, m: &[u8], p: usize) -> Self
         requires inside { p ≤ length m.now }
         requires serves { Self.serves self.now m.now }
@@ -56,7 +56,8 @@ pub(crate) trait KeepAttribute: Keep + Drop {
         ensures ahead { Ahead m.now p result }
         ensures rests { RestsOn (λ n x. map (Self.text_said n) x.items) result };
 
-    /// What is kept of Gmail's labels, behind their word (Gmail's X-GM-EXT-1). It takes memory for the list and for texts that are no UTF-8.
+    /// What is kept of Gmail's labels, after their word (Gmail's X-GM-EXT-1). It takes memory for the list, and, where
+    /// values are kept, for texts that are not UTF-8.
     fn labels(&self, alloc: Global, m: &[u8], p: usize) -> Reached<Vec<Self::Text>>
         requires inside { p ≤ length m.now }
         requires serves { Self.serves self.now m.now }
@@ -64,11 +65,11 @@ pub(crate) trait KeepAttribute: Keep + Drop {
         ensures ahead { Ahead m.now p result }
         ensures rests { RestsOn (λ n x. map (Self.text_said n) x.items) result };
 
-    /// A list with room for what is kept of a few.
+    /// A list with room for what is kept of a few. It takes memory; `Err`: memory ran out.
     fn start(&self, alloc: Global) -> Result<Vec<Self::Attribute>, AllocError>
         ensures { IfOk result (λ kept. keeps self.now [] kept.items) };
 
-    /// Puts what is kept of it behind others.
+    /// Puts what is kept of the attribute after what is kept of the others. It may take memory; `Err`: memory ran out.
     fn add(
         &self,
         attribute: SpannedAttribute<Self::Text, Self::Bytes>,
@@ -227,7 +228,8 @@ fn some_attributes<K: KeepAttribute>(
 
 /// The attributes of a message in parentheses, one or more, by one space (RFC 3501, section 9: msg-att).
 ///
-/// It takes memory for what is kept, and for what the attributes list.
+/// It takes memory for the list, and for the lists, envelopes and body structures in it; where values are kept, for
+/// texts that are not UTF-8.
 #[tactic(auto, unfolding(crate::specs::Attributes::attribute_list))]
 pub(crate) fn kept_list<K: KeepAttribute>(
     keep: &K,

@@ -41,7 +41,8 @@ use imap_shapes::{
 };
 use std::borrow::{CowSlice, CowStr};
 
-/// Each rule has one answer, and appended bytes change neither a value nor a denial, and make what is lacking as much smaller.
+/// Each rule has one answer. Bytes that are appended change neither a value nor a denial; and where n bytes are
+/// lacking, k appended ones (k < n) leave n - k lacking.
 #[tactic(auto, using(imap_grammar::proofs::Stability::is_stable))]
 pub fn stable()
     ensures header_list { Stable sections.header_list }
@@ -58,10 +59,15 @@ pub fn stable()
     ensures body_fields { Stable fields.body_fields }
     ensures body_fld_dsp { Stable extensions.body_fld_dsp }
     ensures body_fld_lang { Stable extensions.body_fld_lang }
+    ensures extension_list { (level : ℕ) → Stable (extensions.extension_list level) }
     ensures extension { (level : ℕ) → Stable (extensions.extension level) }
     ensures body_extension { Stable extensions.body_extension }
     ensures body_ext_1part { Stable extensions.body_ext_1part }
     ensures body_ext_mpart { Stable extensions.body_ext_mpart }
+    ensures body_type_text { Stable bodies.body_type_text }
+    ensures body_type_msg { (level : ℕ) → Stable (bodies.body_type_msg (bodies.body level)) }
+    ensures body_type_basic { Stable bodies.body_type_basic }
+    ensures body_type_mpart { (level : ℕ) → Stable (bodies.body_type_mpart (bodies.body level)) }
     ensures body { (level : ℕ) → Stable (bodies.body level) }
     ensures body_structure { Stable bodies.body_structure }
     ensures msg_att_body_section { Stable attributes.msg_att_body_section }
@@ -86,8 +92,9 @@ pub fn stable()
     ensures attribute_list { Stable attributes.attribute_list }
 {}
 
-/// What each rule takes spells the value that it yields. And a value that it yields on some bytes, it yields again on the value's canonical text, with all texts borrowed,
-/// and leaves exactly what follows: any bytes that begin with `)` or CR, and behind an attribute also with a space. A text too long for its length to be told as a literal is excepted.
+/// What each rule takes spells the value that it yields. On the canonical text of a value that it yields, the rule
+/// yields that value again, with all texts borrowed. What follows the text is left whole: any bytes that begin with `)`
+/// or CR, and after an attribute also with a space. Excepted is a text too long to be written as a literal.
 #[tactic(auto, using(imap_sections::proofs::SectionTexts::keeps_section_msgtext, imap_sections::proofs::SectionTexts::keeps_section_text, imap_sections::proofs::SectionTexts::keeps_section_part, imap_sections::proofs::SectionTexts::keeps_section_spec, imap_sections::proofs::SectionTexts::keeps_section, imap_envelopes::proofs::EnvelopeTexts::keeps_address, imap_envelopes::proofs::EnvelopeTexts::keeps_addresses, imap_envelopes::proofs::EnvelopeTexts::keeps_envelope, imap_structure::proofs::FieldTexts::keeps_params, imap_structure::proofs::FieldTexts::keeps_encoding, imap_structure::proofs::FieldTexts::keeps_fields, imap_structure::proofs::ExtensionTexts::keeps_disposition, imap_structure::proofs::ExtensionTexts::keeps_language, imap_structure::proofs::ExtensionTexts::keeps_body_extension, imap_structure::proofs::ExtensionTexts::keeps_ext_1part, imap_structure::proofs::ExtensionTexts::keeps_ext_mpart, imap_structure::proofs::BodyTexts::keeps_body_structure, crate::proofs::AttributeTexts::keeps_body_section, crate::proofs::AttributeTexts::keeps_body_structure, crate::proofs::AttributeTexts::keeps_envelope, crate::proofs::AttributeTexts::keeps_internal_date, crate::proofs::AttributeTexts::keeps_flags, crate::proofs::AttributeTexts::keeps_mod_seq, crate::proofs::AttributeTexts::keeps_rfc822, crate::proofs::AttributeTexts::keeps_rfc822_header, crate::proofs::AttributeTexts::keeps_rfc822_size, crate::proofs::AttributeTexts::keeps_rfc822_text, crate::proofs::AttributeTexts::keeps_uid, crate::proofs::AttributeTexts::keeps_gmail_labels, crate::proofs::AttributeTexts::keeps_gmail_msgid, crate::proofs::AttributeTexts::keeps_gmail_thrid, crate::proofs::AttributeTexts::keeps_email_id, crate::proofs::AttributeTexts::keeps_thread_id, crate::proofs::AttributeTexts::keeps_unknown, crate::proofs::AttributeTexts::keeps_attribute, crate::proofs::AttributeTexts::keeps_attribute_list))]
 pub fn read_back()
     ensures section_msgtext { Keeps sections.section_msgtext as_is canonical_text spells_message_text Closes }

@@ -32,7 +32,8 @@ fn copied_section(
 }
 
 impl<S: Drop, B: Drop, Y: Drop> Parts<S, B, Y> {
-    /// Puts the same attribute behind the others, with each text changed by c, each byte string by d, and a body structure by e.
+    /// Puts this attribute after the others, with each text changed by c, each byte string by d, and a body structure
+    /// by e.
     ///
     /// It is put where it stays, not answered: an answer has room for a body structure, and is copied whole.
     pub(crate) fn push_mapped<C: Change<S>, D: Change<B>, E: BodyChange<Y>>(
@@ -139,7 +140,8 @@ impl<S: Drop, B: Drop, Y: Drop> Parts<S, B, Box<Y>> {
     }
 }
 
-// Puts an attribute that is a body structure, changed, behind the others. A call of its own: its slots have room for a body structure.
+// Puts an attribute that is a body structure, changed, after the others. Never inlined: its stack frame has room for a
+// body structure, and a caller that inlined it would clear that at each call.
 #[inline(never)]
 fn push_body<S: Drop, B: Drop, Y, E: BodyChange<Y>>(
     e: &E,
@@ -153,7 +155,8 @@ fn push_body<S: Drop, B: Drop, Y, E: BodyChange<Y>>(
     Ok(())
 }
 
-// The same of one that lies in its box, and stays as it is.
+// Puts an attribute that is a body structure, out of its box and as it is, after the others. Never inlined: its stack
+// frame has room for a body structure, and a caller that inlined it would clear that at each call.
 #[inline(never)]
 fn push_structure<S: Drop, B: Drop, Y: Drop>(
     body: Box<Y>,

@@ -8,7 +8,8 @@ use imap_shapes::maps::changes::Owning;
 use std::alloc::{AllocError, Global};
 
 impl<'a> AttributeValue<'a> {
-    /// The same with all texts owned. It is consumed, and `Err` where there is no memory.
+    /// The same attribute with all texts owned. It is consumed. It always takes memory, at least for one attribute;
+    /// more for what it holds, also for texts that are owned already; `Err`: memory ran out.
     pub fn into_owned(self, alloc: Global) -> Result<AttributeValue<'static>, AllocError>
         ensures { IfOk result (λ x. attribute_value x ≡ attribute_owned self.entry) }
     {
@@ -19,7 +20,8 @@ impl<'a> AttributeValue<'a> {
     }
 }
 
-/// The same attributes in their order, with all texts owned. It takes memory; `Err` where there is none.
+/// The same attributes in their order, with all texts owned. It takes memory for the list, and for what the attributes
+/// hold, also for texts that are owned already; `Err`: memory ran out.
 pub fn owned_attributes(
     alloc: Global,
     attributes: &[AttributeValue<'_>],

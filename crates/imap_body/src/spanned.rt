@@ -18,7 +18,8 @@ use imap_shapes::spans::{Span, SpannedText};
 use std::alloc::{AllocError, Global};
 use std::borrow::{CowSlice, CowStr};
 
-/// An attribute of a message as positions and numbers; its strings as they are kept: as positions, where nothing else is said.
+/// An attribute of a message as positions and numbers. `S` and `B` are what is kept of its texts and byte strings; by
+/// default their positions.
 #[derive(Debug, Drop, PartialEq, Eq)]
 pub struct SpannedAttribute<S = SpannedText, B = Span> {
     span: Span,
@@ -34,9 +35,12 @@ impl SpannedAttribute {
         self.span
     }
 
-    /// The attribute that it names in m, as far as m has the bytes of its span: texts are borrowed from m where their bytes are UTF-8, byte strings always.
+    /// The attribute that it names in m, as far as m has the bytes of its span: texts are borrowed from m where their
+    /// bytes are UTF-8, byte strings always.
     ///
-    /// It rests on the bytes of the span alone, and reads no rule again. `Err`: no memory for lists, envelopes, body structures or texts that are no UTF-8.
+    /// It rests on the bytes of the span alone, and reads no rule again. It always takes memory, at least for one
+    /// attribute; more for lists, envelopes and body structures, and for texts that are not UTF-8; `Err`: memory ran
+    /// out.
     pub fn value<'a>(&self, alloc: Global, m: &'a [u8]) -> Result<AttributeValue<'a>, AllocError>
         ensures { IfOk result (λ v. attribute_value v ≡ attribute_in m.now self.now) }
     {
@@ -45,7 +49,8 @@ impl SpannedAttribute {
 }
 
 impl<'a> SpannedAttribute<CowStr<'a>, CowSlice<'a, u8>> {
-    /// Puts the attribute behind others: what was kept of its strings is what they are. It takes memory where the list has no room.
+    /// Puts the attribute after the others: what was kept of its strings is what they are. It takes memory where the
+    /// list has no room; `Err`: memory ran out.
     pub(crate) fn push_value(self, values: &mut Vec<AttributeValue<'a>>) -> Result<(), AllocError>
         ensures { OnOk result (map attribute_value values.new.items ≡ map attribute_value values.old.items ++ kept_value self.entry.parts ∷ []) }
     {
@@ -54,7 +59,8 @@ impl<'a> SpannedAttribute<CowStr<'a>, CowSlice<'a, u8>> {
 }
 
 impl AttributeSpans {
-    /// The attribute that its spans name in m. It takes memory; `Err` where there is none.
+    /// The attribute that its spans name in m. It always takes memory, at least for one attribute; `Err`: memory ran
+    /// out.
     pub(crate) fn value<'a>(
         &self,
         alloc: Global,
@@ -92,7 +98,7 @@ pub(crate) fn spanned_attribute<K: KeepAttribute>(
 
 /// The attributes of a message in parentheses (RFC 3501, section 9: msg-att), each as its positions in m.
 ///
-/// It takes memory for the list and for what the attributes list, and for no text.
+/// It takes memory for the list, and for the lists, envelopes and body structures in it; for no text.
 pub fn attribute_list_at(alloc: Global, m: &[u8], p: usize) -> Reached<Vec<SpannedAttribute>>
     requires { p ≤ length m.now }
     ensures steps { GivesAt (λ x. map (attribute_in m.now) x.items) m.now result (step rules.attribute_list (drop p m.now)) }

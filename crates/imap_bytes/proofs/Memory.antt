@@ -23,7 +23,7 @@ not_memory {W} part m e failed q = (agrees part m).never (failed ∙ ap bad q)
 pub exact_memory : {A V W : Type 0} (owned : V → Type 0) (part : Rule W) (r : Rule V) (m : List ℕ) (e : Fault) (result : Returned A) → result ≡ Err e → step part m ≡ Err e → FailsForOwned owned r m result
 exact_memory owned part r m e result is failed = subst (FailsForOwned owned r m) (sym is) (λ q. absurd (not_memory part m e failed q))
 
--- the decoding of bytes that are no UTF-8
+-- the decoding of bytes that are not UTF-8
 pub decoding_memory : {A : Type 0} (a : Rule (List ℕ)) (m rest bytes : List ℕ) (result : Returned A) → step a m ≡ Ok (rest, bytes) → (IsUtf8 bytes → false ≡ true) → FailsForOwned is_owned (utf8 a) m result
 decoding_memory a m rest bytes (Ok x) read n = tt
 decoding_memory a m rest bytes (Err e) read n = λ q. (decoded bytes, rest, rw read refl, not_utf8 (is_utf8 bytes) refl)

@@ -9,7 +9,7 @@ use crate::at;
 use imap_grammar::IResult;
 use imap_grammar::at::span::rest;
 
-/// A number below 2^32, leading zeros allowed (RFC 3501, section 9: number).
+/// A number below 2^32, leading zeros allowed (RFC 3501, section 9: number). No memory.
 ///
 /// It is judged behind the byte that ends its digits: a larger one is `Error`, digits up to the end of the input wait.
 #[tactic(auto, using(imap_grammar::proofs::Agreement::exact_answered), unfolding(crate::specs::Numbers::number))]
@@ -23,7 +23,9 @@ pub fn number(i: &[u8]) -> IResult<&[u8], u32>
     Ok((rest(i, q), n))
 }
 
-/// A number below 2^64, leading zeros allowed (RFC 4551, section 4: mod-sequence-value). It is judged as `number` is.
+/// A number below 2^64, leading zeros allowed (RFC 4551, section 4: mod-sequence-value). No memory.
+///
+/// It is judged as `number` is.
 #[tactic(auto, using(imap_grammar::proofs::Agreement::exact_answered), unfolding(crate::specs::Numbers::number_64))]
 pub fn number_64(i: &[u8]) -> IResult<&[u8], u64>
     ensures steps { Exactly (λ x. x) result (step numbers.number_64 i.now) }

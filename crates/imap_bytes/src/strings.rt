@@ -15,7 +15,9 @@ use imap_grammar::IResult;
 use imap_grammar::at::span::{rest, sliced};
 use std::str;
 
-/// A quoted string: its raw content, backslashes and all (RFC 3501, section 9: quoted).
+/// A quoted string: its raw content, backslashes and all (RFC 3501, section 9: quoted). No memory.
+///
+/// NUL, CR, LF, or a backslash before another byte than `"` and `\` is `Error`.
 #[tactic(auto, using(imap_grammar::proofs::Agreement::exact_answered), unfolding(crate::specs::Strings::quoted))]
 pub fn quoted(i: &[u8]) -> IResult<&[u8], &[u8]>
     ensures steps { Exactly (λ x. x.now) result (step strings.quoted i.now) }
@@ -25,9 +27,9 @@ pub fn quoted(i: &[u8]) -> IResult<&[u8], &[u8]>
     sliced(i, at::strings::quoted(i, 0))
 }
 
-/// A literal: as many bytes as its header says, of any value (RFC 3501, section 9: literal).
+/// A literal: as many bytes as its header says, of any value (RFC 3501, section 9: literal). No memory.
 ///
-/// Where fewer follow, `Needed::Size` is how many are missing.
+/// Where fewer follow, `Needed::Size` is how many are missing. A count above 4,294,967,295 is `Error`.
 #[tactic(auto, using(imap_grammar::proofs::Agreement::exact_answered), unfolding(crate::specs::Strings::literal))]
 pub fn literal(i: &[u8]) -> IResult<&[u8], &[u8]>
     ensures steps { Exactly (λ x. x.now) result (step strings.literal i.now) }
@@ -37,7 +39,7 @@ pub fn literal(i: &[u8]) -> IResult<&[u8], &[u8]>
     sliced(i, at::strings::literal(i, 0))
 }
 
-/// A string: quoted, or a literal (RFC 3501, section 9: string).
+/// A string: quoted, or a literal (RFC 3501, section 9: string). No memory.
 #[tactic(auto, using(imap_grammar::proofs::Agreement::exact_answered), unfolding(crate::specs::Strings::string))]
 #[inline(always)]
 pub fn string(i: &[u8]) -> IResult<&[u8], &[u8]>
@@ -48,7 +50,7 @@ pub fn string(i: &[u8]) -> IResult<&[u8], &[u8]>
     sliced(i, at::strings::string(i, 0))
 }
 
-/// At least one astring-char.
+/// At least one astring-char (RFC 3501, section 9: ASTRING-CHAR). No memory.
 pub fn astring_chars(i: &[u8]) -> IResult<&[u8], &[u8]>
     ensures steps { Exactly (λ x. x.now) result (step (run1 classes.is_astring_char) i.now) }
     ensures no_failure { NeverFails result }
@@ -56,7 +58,7 @@ pub fn astring_chars(i: &[u8]) -> IResult<&[u8], &[u8]>
     sliced(i, at::strings::astring_chars(i, 0))
 }
 
-/// Bare astring-chars, or a string (RFC 3501, section 9: astring).
+/// Bare astring-chars, or a string (RFC 3501, section 9: astring). No memory.
 #[tactic(auto, using(imap_grammar::proofs::Agreement::exact_answered), unfolding(crate::specs::Strings::astring))]
 pub fn astring(i: &[u8]) -> IResult<&[u8], &[u8]>
     ensures steps { Exactly (λ x. x.now) result (step strings.astring i.now) }
@@ -66,7 +68,7 @@ pub fn astring(i: &[u8]) -> IResult<&[u8], &[u8]>
     sliced(i, at::strings::astring(i, 0))
 }
 
-/// `NIL` in any case: the three bytes, whatever follows them (RFC 3501, section 9: nil).
+/// `NIL` in any case: the three bytes, whatever follows them (RFC 3501, section 9: nil). No memory.
 #[tactic(auto, using(imap_grammar::proofs::Agreement::exact_answered), unfolding(crate::specs::Strings::nil))]
 pub fn nil(i: &[u8]) -> IResult<&[u8], &[u8]>
     ensures steps { Exactly (λ x. x.now) result (step strings.nil i.now) }
@@ -76,7 +78,7 @@ pub fn nil(i: &[u8]) -> IResult<&[u8], &[u8]>
     sliced(i, at::strings::nil(i, 0))
 }
 
-/// `NIL`, or a string (RFC 3501, section 9: nstring).
+/// `NIL`, or a string (RFC 3501, section 9: nstring). No memory.
 #[tactic(auto, using(imap_grammar::proofs::Agreement::exact_answered), unfolding(crate::specs::Strings::nstring))]
 pub fn nstring(i: &[u8]) -> IResult<&[u8], Option<&[u8]>>
     ensures steps { Exactly (λ x. option_map (λ y. y.now) x) result (step strings.nstring i.now) }
@@ -84,13 +86,10 @@ pub fn nstring(i: &[u8]) -> IResult<&[u8], Option<&[u8]>>
     ensures no_failure { NeverFails result }
 {
     let (q, content) = at::strings::nstring(i, 0)?;
-    match content {
-        None => Ok((rest(i, q), None)),
-        Some(content) => Ok((rest(i, q), Some(content.part(i)))),
-    }
+    Ok((rest(i, q), content.map(|span| span.part(i))))
 }
 
-/// The bytes as text, if they are UTF-8.
+/// The bytes as text, if they are UTF-8. No memory.
 pub fn as_utf8(bytes: &[u8]) -> Option<&str>
     ensures { option_map (λ x. x.now) result ≡ only is_utf8 bytes.now }
 {
@@ -100,7 +99,7 @@ pub fn as_utf8(bytes: &[u8]) -> Option<&str>
     }
 }
 
-/// Atom-chars, maybe none.
+/// Atom-chars, maybe none (RFC 3501, section 9: ATOM-CHAR). No memory.
 pub fn atom_chars0(i: &[u8]) -> IResult<&[u8], &[u8]>
     ensures steps { Exactly (λ x. x.now) result (step (run0 classes.is_atom_char) i.now) }
     ensures no_failure { NeverFails result }
@@ -108,7 +107,7 @@ pub fn atom_chars0(i: &[u8]) -> IResult<&[u8], &[u8]>
     sliced(i, at::strings::atom_chars0(i, 0))
 }
 
-/// At least one atom-char.
+/// At least one atom-char (RFC 3501, section 9: ATOM-CHAR). No memory.
 pub fn atom_chars(i: &[u8]) -> IResult<&[u8], &[u8]>
     ensures steps { Exactly (λ x. x.now) result (step (run1 classes.is_atom_char) i.now) }
     ensures no_failure { NeverFails result }
@@ -116,7 +115,9 @@ pub fn atom_chars(i: &[u8]) -> IResult<&[u8], &[u8]>
     sliced(i, at::strings::atom_chars(i, 0))
 }
 
-/// An atom; bytes that are no UTF-8 are `Error` (RFC 3501, section 9: atom).
+/// An atom (RFC 3501, section 9: atom). No memory.
+///
+/// Bytes that are not UTF-8 are `Error`.
 #[tactic(auto, using(imap_grammar::proofs::Agreement::exact_answered), unfolding(crate::specs::Strings::atom))]
 pub fn atom(i: &[u8]) -> IResult<&[u8], &str>
     ensures steps { Exactly (λ x. x.now) result (step strings.atom i.now) }

@@ -1,4 +1,5 @@
-//! Reads standard input to its end, and writes a line for each response as soon as its last byte was read.
+//! Reads standard input to its end, and writes a line for each response as soon as its last byte was read, and a last
+//! line on what is left. The exit status is 0, 2 or 3 by that line (`end`, `waiting`, `denied`), and 1 after a fault.
 #![tactic(auto)]
 
 use imap_report::cat;

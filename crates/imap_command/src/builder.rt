@@ -18,7 +18,7 @@ use std::alloc::{AllocError, Global};
 pub struct CommandBuilder {}
 
 impl CommandBuilder {
-    /// CHECK (RFC 3501, section 6.4.1). It takes memory; `Err` where there is none.
+    /// CHECK (RFC 3501, section 6.4.1). It takes memory; `Err`: memory ran out.
     pub fn check(alloc: Global) -> Result<Command, AllocError>
         ensures { IfOk result (λ command. Holds (call.check ∷ []) command) }
     {
@@ -29,7 +29,7 @@ impl CommandBuilder {
         })
     }
 
-    /// CLOSE (RFC 3501, section 6.4.2). It takes memory; `Err` where there is none.
+    /// CLOSE (RFC 3501, section 6.4.2). It takes memory; `Err`: memory ran out.
     pub fn close(alloc: Global) -> Result<Command, AllocError>
         ensures { IfOk result (λ command. Holds (call.close ∷ []) command) }
     {
@@ -43,8 +43,8 @@ impl CommandBuilder {
     /// EXAMINE of a mailbox (RFC 3501, section 6.3.2). The name is quoted, and not encoded: one
     /// beyond ASCII is to be in modified UTF-7 already (section 5.1.3).
     ///
-    /// `CarriageReturn`, `LineFeed`, `Nul`: the first such byte of the argument. `OutOfMemory`: it
-    /// takes memory, and there was none.
+    /// `CarriageReturn`, `LineFeed`, `Nul`: the first such byte of the argument. It takes memory;
+    /// `OutOfMemory`: memory ran out.
     pub fn examine(alloc: Global, mailbox: &str) -> Result<SelectCommand<NoParams>, BuildError>
         ensures judged { Judges (refusal mailbox.now) result }
         ensures text { IfOk result (λ command. command ≡ begun (call.examine mailbox.now ∷ [])) }
@@ -53,8 +53,8 @@ impl CommandBuilder {
         Ok(SelectCommand::with_text(args))
     }
 
-    /// FETCH of messages by their numbers (RFC 3501, section 6.4.5). It takes memory; `Err` where
-    /// there is none.
+    /// FETCH of messages by their numbers (RFC 3501, section 6.4.5). It takes memory; `Err`: memory
+    /// ran out.
     pub fn fetch(alloc: Global) -> Result<FetchCommand<Empty>, AllocError>
         ensures { IfOk result (λ command. command ≡ begun (call.fetch ∷ [])) }
     {
@@ -66,8 +66,8 @@ impl CommandBuilder {
     /// quoted, and not encoded: what is beyond ASCII is to be in modified UTF-7 already (section
     /// 5.1.3).
     ///
-    /// `CarriageReturn`, `LineFeed`, `Nul`: the first such byte of the arguments. `OutOfMemory`: it
-    /// takes memory, and there was none.
+    /// `CarriageReturn`, `LineFeed`, `Nul`: the first such byte of the arguments. It takes memory;
+    /// `OutOfMemory`: memory ran out.
     pub fn list(alloc: Global, reference: &str, glob: &str) -> Result<Command, BuildError>
         ensures judged { Judges (option_or (refusal reference.now) (refusal glob.now)) result }
         ensures told { IfOk result (λ command.
@@ -82,8 +82,8 @@ impl CommandBuilder {
 
     /// LOGIN (RFC 3501, section 6.2.3). The command has the password in clear.
     ///
-    /// `CarriageReturn`, `LineFeed`, `Nul`: the first such byte of the arguments. `OutOfMemory`: it
-    /// takes memory, and there was none.
+    /// `CarriageReturn`, `LineFeed`, `Nul`: the first such byte of the arguments. It takes memory;
+    /// `OutOfMemory`: memory ran out.
     pub fn login(alloc: Global, user_name: &str, password: &str) -> Result<Command, BuildError>
         ensures judged { Judges (option_or (refusal user_name.now) (refusal password.now)) result }
         ensures told { IfOk result (λ command.
@@ -99,8 +99,8 @@ impl CommandBuilder {
     /// SELECT of a mailbox (RFC 3501, section 6.3.1). The name is quoted, and not encoded: one
     /// beyond ASCII is to be in modified UTF-7 already (section 5.1.3).
     ///
-    /// `CarriageReturn`, `LineFeed`, `Nul`: the first such byte of the argument. `OutOfMemory`: it
-    /// takes memory, and there was none.
+    /// `CarriageReturn`, `LineFeed`, `Nul`: the first such byte of the argument. It takes memory;
+    /// `OutOfMemory`: memory ran out.
     pub fn select(alloc: Global, mailbox: &str) -> Result<SelectCommand<NoParams>, BuildError>
         ensures judged { Judges (refusal mailbox.now) result }
         ensures text { IfOk result (λ command. command ≡ begun (call.select mailbox.now ∷ [])) }
@@ -110,7 +110,7 @@ impl CommandBuilder {
     }
 
     /// FETCH of messages by their unique identifiers (RFC 3501, section 6.4.8). It takes memory;
-    /// `Err` where there is none.
+    /// `Err`: memory ran out.
     pub fn uid_fetch(alloc: Global) -> Result<FetchCommand<Empty>, AllocError>
         ensures { IfOk result (λ command. command ≡ begun (call.uid_fetch ∷ [])) }
     {

@@ -7,7 +7,7 @@ use thiserror::Error;
 
 /// Why a command isn't built. The first three name the first byte of the arguments, the first
 /// argument first, that a quoted string can't have (RFC 3501, section 9: quoted). Bytes from 128 on
-/// pass as they are, though a quoted string there has seven bits.
+/// pass as they are, though RFC 3501 has only seven-bit characters in a quoted string.
 #[derive(Debug, Drop, Error, PartialEq, Eq)]
 pub enum BuildError {
     /// Byte 13.

@@ -12,6 +12,6 @@ pub struct Messages;
 #[derive(Drop)]
 pub struct Attributes;
 
-/// All but further modifiers.
+/// Messages and attributes; only modifiers may follow.
 #[derive(Drop)]
 pub struct Modifiers;

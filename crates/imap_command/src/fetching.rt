@@ -41,19 +41,19 @@ impl<T> FetchCommand<T> {
 }
 
 impl FetchCommand<Empty> {
-    /// Asks for the message with this number (RFC 3501, section 6.4.5). It takes memory; `Err`
-    /// where there is none.
+    /// Asks for the message with this number (RFC 3501, section 6.4.5). It takes memory;
+    /// `Err`: memory ran out.
     pub fn num(self, number: u32) -> Result<FetchCommand<Messages>, AllocError>
         ensures { IfOk result (λ command. (calls : List Call) → stage calls ≡ empty
             → self ≡ begun calls → command ≡ begun (call.num number ∷ calls)) }
     {
         let mut args = self.args;
-        push_number(&mut args, number as u64)?;
+        push_number(&mut args, u64::from(number))?;
         Ok(FetchCommand::with_text(args))
     }
 
     /// Asks for the messages from one number to another (RFC 3501, section 6.4.5). It takes memory;
-    /// `Err` where there is none.
+    /// `Err`: memory ran out.
     pub fn range(self, range: RangeInclusive<u32>) -> Result<FetchCommand<Messages>, AllocError>
         ensures { IfOk result (λ command. (calls : List Call) → stage calls ≡ empty
             → self ≡ begun calls → command
@@ -64,8 +64,8 @@ impl FetchCommand<Empty> {
         Ok(FetchCommand::with_text(args))
     }
 
-    /// Asks for the messages from a number on (RFC 3501, section 6.4.5). It takes memory; `Err`
-    /// where there is none.
+    /// Asks for the messages from a number on (RFC 3501, section 6.4.5). It takes memory;
+    /// `Err`: memory ran out.
     pub fn range_from(self, range: RangeFrom<u32>) -> Result<FetchCommand<Messages>, AllocError>
         ensures { IfOk result (λ command. (calls : List Call) → stage calls ≡ empty
             → self ≡ begun calls → command ≡ begun (call.range_from range.start ∷ calls)) }
@@ -77,8 +77,8 @@ impl FetchCommand<Empty> {
 }
 
 impl FetchCommand<Modifiers> {
-    /// Asks only for messages that changed after this mod-sequence too (RFC 4551, section 3.3.1).
-    /// It takes memory; `Err` where there is none.
+    /// Asks only for messages that changed after this mod-sequence (RFC 4551, section 3.3.1). A limit
+    /// that was set before stays. It takes memory; `Err`: memory ran out.
     pub fn changed_since(self, mod_seq: u64) -> Result<FetchCommand<Modifiers>, AllocError>
         ensures { IfOk result (λ command. (calls : List Call) → stage calls ≡ modifiers
             → self ≡ begun calls → command ≡ begun (call.changed_since mod_seq ∷ calls)) }

@@ -7,7 +7,8 @@ use crate::command::State;
 use crate::errors::BuildError;
 use crate::words::{AttrMacro, Attribute};
 
-/// Finished commands are told apart by their bytes: equal bytes only from equal calls.
+/// Finished commands with equal bytes were built by equal calls, ranges compared by their printed
+/// ends.
 pub fn calls_told_apart()
     ensures { CallsToldApart }
 {}

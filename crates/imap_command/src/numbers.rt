@@ -18,15 +18,15 @@ pub(crate) fn push_range(out: &mut Vec<u8>, range: RangeInclusive<u32>) -> Resul
     ensures { OnOk result (out.new.items ≡ out.old.items
         ++ (decimal (range_inclusive_start range) ++ (codes ":" ++ decimal (range_inclusive_end range)))) }
 {
-    push_number(out, *range.start() as u64)?;
+    push_number(out, u64::from(*range.start()))?;
     out.push(b':')?;
-    push_number(out, *range.end() as u64)
+    push_number(out, u64::from(*range.end()))
 }
 
 pub(crate) fn push_open_range(out: &mut Vec<u8>, first: u32) -> Result<(), AllocError>
     ensures { OnOk result (out.new.items ≡ out.old.items ++ (decimal first ++ codes ":*")) }
 {
-    push_number(out, first as u64)?;
+    push_number(out, u64::from(first))?;
     out.extend_from_slice(b":*")
 }
 

@@ -46,8 +46,8 @@ fn selecting(args: Vec<u8>) -> Command
 }
 
 impl SelectCommand<NoParams> {
-    /// Asks for mod-sequences from now on (RFC 4551, section 3.7). It takes memory; `Err` where
-    /// there is none.
+    /// Asks for mod-sequences from now on (RFC 4551, section 3.7). It takes memory; `Err`: memory
+    /// ran out.
     pub fn cond_store(self) -> Result<SelectCommand<Params>, AllocError>
         ensures { IfOk result (λ command. (calls : List Call) → stage calls ≡ no_params
             → self ≡ begun calls → command ≡ begun (call.cond_store ∷ calls)) }
@@ -59,7 +59,7 @@ impl SelectCommand<NoParams> {
 }
 
 impl SelectCommand<Params> {
-    /// The finished command. It takes memory; `Err` where there is none.
+    /// The finished command. It takes memory; `Err`: memory ran out.
     #[tactic(auto, using(crate::proofs::NextStates::selects_with_params))]
     pub fn into_command(self) -> Result<Command, AllocError>
         ensures { IfOk result (λ command. (calls : List Call) → stage calls ≡ params

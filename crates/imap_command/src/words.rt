@@ -10,8 +10,8 @@ pub enum AttrMacro {
     All,
     /// `FAST`: flags, internal date and size.
     Fast,
-    /// `FULL`: flags, internal date, size, envelope and body. The parser denies most answers to it,
-    /// as to `Attribute::Body`.
+    /// `FULL`: flags, internal date, size, envelope and body. `Response::parse` of `imap_proto`
+    /// denies most answers to it, as to `Attribute::Body`.
     Full,
 }
 
@@ -19,8 +19,8 @@ pub enum AttrMacro {
 /// three of Gmail's.
 #[derive(Clone, Copy, Debug, PartialEq, Eq)]
 pub enum Attribute {
-    /// `BODY`: the structure of the body, without its extensions. The parser has no rule for that,
-    /// and denies most lines that have it.
+    /// `BODY`: the structure of the body, without its extensions. `Response::parse` of `imap_proto`
+    /// has no rule for that, and denies most lines that have it.
     Body,
     /// `ENVELOPE`: the parsed header.
     Envelope,

@@ -26,7 +26,7 @@ use Rattle.imap_data.specs.Names.{ListValue, lent_list, list_data}
 use Rattle.imap_data.specs.NameTexts.{canonical_list}
 use Rattle.imap_data.proofs.NameTexts.{reads_list_data, list_data_spells}
 use Rattle.imap_data.specs.MailboxValues.{MailboxValue, Exists, Flags, Listed, Search, Sort, Recent, GmailLabels, GmailMsgId, GmailThrId, lent_mailbox}
-use Rattle.imap_data.specs.MailboxData.{flags, exists, list, lsub, status_of, status, recent, search as search_rule, labels, msgid, thrid, sort, mailbox_datum}
+use Rattle.imap_data.specs.MailboxData.{flags, exists, list, lsub, list_or_lsub, status_of, status, recent, search as search_rule, labels, msgid, thrid, sort, mailbox_datum}
 use Rattle.imap_data.specs.MailboxDataTexts.{canonical_item, canonical_numbers, canonical_datum, spells_item, spells_numbers, spells_datum}
 
 -- ---- items of STATUS
@@ -224,6 +224,16 @@ reads_statuses = first reads_status (apart-alt _ _ status_recent status_last) re
 reads_lists : ReadsBack (list or lsub or status or recent or search_rule or labels or msgid or thrid or sort) lent_mailbox canonical_datum Closes
 reads_lists = first_instead reads_list lsub_as_list (apart-alt _ _ list_status (apart-alt _ _ list_recent list_last)) (apart-alt _ _ lsub_status (apart-alt _ _ lsub_recent lsub_last)) reads_statuses
 
+reads_list_or_lsub : ReadsBack list_or_lsub lent_mailbox canonical_datum Closes
+unfolding list_or_lsub meaning
+reads_list_or_lsub = record {
+  again = λ m v rest y f t g.
+      elim y [
+        | inl here ↦ inl (reads_list.again m v rest here f t g)
+        | inr later ↦ inl (lsub_as_list m v rest later.1 f t g)
+      ];
+}
+
 pub reads_mailbox_datum : ReadsBack mailbox_datum lent_mailbox canonical_datum Closes
 unfolding mailbox_datum
 reads_mailbox_datum =
@@ -246,13 +256,25 @@ numbers_spell : Spells found_numbers spells_numbers
 unfolding found_numbers found_number
 numbers_spell = spells-many (spells-tag " " ▹ˢ spells-number) ◃ˢ spells-maybe_space
 
+list_spells : Spells list spells_datum
+unfolding list
+list_spells = spells-gives Listed (spells-wider (spells-word "LIST " ▹ˢ list_data_spells) (λ v c h. inl h))
+
+lsub_spells : Spells lsub spells_datum
+unfolding lsub
+lsub_spells = spells-gives Listed (spells-wider (spells-word "LSUB " ▹ˢ list_data_spells) (λ v c h. inr h))
+
+list_or_lsub_spells : Spells list_or_lsub spells_datum
+unfolding list_or_lsub
+list_or_lsub_spells = list_spells orˢ lsub_spells
+
 pub mailbox_datum_spells : Spells mailbox_datum spells_datum
-unfolding mailbox_datum flags exists list lsub status recent search_rule labels msgid thrid sort status_items
+unfolding mailbox_datum flags exists status recent search_rule labels msgid thrid sort status_items
 mailbox_datum_spells =
     spells-gives Flags (spells-word "FLAGS " ▹ˢ flag_list_spells)
     orˢ spells-gives Exists (spells-number ◃ˢ spells-word " EXISTS")
-    orˢ spells-gives Listed (spells-wider (spells-word "LIST " ▹ˢ list_data_spells) (λ v c h. inl h))
-    orˢ spells-gives Listed (spells-wider (spells-word "LSUB " ▹ˢ list_data_spells) (λ v c h. inr h))
+    orˢ list_spells
+    orˢ lsub_spells
     orˢ spells-gives status_of (spells-word "STATUS " ▹ˢ mailbox_spells ⨾ˢ spells-tag " " ▹ˢ spells-list_of item_spells)
     orˢ spells-gives Recent (spells-number ◃ˢ spells-word " RECENT")
     orˢ spells-gives Search (spells-word "SEARCH" ▹ˢ numbers_spell)
@@ -260,6 +282,9 @@ mailbox_datum_spells =
     orˢ spells-gives GmailMsgId keeps_msgid.spelled
     orˢ spells-gives GmailThrId keeps_thrid.spelled
     orˢ spells-gives Sort (spells-word "SORT" ▹ˢ numbers_spell)
+
+pub keeps_list_or_lsub : Keeps list_or_lsub lent_mailbox canonical_datum spells_datum Closes
+keeps_list_or_lsub = record { spelled = list_or_lsub_spells; back = reads_list_or_lsub }
 
 pub keeps_mailbox_datum : Keeps mailbox_datum lent_mailbox canonical_datum spells_datum Closes
 keeps_mailbox_datum = record { spelled = mailbox_datum_spells; back = reads_mailbox_datum }

@@ -165,7 +165,7 @@ metadata_code = long_entries or max_size or too_many or no_private
 unfoldable pub any_code : Rule CodeValue
 any_code = basic_code or uid_code or metadata_code
 
--- of any code those that start alike
+-- alternatives of `any_code` by their first byte
 
 unfoldable pub code_of_a : Rule CodeValue
 code_of_a = names "ALERT" Alert or append_uid

@@ -28,7 +28,7 @@ unseen = gives Unseen (word "UNSEEN " ▹ number)
 unfoldable pub status_item : Rule StatusAttribute
 status_item = highest_mod_seq or messages or recent or uid_next or uid_validity or unseen
 
--- of the items those that start alike
+-- the alternatives that begin with a U
 unfoldable pub item_of_u : Rule StatusAttribute
 item_of_u = uid_next or uid_validity or unseen
 

@@ -51,7 +51,7 @@ sort = gives Sort (word "SORT" ▹ found_numbers)
 unfoldable pub mailbox_datum : Rule MailboxValue
 mailbox_datum = flags or exists or list or lsub or status or recent or search or labels or msgid or thrid or sort
 
--- of these data those that start alike
+-- alternatives of `mailbox_datum` by their first byte
 
 unfoldable pub datum_of_number : Rule MailboxValue
 datum_of_number = exists or recent

@@ -1,4 +1,5 @@
--- Attributes of mailbox names by the byte behind their backslash: of the words those that begin so, and else any other attribute.
+-- Attributes of mailbox names, grouped by the byte behind the backslash: the words that begin so, then any other
+-- attribute.
 use Rattle.imap_grammar.specs.Rule.{Rule, gives, ◌or◌}
 use Rattle.imap_grammar.specs.Tags.{names}
 use Rattle.imap_items.specs.Flags.{backslashed_text}

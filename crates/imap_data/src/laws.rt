@@ -65,7 +65,8 @@ pub use imap_items::laws::conversions;
 use imap_items::{AclRight, Capability, Status, UidSetMember};
 use std::hash::Hash;
 
-/// Each rule has one answer, and appended bytes change neither a value nor a denial, and make what is lacking as much smaller.
+/// Each rule has one answer. Bytes that are appended change neither a value nor a denial; and where n bytes are
+/// lacking, k appended ones (k < n) leave n - k lacking.
 #[tactic(auto, using(imap_grammar::proofs::Stability::is_stable))]
 pub fn stable()
     ensures status { Stable statuses.status }
@@ -143,9 +144,11 @@ pub fn hashing()
     ensures acl_right { HashesAlike ⟦<AclRight as Hash>⟧.hash_input right_content }
 {}
 
-/// What each rule takes spells the value that it yields. And a value that it yields on some bytes, it yields again on the value's canonical text, with all texts borrowed,
-/// and leaves exactly what follows: any bytes that begin with `)` or CR, and for statuses, response codes, flags and Gmail's items also with a space. A text too long for its length to be told as a literal is excepted.
-#[tactic(auto, using(imap_items::proofs::StatusTexts::keeps_status, imap_items::proofs::FlagTexts::keeps_flag, imap_items::proofs::FlagTexts::keeps_flag_perm, imap_items::proofs::FlagTexts::keeps_flag_list, imap_items::proofs::GmailTexts::keeps_label_list, imap_items::proofs::GmailTexts::keeps_msgid, imap_items::proofs::GmailTexts::keeps_thrid, imap_items::proofs::CapabilityTexts::keeps_capability_data, imap_items::proofs::CapabilityTexts::keeps_enabled_data, imap_items::proofs::UidSetTexts::keeps_uid_set, imap_items::proofs::MailboxTexts::keeps_mailbox, crate::proofs::CodeTexts::keeps_response_code, crate::proofs::MailboxDataTexts::keeps_mailbox_datum, imap_extensions::proofs::QuotaTexts::keeps_quota, imap_extensions::proofs::QuotaTexts::keeps_quota_root, imap_extensions::proofs::IdTexts::keeps_id, imap_extensions::proofs::VanishingTexts::keeps_vanished, crate::proofs::AnnotationTexts::keeps_solicited, crate::proofs::AnnotationTexts::keeps_unsolicited, imap_extensions::proofs::AclTexts::keeps_acl, imap_extensions::proofs::OptionalRights::keeps_list_rights, imap_extensions::proofs::AclTexts::keeps_my_rights))]
+/// What each rule takes spells the value that it yields. On the canonical text of a value that it yields, the rule
+/// yields that value again, with all texts borrowed. What follows the text is left whole: any bytes that begin with `)`
+/// or CR, and for statuses, response codes, flags and Gmail's items also with a space. Excepted is a text too long to be
+/// written as a literal.
+#[tactic(auto, using(imap_items::proofs::StatusTexts::keeps_status, imap_items::proofs::FlagTexts::keeps_flag, imap_items::proofs::FlagTexts::keeps_flag_perm, imap_items::proofs::FlagTexts::keeps_flag_list, imap_items::proofs::GmailTexts::keeps_label_list, imap_items::proofs::GmailTexts::keeps_msgid, imap_items::proofs::GmailTexts::keeps_thrid, imap_items::proofs::CapabilityTexts::keeps_capability_data, imap_items::proofs::CapabilityTexts::keeps_enabled_data, imap_items::proofs::UidSetTexts::keeps_uid_set, imap_items::proofs::MailboxTexts::keeps_mailbox, crate::proofs::CodeTexts::keeps_response_code, crate::proofs::MailboxDataTexts::keeps_mailbox_datum, crate::proofs::MailboxDataTexts::keeps_list_or_lsub, imap_extensions::proofs::QuotaTexts::keeps_quota, imap_extensions::proofs::QuotaTexts::keeps_quota_root, imap_extensions::proofs::IdTexts::keeps_id, imap_extensions::proofs::VanishingTexts::keeps_vanished, crate::proofs::AnnotationTexts::keeps_solicited, crate::proofs::AnnotationTexts::keeps_unsolicited, imap_extensions::proofs::AclTexts::keeps_acl, imap_extensions::proofs::OptionalRights::keeps_list_rights, imap_extensions::proofs::AclTexts::keeps_my_rights))]
 pub fn read_back()
     ensures status { Keeps statuses.status as_is canonical_status spells_status EndsItem }
     ensures flag { Keeps flags.flag as_is canonical_flag spells_flag EndsItem }
@@ -160,6 +163,7 @@ pub fn read_back()
     ensures mailbox { Keeps mailboxes.mailbox lent_text canonical_mailbox spells_mailbox Closes }
     ensures response_code { Keeps codes.response_code lent_code canonical_response_code spells_response_code EndsItem }
     ensures mailbox_datum { Keeps mailbox_data.mailbox_datum lent_mailbox canonical_datum spells_datum Closes }
+    ensures list_or_lsub { Keeps mailbox_data.list_or_lsub lent_mailbox canonical_datum spells_datum Closes }
     ensures quota { Keeps quotas.quota lent_quota canonical_quota spells_quota Closes }
     ensures quota_root { Keeps quotas.quota_root lent_quota_root canonical_quota_root spells_quota_root Closes }
     ensures id { Keeps ids.id (option_map lent_id) canonical_id spells_id Closes }

@@ -1,6 +1,7 @@
 //! Readers of data, each of the rule of its name.
 
-/// Reads the word in any case, then what the reader reads behind it, and answers its value in the variant.
+/// Reads the word in any case, then what the reader reads after it. It is `Ok` of what follows and of the
+/// reader's value in the variant; an error of either is returned from the function.
 macro_rules! worded {
     ($i:ident: $word:expr, $reader:ident $(($alloc:ident))? => $variant:path) => {{
         let (rest, _) = imap_bytes::tags::word($word, $i)?;

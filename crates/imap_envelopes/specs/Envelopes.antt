@@ -27,7 +27,7 @@ address = gives address_of (tag "(" ▹ byte_string ⨾ spaced byte_string ⨾ s
 unfoldable pub listed_address : Rule AddressValue
 listed_address = address ◃ opt sp
 
--- 1*address
+-- 1*address, where a space may stand behind each
 unfoldable pub some_addresses : Rule (List AddressValue)
 some_addresses = some1 listed_address
 

@@ -1,4 +1,7 @@
 //! Readers that walk positions in one message.
+//!
+//! Each reads m from p on, and answers the position after what it read. p must be at most m's length; where `keep`
+//! holds a message, that must be m.
 
 pub mod envelopes;
 pub mod lists;

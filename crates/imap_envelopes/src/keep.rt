@@ -5,7 +5,6 @@ ghost use Rattle.imap_grammar.specs.Text.{Bytes, Text, text_of};
 ghost use Rattle.imap_shapes.specs.Spans.{bytes_of, bytes_in, text_in};
 ghost use Rattle.imap_envelopes.specs.Keeping.{Says};
 
-use imap_bytes::texts::decode;
 use imap_shapes::spans::{Span, SpannedText};
 use std::alloc::{AllocError, Global};
 use std::borrow::{CowSlice, CowStr};
@@ -23,7 +22,7 @@ pub trait Keep {
     /// What a byte string that is kept says, where it is looked up in this message.
     ghost bytes_said: { Bytes → Self.Bytes → Text };
 
-    /// The same of a text.
+    /// What a text that is kept says, where it is looked up in this message.
     ghost text_said: { Bytes → Self.Text → Text };
 
     /// Keeps a byte string. No memory.
@@ -31,13 +30,13 @@ pub trait Keep {
         requires { serves self.now m.now }
         ensures { Says bytes_in bytes_said m.now span result };
 
-    /// Keeps a text. It may take memory; `Err` where there is none.
+    /// Keeps a text. It may take memory; `Err`: memory ran out.
     fn text(&self, m: &[u8], text: SpannedText) -> Result<Self::Text, AllocError>
         requires { serves self.now m.now }
         ensures { IfOk result (Says text_in text_said m.now text) };
 }
 
-/// Their positions, which are looked up in any message.
+/// Keeps the position of each string, to be looked up in any message.
 #[derive(Drop)]
 pub struct Positions;
 
@@ -61,10 +60,11 @@ impl Keep for Positions {
     }
 }
 
-/// What these name in the message that is read: byte strings borrowed, and texts where their bytes are UTF-8.
+/// Keeps what each string is in the message that is read: byte strings borrowed, and texts borrowed where their bytes
+/// are UTF-8.
 #[derive(Drop)]
 pub struct Named<'a> {
-    /// Where memory is taken for texts whose bytes are no UTF-8.
+    /// Where memory is taken for texts whose bytes are not UTF-8.
     pub alloc: Global,
     /// The message that is read.
     pub m: &'a [u8],
@@ -88,12 +88,6 @@ impl<'a> Keep for Named<'a> {
 
     #[inline(always)]
     fn text(&self, _m: &[u8], text: SpannedText) -> Result<CowStr<'a>, AllocError> {
-        match text {
-            SpannedText::Part(span) => decode(self.alloc, span.part(self.m)),
-            SpannedText::Text => Ok(CowStr::Borrowed("TEXT")),
-            SpannedText::Message => Ok(CowStr::Borrowed("MESSAGE")),
-            SpannedText::Rfc822 => Ok(CowStr::Borrowed("RFC822")),
-            SpannedText::Multipart => Ok(CowStr::Borrowed("MULTIPART")),
-        }
+        text.named_in(self.alloc, self.m)
     }
 }

@@ -37,7 +37,7 @@ pub fn kept_address<K: Keep>(keep: &K, m: &[u8], address: Address<Span>) -> Addr
     }
 }
 
-/// Keeps a text, if there is one. It may take memory; `Err` where there is none.
+/// Keeps a text, if there is one. It may take memory; `Err`: memory ran out.
 #[inline(always)]
 pub fn kept_text<K: Keep>(
     keep: &K,
@@ -53,7 +53,7 @@ pub fn kept_text<K: Keep>(
     }
 }
 
-/// Keeps a parameter: its name and its value. It may take memory; `Err` where there is none.
+/// Keeps a parameter: its name and its value. It may take memory; `Err`: memory ran out.
 #[inline(always)]
 pub fn kept_pair<K: Keep>(
     keep: &K,
@@ -69,7 +69,7 @@ pub fn kept_pair<K: Keep>(
     Ok((name, value))
 }
 
-/// Keeps an encoding. It may take memory; `Err` where there is none.
+/// Keeps an encoding. It may take memory; `Err`: memory ran out.
 #[inline(always)]
 pub fn kept_encoding<K: Keep>(
     keep: &K,

@@ -30,6 +30,7 @@ fn main(rt: HostRuntime) -> anyhow::Result<()> {
     let mut reader = rt.reader();
     let mut buffer = [0; 4096];
     let mut feed = Feed::new(rt.alloc());
+    // Not `loop`: a loop has to be proved to end.
     for _ in 0..u64::MAX {
         let n = reader.read(&mut buffer)?;
         if n == 0 {

@@ -26,7 +26,8 @@ use crate::types::ids::IdMap;
 use crate::types::quotas::{Quota, QuotaResource, QuotaResourceName, QuotaRoot};
 use std::hash::Hash;
 
-/// Each rule has one answer, and appended bytes change neither a value nor a denial, and make what is lacking as much smaller.
+/// Each rule has one answer. Bytes that are appended change neither a value nor a denial; and where n bytes are
+/// lacking, k appended ones (k < n) leave n - k lacking.
 #[tactic(auto, using(imap_grammar::proofs::Stability::is_stable))]
 pub fn stable()
     ensures quota_resource { Stable quotas.quota_resource }
@@ -67,8 +68,9 @@ pub fn hashing()
     ensures quota_root { HashesAlike ⟦<QuotaRoot<'static> as Hash>⟧.hash_input quota_root_content }
 {}
 
-/// What each rule takes spells the value that it yields. And a value that it yields on some bytes, it yields again on the value's canonical text, with all texts borrowed,
-/// and leaves exactly what follows: any bytes that begin with `)` or CR. A text too long for its length to be told as a literal is excepted.
+/// What each rule takes spells the value that it yields. On the canonical text of a value that it yields, the rule
+/// yields that value again, with all texts borrowed. What follows the text is left whole: any bytes that begin with `)`
+/// or CR. Excepted is a text too long to be written as a literal.
 #[tactic(auto, using(crate::proofs::QuotaTexts::keeps_quota, crate::proofs::QuotaTexts::keeps_quota_root, crate::proofs::IdTexts::keeps_id, crate::proofs::VanishingTexts::keeps_vanished, crate::proofs::AclTexts::keeps_acl, crate::proofs::OptionalRights::keeps_list_rights, crate::proofs::AclTexts::keeps_my_rights, crate::proofs::AnnotationTexts::keeps_metadata_mailbox, crate::proofs::AnnotationTexts::keeps_annotations, crate::proofs::AnnotationTexts::keeps_entries))]
 pub fn read_back()
     ensures quota { Keeps quotas.quota lent_quota canonical_quota spells_quota Closes }

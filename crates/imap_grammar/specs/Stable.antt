@@ -1,4 +1,5 @@
--- A rule has one answer on some bytes, and appended bytes change neither a yield nor a denial, and make a lack as much smaller.
+-- A rule has one answer on some bytes. Bytes that are appended change neither a yield nor a denial; and where n bytes
+-- are lacking, k appended ones (k < n) leave n - k lacking.
 use Rattle.std.specs.Prelude.{◌≡◌, ℕ, ◌-◌, ◌<◌, List, ◌++◌, length}
 use Rattle.imap_grammar.specs.Meaning.{Denies, Lacks, Waits}
 use Rattle.imap_grammar.specs.Rule.{Rule, meaning}

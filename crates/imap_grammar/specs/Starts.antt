@@ -1,5 +1,6 @@
--- What the first byte says of a rule, told by the rule alone. What begins with a byte that a rule may not start with it denies,
--- so that a choice need try only those alternatives that may start so. What may take nothing may start with any byte.
+-- What the first byte says of a rule, told by the rule alone. A rule denies what begins with a byte that it can't start
+-- with, so that a choice need try only those alternatives that may start so. What may take nothing may start with any
+-- byte.
 use Rattle.std.specs.Prelude.{ℕ, Bool, true, false, List, [], ◌∷◌, ◌||◌, ◌≡◌}
 use Rattle.imap_grammar.specs.Step.{step}
 use Rattle.imap_grammar.specs.Meaning.{Denies, Waits}

@@ -115,77 +115,80 @@ static QUOTED_CHAR: [bool; 256] = [
     T, T, T, T, T, T, T, T, T, T, T, T, T, T, T, T, T, T, T, T, T, T, T, T, T, T, T, T, T, T, T, T,
 ];
 
-/// A char: any byte but 0.
+/// A char: any byte but 0 (RFC 3501, section 9: CHAR8). No memory.
 pub fn is_char(c: u8) -> bool
     ensures { result ≡ classes.is_char c }
 {
     CHAR[c as usize]
 }
 
-/// A text-char: any byte but 0, CR and LF.
+/// A text-char: any byte but 0, CR and LF (RFC 3501, section 9: TEXT-CHAR). No memory.
 pub fn is_text_char(c: u8) -> bool
     ensures { result ≡ classes.is_text_char c }
 {
     TEXT_CHAR[c as usize]
 }
 
-/// A list-wildcard: `%` or `*`.
+/// A list-wildcard: `%` or `*` (RFC 3501, section 9: list-wildcards). No memory.
 pub fn is_list_wildcards(c: u8) -> bool
     ensures { result ≡ classes.is_list_wildcards c }
 {
     LIST_WILDCARDS[c as usize]
 }
 
-/// A quoted-special: `"` or `\\`.
+/// A quoted-special: `"` or `\` (RFC 3501, section 9: quoted-specials). No memory.
 pub fn is_quoted_specials(c: u8) -> bool
     ensures { result ≡ classes.is_quoted_specials c }
 {
     QUOTED_SPECIALS[c as usize]
 }
 
-/// A resp-special: `]`.
+/// A resp-special: `]` (RFC 3501, section 9: resp-specials). No memory.
 pub fn is_resp_specials(c: u8) -> bool
     ensures { result ≡ classes.is_resp_specials c }
 {
     RESP_SPECIALS[c as usize]
 }
 
-/// An atom-special: a control below 32, SP, or one of `(`, `)`, `{`, `%`, `*`, `"`, `\\`, `]`.
+/// An atom-special: a control below 32, SP, or one of `(`, `)`, `{`, `%`, `*`, `"`, `\`, `]`
+/// (RFC 3501, section 9: atom-specials). No memory.
 pub fn is_atom_specials(c: u8) -> bool
     ensures { result ≡ classes.is_atom_specials c }
 {
     ATOM_SPECIALS[c as usize]
 }
 
-/// An atom-char: a char that is no atom-special, all bytes from 127 among them.
+/// An atom-char: a char that is no atom-special, all bytes from 127 among them (RFC 3501, section 9: ATOM-CHAR). No
+/// memory.
 pub fn is_atom_char(c: u8) -> bool
     ensures { result ≡ classes.is_atom_char c }
 {
     ATOM_CHAR[c as usize]
 }
 
-/// An astring-char: an atom-char or `]`.
+/// An astring-char: an atom-char or `]` (RFC 3501, section 9: ASTRING-CHAR). No memory.
 pub fn is_astring_char(c: u8) -> bool
     ensures { result ≡ classes.is_astring_char c }
 {
     ASTRING_CHAR[c as usize]
 }
 
-/// A quoted-char: a text-char that is no quoted-special.
+/// A quoted-char: a text-char that is no quoted-special (RFC 3501, section 9: QUOTED-CHAR, its single bytes). No
+/// memory.
 pub fn is_quoted_char(c: u8) -> bool
     ensures { result ≡ classes.is_quoted_char c }
 {
     QUOTED_CHAR[c as usize]
 }
 
-/// A digit.
+/// A digit: `0` to `9` (RFC 5234, appendix B.1: DIGIT). No memory.
 pub fn is_digit(c: u8) -> bool
     ensures { result ≡ classes.is_digit c }
 {
-    47 < c && c < 58
+    c.is_ascii_digit()
 }
 
-/// A space or a tab.
+/// A space or a tab (RFC 5234, appendix B.1: WSP). No memory.
 pub fn is_blank(c: u8) -> bool
     ensures { result ≡ classes.is_blank c }
 {

@@ -1,4 +1,7 @@
-//! Readers of lists, over a reader of slices that is passed: by the readers of `at::lists`, and what f reads from a position on.
+//! Readers of lists over a reader f of slices. Each calls the reader of its name in `at::lists`, and passes it what f
+//! reads from a position on.
+//!
+//! f has to be callable on any input. Its rest has to be an end of its input, and in lists shorter than it.
 
 ghost use Rattle.std.specs.Prelude.{◌≡◌, ◌≤◌, length};
 ghost use Rattle.std.specs.Fn.{FnReturnsAt};
@@ -31,8 +34,7 @@ pub fn tried<I, T>(answer: IResult<I, T>) -> Result<Option<(I, T)>, Err>
     match answer {
         Ok(found) => Ok(Some(found)),
         Err(Err::Error) => Ok(None),
-        Err(Err::Incomplete(needed)) => Err(Err::Incomplete(needed)),
-        Err(Err::Failure) => Err(Err::Failure),
+        Err(e) => Err(e),
     }
 }
 
@@ -48,14 +50,14 @@ fn read_at<'a, O: Drop, F: Fn(&'a [u8]) -> IResult<&'a [u8], O>>(
     ensures answers { CalledAt (FnReturnsAt F.Fn f.now) m.now p result }
     ensures ahead { Ahead m.now p result }
 {
-    let (rest, item) = f(rest(m, p))?;
-    Ok((m.len() - rest.len(), item))
+    let (after, item) = f(rest(m, p))?;
+    Ok((m.len() - after.len(), item))
 }
 
 /// What f reads, and again behind each separator: one or more.
 ///
-/// It ends before a separator behind which f denies. f's other faults go through. f has to consume at least a byte.
-/// It takes memory for the list.
+/// It ends before a separator behind which f denies. f's other faults go through. f has to consume at least a byte, and
+/// its rest has to be an end of its input. It takes memory for the list.
 pub fn separated<'a, O: Drop, F: Fn(&'a [u8]) -> IResult<&'a [u8], O>>(
     alloc: Global,
     between: Separator,
@@ -80,7 +82,8 @@ pub fn separated<'a, O: Drop, F: Fn(&'a [u8]) -> IResult<&'a [u8], O>>(
 
 /// What f reads, as often as it does, with nothing between.
 ///
-/// f has to consume at least a byte. Its `Incomplete` and `Failure` go through. It takes memory for the list.
+/// f has to consume at least a byte, and its rest has to be an end of its input. Its `Incomplete` and `Failure` go
+/// through. It takes memory for the list.
 pub fn repeated<'a, O: Drop, F: Fn(&'a [u8]) -> IResult<&'a [u8], O>>(
     alloc: Global,
     f: F,
@@ -102,10 +105,10 @@ pub fn repeated<'a, O: Drop, F: Fn(&'a [u8]) -> IResult<&'a [u8], O>>(
     Ok((rest(i, q), items))
 }
 
-/// What f reads, with separators between, maybe not once.
+/// What f reads, zero or more times, with a separator between.
 ///
-/// It ends as `separated` does. f has to consume at least a byte. Its `Incomplete` and `Failure` go through.
-/// It takes memory for the list.
+/// It ends as `separated` does. f has to consume at least a byte, and its rest has to be an end of its input.
+/// Its `Incomplete` and `Failure` go through. It takes memory for the list.
 pub fn maybe_separated<'a, O: Drop, F: Fn(&'a [u8]) -> IResult<&'a [u8], O>>(
     alloc: Global,
     between: Separator,
@@ -128,9 +131,10 @@ pub fn maybe_separated<'a, O: Drop, F: Fn(&'a [u8]) -> IResult<&'a [u8], O>>(
     Ok((rest(i, q), items))
 }
 
-/// A list in parentheses: what f reads, with one space between, maybe none, and maybe a space before the `)`.
+/// A list in parentheses of zero or more: what f reads, with one space between, and maybe a space before the `)`.
 ///
-/// f has to consume at least a byte. Its `Incomplete` and `Failure` go through. It takes memory for the list.
+/// f has to consume at least a byte, and its rest has to be an end of its input. Its `Incomplete` and `Failure` go
+/// through. It takes memory for the list.
 pub fn parenthesized_list<'a, O: Drop, F: Fn(&'a [u8]) -> IResult<&'a [u8], O>>(
     alloc: Global,
     f: F,
@@ -152,7 +156,11 @@ pub fn parenthesized_list<'a, O: Drop, F: Fn(&'a [u8]) -> IResult<&'a [u8], O>>(
     Ok((rest(i, q), items))
 }
 
-/// The same of at least one element, with spaces and tabs before the `)`. It takes memory for the list.
+/// A list in parentheses of one or more: what f reads, with one space between, and maybe spaces and tabs before the
+/// `)`.
+///
+/// f has to consume at least a byte, and its rest has to be an end of its input. Its `Incomplete` and `Failure` go
+/// through. It takes memory for the list.
 pub fn parenthesized_nonempty_list<'a, O: Drop, F: Fn(&'a [u8]) -> IResult<&'a [u8], O>>(
     alloc: Global,
     f: F,
@@ -175,6 +183,8 @@ pub fn parenthesized_nonempty_list<'a, O: Drop, F: Fn(&'a [u8]) -> IResult<&'a [
 }
 
 /// What f reads, in parentheses. It takes no memory of its own; f's `Incomplete` and `Failure` go through.
+///
+/// f's rest has to be an end of its input.
 pub fn paren_delimited<'a, O: Drop, F: Fn(&'a [u8]) -> IResult<&'a [u8], O>>(
     f: F,
     i: &'a [u8],
@@ -194,7 +204,10 @@ pub fn paren_delimited<'a, O: Drop, F: Fn(&'a [u8]) -> IResult<&'a [u8], O>>(
     Ok((rest(i, q), item))
 }
 
-/// What f reads, and `None` at this place where it denies. It takes no memory of its own; f's `Incomplete` and `Failure` go through.
+/// What f reads, and `None` at this place where it denies. It takes no memory of its own; f's `Incomplete` and
+/// `Failure` go through.
+///
+/// f's rest has to be an end of its input.
 pub fn opt_opt<'a, O: Drop, F: Fn(&'a [u8]) -> IResult<&'a [u8], Option<O>>>(
     f: F,
     i: &'a [u8],

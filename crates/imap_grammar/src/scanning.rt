@@ -13,7 +13,7 @@ use std::simd::prelude::*;
 pub trait Class {
     ghost class: { ℕ → Bool };
 
-    /// Whether the byte is of the class.
+    /// Whether the byte is of the class. No memory.
     fn has(c: u8) -> bool
         ensures { result ≡ class c };
 }
@@ -38,7 +38,7 @@ fn lowest_set(bits: u64) -> usize
     }
 }
 
-/// The class of text-chars.
+/// The class of text-chars (RFC 3501, section 9: TEXT-CHAR).
 pub struct TextChar;
 
 impl Class for TextChar {
@@ -60,7 +60,7 @@ impl LongRuns for TextChar {
     }
 }
 
-/// The class of atom-chars.
+/// The class of atom-chars (RFC 3501, section 9: ATOM-CHAR).
 pub struct AtomChar;
 
 impl Class for AtomChar {
@@ -71,7 +71,7 @@ impl Class for AtomChar {
     }
 }
 
-/// The class of astring-chars.
+/// The class of astring-chars (RFC 3501, section 9: ASTRING-CHAR).
 pub struct AstringChar;
 
 impl Class for AstringChar {
@@ -82,7 +82,7 @@ impl Class for AstringChar {
     }
 }
 
-/// The class of quoted-chars.
+/// The class of quoted-chars (RFC 3501, section 9: QUOTED-CHAR, its single bytes).
 pub struct QuotedChar;
 
 impl Class for QuotedChar {
@@ -146,9 +146,9 @@ pub fn run_end<C: Class>(i: &[u8]) -> Option<usize>
     }
 }
 
-/// The same of a class whose runs are mostly long. No memory.
+/// Where the first byte stands that is not of the class; `None` where each is of it. No memory.
 ///
-/// Sixteen bytes are looked at in each turn, and what is left by `run_end`.
+/// For classes whose runs are mostly long: sixteen bytes are looked at in each turn, and what is left by `run_end`.
 #[inline(always)]
 pub fn long_run_end<C: LongRuns>(i: &[u8]) -> Option<usize>
     ensures at { result ≡ position (outside C.class) i.now }

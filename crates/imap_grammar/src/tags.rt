@@ -14,7 +14,9 @@ use crate::answer::IResult;
 use crate::at;
 use crate::at::span::sliced;
 
-/// Answers `$value` where the word stands in front, and goes on where it is denied.
+/// Returns `$value` from the function where the word stands in front, ASCII letters in either case.
+///
+/// Where `word` denies, the function goes on; its `Incomplete` is returned. It takes no memory of its own.
 #[macro_export]
 macro_rules! named {
     ($text:expr, $i:expr, $value:expr) => {
@@ -22,7 +24,10 @@ macro_rules! named {
     };
 }
 
-/// Answers what the reader answers, or what is made of the value that it found, and goes on where it denies.
+/// Returns from the function what the reader answers, or with a pattern `$value`, which is made of what it found.
+///
+/// Where the reader denies, the function goes on; its `Incomplete` and `Failure` are returned. It takes no memory of
+/// its own.
 #[macro_export]
 macro_rules! first {
     ($answer:expr) => {
@@ -40,7 +45,9 @@ macro_rules! first {
     };
 }
 
-/// Answers the reader's value as `Some`, and `None` where it denies: then nothing of `$i` is taken.
+/// The reader's answer with its value as `Some`, and `None` where it denies: then nothing of `$i` is taken.
+///
+/// `Incomplete` and `Failure` stay as they are. It does not return from the function, and takes no memory of its own.
 #[macro_export]
 macro_rules! maybe {
     ($answer:expr, $i:expr) => {
@@ -52,7 +59,7 @@ macro_rules! maybe {
     };
 }
 
-/// Exactly these bytes.
+/// Exactly these bytes. No memory.
 #[tactic(auto, using(crate::proofs::Agreement::exact_answered))]
 pub fn tag<'a>(text: &[u8], i: &'a [u8]) -> IResult<&'a [u8], &'a [u8]>
     ensures steps { Exactly (λ x. x.now) result (step (tag_by ◌==◌ text.now) i.now) }
@@ -62,7 +69,7 @@ pub fn tag<'a>(text: &[u8], i: &'a [u8]) -> IResult<&'a [u8], &'a [u8]>
     sliced(i, at::tags::tag(text, i, 0))
 }
 
-/// These bytes, ASCII letters in either case.
+/// These bytes, ASCII letters in either case. No memory.
 #[tactic(auto, using(crate::proofs::Agreement::exact_answered))]
 pub fn word<'a>(text: &[u8], i: &'a [u8]) -> IResult<&'a [u8], &'a [u8]>
     ensures steps { Exactly (λ x. x.now) result (step (tag_by same_letter text.now) i.now) }
@@ -72,7 +79,7 @@ pub fn word<'a>(text: &[u8], i: &'a [u8]) -> IResult<&'a [u8], &'a [u8]>
     sliced(i, at::tags::word(text, i, 0))
 }
 
-/// A space, or nothing.
+/// A space, or nothing. No memory.
 pub fn maybe_space(i: &[u8]) -> IResult<&[u8], Option<&[u8]>>
     ensures steps { Exactly (λ x. option_map (λ y. y.now) x) result (step tags.maybe_space i.now) }
     ensures no_failure { NeverFails result }
@@ -80,8 +87,9 @@ pub fn maybe_space(i: &[u8]) -> IResult<&[u8], Option<&[u8]>>
     maybe!(tag(b" ", i), i)
 }
 
-/// The bytes before the first that is outside a class, where that one stands at `end`. `None` is `Incomplete`: it isn't there
-/// yet.
+/// The run of a class in front: the bytes before `end`, where the first byte outside the class stands. No memory.
+///
+/// `None`: no such byte is there yet, so the answer is `Incomplete`.
 pub fn cut0(end: Option<usize>, i: &[u8]) -> IResult<&[u8], &[u8]>
     requires { ForSome end (λ n. n < length i.now) }
     ensures steps { (class : ℕ → Bool) → end ≡ position (outside class) i.now → Exactly (λ x. x.now) result (step (run0 class) i.now) }
@@ -90,7 +98,10 @@ pub fn cut0(end: Option<usize>, i: &[u8]) -> IResult<&[u8], &[u8]>
     sliced(i, at::tags::cut0(end, i, 0))
 }
 
-/// The same, of at least one byte: an `end` of 0 is `Error`, and `None` is `Incomplete`.
+/// The run of a class in front, at least one byte: the bytes before `end`, where the first byte outside the class
+/// stands. No memory.
+///
+/// An `end` of 0 is `Error`. `None`: no such byte is there yet, so the answer is `Incomplete`.
 pub fn cut1(end: Option<usize>, i: &[u8]) -> IResult<&[u8], &[u8]>
     requires { ForSome end (λ n. n < length i.now) }
     ensures steps { (class : ℕ → Bool) → end ≡ position (outside class) i.now → Exactly (λ x. x.now) result (step (run1 class) i.now) }
@@ -99,7 +110,7 @@ pub fn cut1(end: Option<usize>, i: &[u8]) -> IResult<&[u8], &[u8]>
     sliced(i, at::tags::cut1(end, i, 0))
 }
 
-/// Spaces and tabs, maybe none.
+/// Spaces and tabs, maybe none. No memory.
 pub fn blanks0(i: &[u8]) -> IResult<&[u8], &[u8]>
     ensures steps { Exactly (λ x. x.now) result (step tags.blanks0 i.now) }
     ensures no_failure { NeverFails result }
@@ -107,7 +118,7 @@ pub fn blanks0(i: &[u8]) -> IResult<&[u8], &[u8]>
     sliced(i, at::tags::blanks0(i, 0))
 }
 
-/// Spaces and tabs, at least one.
+/// Spaces and tabs, at least one. No memory.
 pub fn blanks1(i: &[u8]) -> IResult<&[u8], &[u8]>
     ensures steps { Exactly (λ x. x.now) result (step tags.blanks1 i.now) }
     ensures no_failure { NeverFails result }

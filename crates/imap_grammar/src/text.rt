@@ -8,7 +8,7 @@ use std::alloc::{AllocError, Global};
 use std::borrow::CowStr;
 use std::str;
 
-// The same for bytes that are no UTF-8: a call of its own, so that `decode` is short.
+// What `decode` does with bytes that are not UTF-8. A call of its own, so that `decode`, which is inlined, stays short.
 #[cold]
 #[inline(never)]
 fn decode_owned(alloc: Global, bytes: &[u8]) -> Result<CowStr<'_>, AllocError>
@@ -21,7 +21,7 @@ fn decode_owned(alloc: Global, bytes: &[u8]) -> Result<CowStr<'_>, AllocError>
 
 /// The text of the bytes: borrowed where they are UTF-8, and else with one U+FFFD for each ill-formed part.
 ///
-/// It takes memory only for bytes that are no UTF-8; `Err` where there is none.
+/// It takes memory only for bytes that are not UTF-8; `Err`: memory ran out.
 #[inline(always)]
 pub fn decode(alloc: Global, bytes: &[u8]) -> Result<CowStr<'_>, AllocError>
     ensures text { IfOk result (λ t. text_of t ≡ decoded bytes.now) }

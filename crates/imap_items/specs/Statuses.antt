@@ -7,7 +7,7 @@ use Rattle.imap_items.specs.declared.types.statuses.Status.TheVariants.{Ok, No, 
 unfoldable pub status : Rule Status
 status = names "OK" Ok or names "NO" No or names "BAD" Bad or names "PREAUTH" PreAuth or names "BYE" Bye
 
--- of these words those that start alike
+-- the alternatives by their first byte
 
 unfoldable pub ok_word : Rule Status
 ok_word = names "OK" Ok

@@ -7,7 +7,7 @@ ghost use Rattle.imap_items.specs.Copies.{IsLent};
 use std::alloc::AllocError;
 use std::borrow::CowStr;
 
-/// The same text. It takes memory only where the text is owned; `Err` where there is none.
+/// The same text. It takes memory only where the text is owned; `Err`: memory ran out.
 pub fn copied_text<'a>(text: &CowStr<'a>) -> Result<CowStr<'a>, AllocError>
     ensures same { IfOk result (λ t. text_of t ≡ text_of text.now) }
     ensures memory { IsLent (text_of text.now) → IsOk result }
@@ -18,7 +18,7 @@ pub fn copied_text<'a>(text: &CowStr<'a>) -> Result<CowStr<'a>, AllocError>
     }
 }
 
-/// The same texts. It takes memory for the list, and for owned texts; `Err` where there is none.
+/// The same texts. It takes memory for the list, and for owned texts; `Err`: memory ran out.
 pub fn copied_texts<'a>(texts: &Vec<CowStr<'a>>) -> Result<Vec<CowStr<'a>>, AllocError>
     ensures { IfOk result (λ v. map text_of v.items ≡ map text_of texts.now.items) }
 {

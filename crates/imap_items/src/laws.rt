@@ -1,13 +1,13 @@
 //! Laws of the rules and types of this crate, as contracts of functions that do nothing.
 
-ghost use Rattle.std.specs.Prelude.{ℕ, ◌≡◌};
+ghost use Rattle.std.specs.Prelude.{ℕ, ◌≡◌, map};
 ghost use Rattle.imap_grammar.specs.Stable.{Stable};
 ghost use Rattle.imap_grammar.specs.Equality.{Tells, HashesAlike};
 ghost use Rattle.imap_grammar.specs.Copying.{CopiesFreely};
 ghost use Rattle.imap_items.specs.Statuses as statuses;
 ghost use Rattle.imap_items.specs.Flags as flags;
 ghost use Rattle.imap_items.specs.Capabilities as capabilities;
-ghost use Rattle.imap_items.specs.Capabilities.{capability_content};
+ghost use Rattle.imap_items.specs.Capabilities.{capability_content, lent_capability};
 ghost use Rattle.imap_items.specs.UidSets as uid_sets;
 ghost use Rattle.imap_items.specs.UidSets.{member_value};
 ghost use Rattle.imap_items.specs.Mailboxes as mailboxes;
@@ -15,10 +15,8 @@ ghost use Rattle.imap_items.specs.Gmail as gmail;
 ghost use Rattle.imap_items.specs.declared.types.rights.AclRight.{AclRight as Right};
 ghost use Rattle.imap_items.specs.Rights as rights;
 ghost use Rattle.imap_items.specs.Rights.{right_of, letter_of, IsShadowed, right_content};
-ghost use Rattle.std.specs.Prelude.{map};
 ghost use Rattle.imap_grammar.specs.Text.{lent_text};
 ghost use Rattle.imap_grammar.specs.ReadBack.{Keeps, Closes, EndsItem, as_is};
-ghost use Rattle.imap_items.specs.Capabilities.{lent_capability};
 ghost use Rattle.imap_items.specs.StatusTexts.{canonical_status, spells_status};
 ghost use Rattle.imap_items.specs.FlagTexts.{canonical_flag, spells_flag, canonical_flag_list, spells_flag_list};
 ghost use Rattle.imap_items.specs.GmailTexts.{canonical_label_list, spells_label_list, canonical_msgid, spells_msgid, canonical_thrid, spells_thrid};
@@ -33,7 +31,8 @@ use crate::types::statuses::Status;
 use crate::types::uid_sets::UidSetMember;
 use std::hash::Hash;
 
-/// Each rule has one answer, and appended bytes change neither a value nor a denial, and make what is lacking as much smaller.
+/// Each rule has one answer. Bytes that are appended change neither a value nor a denial; and where n bytes are
+/// lacking, k appended ones (k < n) leave n - k lacking.
 #[tactic(auto, using(imap_grammar::proofs::Stability::is_stable))]
 pub fn stable()
     ensures status { Stable statuses.status }
@@ -80,8 +79,10 @@ pub fn conversions()
     ensures rights { (right : Right) → ¬ (IsShadowed right) → right_of (letter_of right) ≡ right }
 {}
 
-/// What each rule takes spells the value that it yields. And a value that it yields on some bytes, it yields again on the value's canonical text, with all texts borrowed,
-/// and leaves exactly what follows: any bytes that begin with `)` or CR, and for statuses, flags and Gmail's items also with a space. A text too long for its length to be told as a literal is excepted.
+/// What each rule takes spells the value that it yields. On the canonical text of a value that it yields, the rule
+/// yields that value again, with all texts borrowed. What follows the text is left whole: any bytes that begin with `)`
+/// or CR, and for statuses, flags and Gmail's items also with a space. Excepted is a text too long to be written as a
+/// literal.
 #[tactic(auto, using(crate::proofs::StatusTexts::keeps_status, crate::proofs::FlagTexts::keeps_flag, crate::proofs::FlagTexts::keeps_flag_perm, crate::proofs::FlagTexts::keeps_flag_list, crate::proofs::GmailTexts::keeps_label_list, crate::proofs::GmailTexts::keeps_msgid, crate::proofs::GmailTexts::keeps_thrid, crate::proofs::CapabilityTexts::keeps_capability_data, crate::proofs::CapabilityTexts::keeps_enabled_data, crate::proofs::UidSetTexts::keeps_uid_set, crate::proofs::MailboxTexts::keeps_mailbox, crate::proofs::RightTexts::keeps_rights))]
 pub fn read_back()
     ensures status { Keeps statuses.status as_is canonical_status spells_status EndsItem }

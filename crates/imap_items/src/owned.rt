@@ -9,7 +9,7 @@ use crate::types::capabilities::Capability;
 use std::alloc::{AllocError, Global};
 use std::borrow::CowStr;
 
-/// The same text, owned. It takes memory only where the text is borrowed; `Err` where there is none.
+/// The same text, owned. It takes memory only where the text is borrowed; `Err`: memory ran out.
 pub fn owned_text(alloc: Global, text: CowStr<'_>) -> Result<CowStr<'static>, AllocError>
     ensures same { IfOk result (λ t. text_of t ≡ owned (text_of text.entry)) }
     ensures memory { IsOwned (text_of text.entry) → IsOk result }
@@ -20,7 +20,7 @@ pub fn owned_text(alloc: Global, text: CowStr<'_>) -> Result<CowStr<'static>, Al
     }
 }
 
-/// The same, owned, of a text that may be missing. It takes memory only for a borrowed text; `Err` where there is none.
+/// The same text, owned, if there is one. It takes memory only where there is a borrowed text; `Err`: memory ran out.
 pub fn owned_optional_text(
     alloc: Global,
     text: Option<CowStr<'_>>,
@@ -33,7 +33,7 @@ pub fn owned_optional_text(
     })
 }
 
-/// The same texts, owned. It takes memory for the list, and for borrowed texts; `Err` where there is none.
+/// The same texts, owned. It takes memory for the list, and for borrowed texts; `Err`: memory ran out.
 pub fn owned_texts(
     alloc: Global,
     texts: Vec<CowStr<'_>>,
@@ -47,7 +47,8 @@ pub fn owned_texts(
     Ok(owned)
 }
 
-/// The same capabilities, their texts owned. It takes memory for the list, and for borrowed texts; `Err` where there is none.
+/// The same capabilities, their texts owned. It takes memory for the list, and for borrowed texts; `Err`: memory ran
+/// out.
 pub fn owned_capabilities(
     alloc: Global,
     capabilities: Vec<Capability<'_>>,

@@ -25,7 +25,7 @@ use Rattle.imap_proto.specs.Lines.{is_space, response}
 abbrev pub line_end : Pieces
 line_end = raw (carriage_return ∷ line_feed ∷ [])
 
--- what stands between `* ` and the end of the line, which a continuation and a tagged line have not
+-- what stands between `* ` and the end of the line; empty for a continuation and a tagged line
 abbrev pub canonical_data : ResponseValue → Pieces
 canonical_data (Data status o) = canonical_status status then canonical_spaced o
 canonical_data (MailboxData datum) = canonical_datum datum
@@ -83,7 +83,7 @@ Spelled m rest r = (c : Bytes) × (m ≡ c ++ rest) × spells_response r c
 
 -- ---- the two kinds of responses that are not read back
 
--- information without a code that begins with `[` would be read as a code
+-- Without a code, its information begins with `[`, as a code does.
 abbrev pub bracket : ResponseValue → Bool
 bracket (Continue o) = bracketed o
 bracket (Done tag status o) = bracketed o

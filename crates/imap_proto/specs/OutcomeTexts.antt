@@ -32,7 +32,7 @@ canonical_spaced_parts (Some code) information = space then canonical_parts (Som
 abbrev pub canonical_spaced : OutcomeValue → Pieces
 canonical_spaced o = canonical_spaced_parts o.code o.information
 
--- ---- information that would be read as a code
+-- ---- information that begins as a code does
 
 abbrev pub opens_bracket : Bytes → Bool
 opens_bracket [] = false

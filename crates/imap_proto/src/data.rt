@@ -1,6 +1,7 @@
 //! What a data line says. Each reader of a datum ends its line, so that a response is made in one place.
 //!
-//! These readers are calls of their own: inlined into one another, each would clear the slots of all the others' values at each response.
+//! The readers of lines are never inlined: one function that had them all in it would clear, at each response, the room
+//! on its stack for the values of all of them.
 
 ghost use Rattle.std.specs.Prelude.{◌≡◌, ◌<◌, length, map, position, IfSome, Err as Refused};
 ghost use Rattle.imap_grammar.specs.Answer.{Exactly, Gives};
@@ -95,7 +96,7 @@ fn fetched(alloc: Global, i: &[u8]) -> IResult<&[u8], Vec<AttributeValue<'_>>>
 
 /// `EXISTS`, `RECENT` and `EXPUNGE`, whose number stood in front. No memory.
 ///
-/// They are apart from `FETCH`, so that they clear no slot of its attributes.
+/// They are apart from `FETCH`, so that they clear no room on the stack for its attributes.
 #[tactic(auto, unfolding(crate::specs::Lines::count_line))]
 #[inline(never)]
 pub(crate) fn count_line<'a>(n: u32, i: &'a [u8]) -> IResult<&'a [u8], Response<'a>>

@@ -17,6 +17,7 @@ use imap_bytes::at::Reached;
 use imap_bytes::at::numbers::number;
 use imap_bytes::at::span::Span;
 use imap_bytes::at::tags::{cut0, tag, word};
+use imap_bytes::lists::tried;
 use imap_bytes::{Err, IResult};
 use std::alloc::{AllocError, Global};
 
@@ -78,31 +79,26 @@ pub struct KeptFetch {
 impl KeptFetch {
     /// Keeps the `FETCH` at the front of the message (RFC 3501, section 7.4.2); `None` where another response stands there.
     ///
-    /// `Error`, `Incomplete` and `Failure` as `Response::parse`. It answers for the whole message: what the `FETCH` consumed may wait by itself.
+    /// `Error`, `Incomplete` and `Failure` as `Response::parse`. The answer is for the whole message: the bytes that
+    /// the `FETCH` took may be `Incomplete` when they are parsed alone.
     ///
-    /// It takes memory for its bytes and its attributes, and for another response as `Response::parse` does. The bytes of a `Feed`
-    /// stay there, and its `next` reads them again.
+    /// It takes memory for its bytes and its attributes, and for another response as `Response::parse` does. Keeping
+    /// from `Feed::held` takes nothing off the feed: its `next` reads the same bytes again.
     pub fn keep(alloc: Global, msg: &[u8]) -> Result<Option<KeptFetch>, Err>
         ensures { Keeps msg.now result }
     {
-        match fetch_line(alloc, msg) {
-            Ok((q, (number, attributes))) => {
-                let (front, _) = msg.split_at(q);
-                let bytes = Vec::from_slice(alloc, front)?;
-                Ok(Some(KeptFetch {
-                    alloc,
-                    number,
-                    attributes,
-                    bytes,
-                }))
-            }
-            Err(Err::Error) => match valueless(Response::parse(alloc, msg)) {
-                Ok(()) => Ok(None),
-                Err(e) => Err(e),
-            },
-            Err(Err::Incomplete(needed)) => Err(Err::Incomplete(needed)),
-            Err(Err::Failure) => Err(Err::Failure),
-        }
+        let Some((q, (number, attributes))) = tried(fetch_line(alloc, msg))? else {
+            valueless(Response::parse(alloc, msg))?;
+            return Ok(None);
+        };
+        let (front, _) = msg.split_at(q);
+        let bytes = Vec::from_slice(alloc, front)?;
+        Ok(Some(KeptFetch {
+            alloc,
+            number,
+            attributes,
+            bytes,
+        }))
     }
 
     /// The number of the message. No memory.
@@ -126,9 +122,11 @@ impl KeptFetch {
         &self.bytes
     }
 
-    /// The attribute at k, which is below `len`: the same as in the parsed list, texts borrowed from the kept bytes where these are UTF-8.
+    /// The attribute at k, which must be below `len`: the same as in the parsed list, texts borrowed from the kept
+    /// bytes where these are UTF-8.
     ///
-    /// It reads no rule again. It takes memory for lists, envelopes, body structures and texts that are no UTF-8; `Err` where there is none.
+    /// It reads no rule again. It always takes memory, at least for one attribute; more for section paths, lists,
+    /// envelopes, body structures and texts that are not UTF-8. `Err`: memory ran out.
     pub fn attribute(&self, k: usize) -> Result<AttributeValue<'_>, AllocError>
         requires { k < length (attributes_of self.now) }
         ensures { IfOk result (λ v. slice_get (attributes_of self.now) k ≡ Some (attribute_value v)) }

@@ -18,7 +18,8 @@ use crate::response::{RequestId, Response};
 use crate::stream::{End, FeedError, Whole};
 use imap_body::laws;
 
-/// Each rule has one answer, and appended bytes change neither a value nor a denial, and make what is lacking as much smaller.
+/// Each rule has one answer. Bytes that are appended change neither a value nor a denial; and where n bytes are
+/// lacking, k appended ones (k < n) leave n - k lacking.
 #[tactic(auto, using(imap_grammar::proofs::Stability::is_stable))]
 pub fn stable()
     ensures outcome { Stable outcomes.outcome }
@@ -48,9 +49,10 @@ pub fn streams()
     ensures one_whole { OneWhole }
 {}
 
-/// What the grammar takes spells the response. And a response that it yields on some bytes, it yields again on the response's canonical text, with all texts borrowed,
-/// and leaves exactly what follows, whatever that is. Two kinds are excepted: `bracket`, whose information would be read as a code, and `toolong`, a text of which is too long
-/// for its length to be told. A response with its texts borrowed is the same response.
+/// What the grammar takes spells the response. On the canonical text of a response that it yields, the grammar yields
+/// that response again, with all texts borrowed, and what follows the text is left whole, whatever it is. Two kinds are
+/// excepted: `bracket`, whose information begins with `[` as a code does, and `toolong`, with a text too long to be
+/// written as a literal. A response with its texts borrowed is the same response.
 #[tactic(auto, using(crate::proofs::LineTexts::response_spells, crate::proofs::LineTexts::canonical_reads_back, crate::proofs::LentTwice::lent_is_same))]
 pub fn read_back()
     ensures spells { Spells rule.response spells_response }

@@ -1,6 +1,7 @@
 //! IMAP responses: bytes that a server sent go in, typed responses that borrow from them come out.
 //!
-//! The modules are those of the Rust crate `imap-proto`: each re-exports what that module has.
+//! The modules `imap_core` (there `core`), `rfc..`, `bodystructure` and `builders` are those of the Rust crate
+//! `imap-proto`: each re-exports what that module has. `stream`, `kept` and `laws` are this library's own.
 #![tactic(auto)]
 
 mod data;

@@ -16,7 +16,8 @@ use std::borrow::CowStr;
 pub struct Outcome<'a> {
     /// The response code, if there is one.
     pub code: Option<ResponseCode<'a>>,
-    /// The text for a person, if there is any. A code that no rule reads stands in it, brackets and all.
+    /// The text for a person, if there is any. After a code its first character, mostly a space, is left out. A code
+    /// that no rule reads stands in it, brackets and all.
     pub information: Option<CowStr<'a>>,
 }
 
@@ -33,7 +34,7 @@ fn owned_code(
 }
 
 impl<'a> Outcome<'a> {
-    /// The same outcome with all texts owned. It takes memory; `Err` where there is none.
+    /// The same outcome with all texts owned. It takes memory; `Err`: memory ran out.
     pub fn into_owned(self, alloc: Global) -> Result<Outcome<'static>, AllocError>
         ensures { IfOk result (λ o. outcome_value o ≡ owned_outcome (outcome_value self.entry)) }
     {

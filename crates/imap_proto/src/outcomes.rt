@@ -52,7 +52,7 @@ fn plain(text: CowStr<'_>) -> Option<CowStr<'_>>
     if text.is_empty() { None } else { Some(text) }
 }
 
-// The same behind a code.
+// The information that a text is where a code stands in front: all but the first character; an empty text is none.
 fn behind_code(text: CowStr<'_>) -> Option<CowStr<'_>>
     ensures { option_map text_of result ≡ outcomes.unless_empty (text_of text.entry).bytes (after_first (text_of text.entry)) }
 {
@@ -63,7 +63,8 @@ fn behind_code(text: CowStr<'_>) -> Option<CowStr<'_>>
     }
 }
 
-// An outcome without a code. It is a call of its own, as is one with a code, so that it clears no slot of a code.
+// An outcome without a code. It is never inlined, nor is `coded_outcome`, so that it clears no room on the stack for a
+// code.
 #[tactic(auto, unfolding(crate::specs::Outcomes::plain_outcome))]
 #[inline(never)]
 fn plain_outcome(alloc: Global, i: &[u8]) -> IResult<&[u8], Outcome<'_>>
@@ -71,8 +72,14 @@ fn plain_outcome(alloc: Global, i: &[u8]) -> IResult<&[u8], Outcome<'_>>
     ensures memory { SucceedsFor OutcomeTakesNone outcomes.plain_outcome i.now result }
 {
     let (rest, text) = text(alloc, i)?;
-    let (code, information) = (None, plain(text));
-    Ok((rest, Outcome { code, information }))
+    let information = plain(text);
+    Ok((
+        rest,
+        Outcome {
+            code: None,
+            information,
+        },
+    ))
 }
 
 // An outcome that may have a code.
@@ -85,8 +92,14 @@ fn coded_outcome(alloc: Global, i: &[u8]) -> IResult<&[u8], Outcome<'_>>
     match tried(response_code(alloc, i))? {
         Some((rest, code)) => {
             let (rest, text) = text(alloc, rest)?;
-            let (code, information) = (Some(code), behind_code(text));
-            Ok((rest, Outcome { code, information }))
+            let information = behind_code(text);
+            Ok((
+                rest,
+                Outcome {
+                    code: Some(code),
+                    information,
+                },
+            ))
         }
         None => plain_outcome(alloc, i),
     }
@@ -94,7 +107,7 @@ fn coded_outcome(alloc: Global, i: &[u8]) -> IResult<&[u8], Outcome<'_>>
 
 /// A code in brackets if there is one, and the text behind it. The first byte tells whether a code may stand there.
 ///
-/// It takes memory for a code that may hold a list, and for a text that is no UTF-8.
+/// It takes memory for a code that may hold a list, and for a text that is not UTF-8.
 #[tactic(auto, using(crate::proofs::FirstBytes::outcome_uncoded))]
 pub(crate) fn outcome(alloc: Global, i: &[u8]) -> IResult<&[u8], Outcome<'_>>
     ensures steps { Gives outcome_value result (step outcomes.outcome i.now) }
@@ -114,9 +127,6 @@ pub(crate) fn spaced_outcome(alloc: Global, i: &[u8]) -> IResult<&[u8], Outcome<
 {
     match tried(tag(b" ", i))? {
         Some((rest, _)) => outcome(alloc, rest),
-        None => {
-            let (code, information) = (None, None);
-            Ok((i, Outcome { code, information }))
-        }
+        None => Ok((i, Outcome::default())),
     }
 }

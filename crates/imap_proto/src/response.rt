@@ -39,7 +39,7 @@ impl RequestId {
         self.0.as_bytes()
     }
 
-    /// The same tag. It takes memory; `Err` where there is none.
+    /// The same tag. It takes memory; `Err`: memory ran out.
     pub fn clone(&self) -> Result<Self, AllocError>
         ensures { IfOk result (λ copy. string_bytes copy.0 ≡ string_bytes self.now.0) }
     {
@@ -70,7 +70,7 @@ pub enum Response<'a> {
         /// The code and the text.
         outcome: Outcome<'a>,
     },
-    /// `EXPUNGE` (RFC 3501, section 7.4.1).
+    /// `EXPUNGE`: the number of the message that is gone (RFC 3501, section 7.4.1).
     Expunge(u32),
     /// `VANISHED` (RFC 7162, section 3.2.10).
     Vanished {
@@ -81,13 +81,13 @@ pub enum Response<'a> {
     },
     /// `FETCH`: the number of a message and its attributes (RFC 3501, section 7.4.2).
     Fetch(u32, Vec<AttributeValue<'a>>),
-    /// Data of a mailbox (RFC 3501, section 7.2; RFC 5464, section 4.4).
+    /// Data of a mailbox (RFC 3501, sections 7.2 and 7.3; RFC 5256, section 4; RFC 5464, section 4.4; Gmail's items).
     MailboxData(MailboxDatum<'a>),
     /// `QUOTA` (RFC 2087, section 5.1).
     Quota(Quota<'a>),
     /// `QUOTAROOT` (RFC 2087, section 5.2).
     QuotaRoot(QuotaRoot<'a>),
-    /// `ID` (RFC 2971, section 3.2).
+    /// `ID` (RFC 2971, section 3.2). `None` is `NIL`.
     Id(Option<HashMap<CowStr<'a>, CowStr<'a>>>),
     /// `ACL` (RFC 4314, section 3.6).
     Acl(Acl<'a>),
@@ -122,7 +122,8 @@ fn owned_id(alloc: Global, id: Option<IdMap<'_>>) -> Result<Option<IdMap<'static
 }
 
 impl<'a> Response<'a> {
-    /// The same response with all texts owned, so that the bytes which it was read from need not be kept. It takes memory; `Err` where there is none.
+    /// The same response with all texts owned, so that the bytes which it was read from need not be kept. It takes
+    /// memory; `Err`: memory ran out.
     pub fn into_owned(self, alloc: Global) -> Result<Response<'static>, AllocError>
         ensures { IfOk result (λ r. response_value r ≡ owned_response (response_value self.entry)) }
     {
@@ -162,13 +163,17 @@ impl<'a> Response<'a> {
     /// The response at the front of the message, and the bytes behind it (RFC 3501, section 9: response).
     ///
     /// `Error`: no bytes behind these make a response. `Incomplete`: more bytes are needed. `Failure`: memory ran out,
-    /// and nothing else. Texts borrow from the message exactly where their bytes are UTF-8, but for the keys of an ID map:
-    /// of two equal keys either one may be kept. The message is only read.
+    /// and nothing else. The message is only read.
     ///
-    /// It takes memory for lists, for the map of an ID, for the tag of a tagged line, and for texts that are no UTF-8.
-    /// So `Failure` is not answered where the response is one number (`EXPUNGE`, `EXISTS`, `RECENT`, Gmail's), `ID NIL`, or an
-    /// untagged status or a continuation with no list in its code and a borrowed text. One kind is excepted: a text without a code
-    /// that begins as a code with a list does, as `[CAPABILITY`, since it is tried as that code first.
+    /// Texts borrow from the message exactly where their bytes are UTF-8. Two kinds are excepted: those of type
+    /// `String`, which are always owned (the tag of a tagged line, the entry and the value of a `Metadata`), and the
+    /// keys of an ID map: of two equal ones either may be kept.
+    ///
+    /// It takes memory for lists, envelopes and body structures, for the map of an ID, for the tag of a tagged line,
+    /// for the entry and the value of a `Metadata`, and for texts that are not UTF-8. So `Failure` is not answered
+    /// where the response is one number (`EXPUNGE`, `EXISTS`, `RECENT`, Gmail's), `ID NIL`, or an untagged status or a
+    /// continuation with no list in its code and a borrowed text. One kind is excepted: a text without a code that
+    /// begins as a code with a list does, as `[CAPABILITY`, since it is tried as that code first.
     #[inline(always)]
     pub fn parse(alloc: Global, msg: &'a [u8]) -> ParseResult<'a>
         ensures steps { Gives response_value result (step rule.response msg.now) }

@@ -107,7 +107,7 @@ impl Feed {
         }
     }
 
-    /// Puts a piece behind what it holds. It takes memory; `Err` where there is none, and the feed is then as it was.
+    /// Puts a piece behind what it holds. It takes memory; `Err`: memory ran out, and the feed is as it was.
     pub fn feed(&mut self, piece: &[u8]) -> Result<(), AllocError>
         ensures fed { OnOk result (self.new ≡ self.old ++ piece.now) }
         ensures kept { OnErr result (self.new ≡ self.old) }
@@ -128,8 +128,8 @@ impl Feed {
     /// The response at the front of what it holds, with all its texts owned; its bytes are held no longer. `None` where more bytes are
     /// needed, or nothing is held.
     ///
-    /// `Denied`: no response begins so, and every later call says that again, whatever is fed, or `OutOfMemory`. `OutOfMemory`: it takes
-    /// memory, and there was none; the same call may be made again. Both leave what is held.
+    /// It takes memory. `OutOfMemory`: memory ran out, and the same call may be made again. `Denied`: no response
+    /// begins so, and every later call says that again, whatever is fed, or `OutOfMemory`. Both leave what is held.
     /// A response takes at least one byte, so a loop over `next` ends.
     pub fn next(&mut self) -> Result<Option<Response<'static>>, FeedError>
         ensures gives { IfOk result (λ r. Gave self.old r self.new) }
@@ -187,7 +187,7 @@ fn take_all(feed: &mut Feed, responses: &mut Vec<Response<'static>>) -> Result<E
 
 /// All responses that stand in the pieces, one behind another, and what is left behind them.
 ///
-/// It takes memory; `Err` where there is none. Behind a denial no response is read.
+/// It takes memory; `Err`: memory ran out. Behind a denial no response is read.
 pub fn read_pieces(alloc: Global, pieces: &[&[u8]]) -> Result<Whole, AllocError>
     ensures whole { IfOk result (IsWhole (joined (map (λ p. p.now) pieces.now))) }
 {

@@ -16,7 +16,7 @@ pub trait Source {
     ghost has_failed: { Self → Bool };
 
     /// Reads into the front of the buffer, and tells how many bytes: 0 only at the end of the bytes, or
-    /// where there is no room.
+    /// where there is no room. `Err`: the device failed, and `failed` says so from then on.
     fn read(&mut self, buf: &mut [u8]) -> io::Result<usize>
         ensures bound { IfOk result (λ n. n ≤ length buf.new) }
         ensures bytes { ReadConsumes (remaining self.old) (remaining self.new) result buf.new }
@@ -35,8 +35,8 @@ pub trait Sink {
     /// Whether it has failed.
     ghost has_failed: { Self → Bool };
 
-    /// Writes bytes from the front of the piece, and tells how many. Taking none of a piece that has
-    /// bytes is a failure.
+    /// Writes bytes from the front of the piece, and tells how many. `Err`: the device failed, and
+    /// `failed` says so from then on. Taking none of a piece that has bytes is a failure too.
     fn write(&mut self, buf: &[u8]) -> io::Result<usize>
         ensures bound { IfOk result (λ n. n ≤ length buf.now) }
         ensures bytes { WriteAppends (contents self.old) (contents self.new) result buf.now }

@@ -78,6 +78,7 @@ fn tell_responses<R: Source, W: Sink>(
     ensures long { IfErr result (λ e. e ≡ Fault.TooLong → ReadsAtLeast (2 ^ 64 - 1) (R.remaining reader.old) (R.remaining reader.new)) }
 {
     let mut feed = Feed::new(alloc);
+    // Each piece has at least one byte, so after 2^64 - 1 of them the input is too long.
     'pieces: for _ in 0..u64::MAX {
         let n = take_piece(reader, &mut feed)?;
         if n == 0 {
@@ -119,7 +120,8 @@ pub fn run<R: Source, W: Sink>(
 
 /// The report of these bytes, and what its last line tells.
 ///
-/// It takes memory. Where there is none: `Write` for the report itself, `OutOfMemory` for all else.
+/// It takes memory. `Write`: memory ran out for the report itself. `OutOfMemory`: it ran out for something else.
+/// `TooLong`: the input has at least 2^64 - 1 bytes.
 pub fn report_of(alloc: Global, input: &[u8]) -> Result<(Finish, Vec<u8>), Fault>
     ensures report { IfOk result (λ told. IsReport input.now told.1.items told.0) }
     ensures long { IfErr result (λ e. e ≡ Fault.TooLong → 2 ^ 64 - 1 ≤ length input.now) }

@@ -31,7 +31,7 @@ header_fields = fields_word ▹ opt not_word ▹ sp ▹ header_list ▹ nothing 
 unfoldable pub section_msgtext : Rule MessageSection
 section_msgtext = header_fields or names "HEADER" Header or names "TEXT" Text
 
--- of these those that start alike
+-- the alternatives by their first byte
 
 unfoldable pub header_text : Rule MessageSection
 header_text = header_fields or names "HEADER" Header

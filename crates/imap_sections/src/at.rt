@@ -1,3 +1,5 @@
 //! Readers that walk positions in one message.
+//!
+//! Each reads m from p on, and answers the position after what it read. p must be at most m's length.
 
 pub mod sections;

@@ -16,7 +16,8 @@ use crate::shapes::extensions::{BodyExtension, ContentDisposition};
 use crate::shapes::fields::{BodyParams, ContentEncoding};
 use crate::spans::SpannedText;
 
-/// Where `==` tells texts by what f says of them, whichever are borrowed, it tells shapes of such texts so too: it answers whether two say the same.
+/// If `==` of texts answers whether f says the same of both, borrowed or owned, then `==` of shapes of such texts
+/// answers whether the two shapes say the same.
 pub fn equality<S: PartialEq, B: PartialEq>()
     ensures address { (f : B → Text) → Tells B.eq (λ b. lent_text (f b)) → Tells ⟦<Address<B> as PartialEq>⟧.eq (λ x. lent_address (address_seen f x)) }
     ensures envelope { (f : B → Text) → Tells B.eq (λ b. lent_text (f b)) → Tells ⟦<Envelope<B> as PartialEq>⟧.eq (λ x. lent_envelope (envelope_seen f x)) }

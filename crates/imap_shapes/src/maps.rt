@@ -1,7 +1,10 @@
 //! One map a type over its texts: owned values and what spans name are instances of it.
 
-/// What a call made, or its error. What was made before it is dropped by a call each: where `?` drops large values in
-/// place, what is in them is proved there again, part by part, at each `?`. It also spares a large value the copy that `?` makes.
+/// The value that `$made` is `Ok` of. Where `$made` is an error, the values `$before` are dropped, and the error is
+/// returned from the function.
+///
+/// Each of `$before` is dropped by a call: where `?` drops large values in place, what is in them is proved there
+/// again, part by part, at each `?`. It also spares a large value the copy that `?` makes.
 #[macro_export]
 macro_rules! made {
     ($made:expr $(, $before:ident)*) => {

@@ -1,4 +1,4 @@
-//! The same values with all texts owned. They are consumed, and `Err` where there is no memory.
+//! The same values with all texts owned. They are consumed; `Err`: memory ran out.
 //!
 //! What is consumed is dropped by a call. Where it is dropped in place, at the end of the function, what is in it is
 //! proved there again, part by part, which takes three to five times as long.
@@ -20,7 +20,8 @@ use crate::types::fields::{BodyFields, ContentEncoding};
 use std::alloc::{AllocError, Global};
 
 impl<'a> Address<'a> {
-    /// The same with all texts owned. It takes memory; `Err` where there is none.
+    /// The same address with all texts owned. It takes memory, also for texts that are owned already; `Err`: memory ran
+    /// out.
     pub fn into_owned(self, alloc: Global) -> Result<Address<'static>, AllocError>
         ensures { IfOk result (λ x. address_seen bytes_of x ≡ address_seen bytes_owned self.entry) }
     {
@@ -31,7 +32,8 @@ impl<'a> Address<'a> {
 }
 
 impl<'a> Envelope<'a> {
-    /// The same with all texts owned. It takes memory; `Err` where there is none.
+    /// The same envelope with all texts owned. It takes memory, also for texts that are owned already; `Err`: memory
+    /// ran out.
     pub fn into_owned(self, alloc: Global) -> Result<Envelope<'static>, AllocError>
         ensures { IfOk result (λ x. envelope_seen bytes_of x ≡ envelope_seen bytes_owned self.entry) }
     {
@@ -42,7 +44,8 @@ impl<'a> Envelope<'a> {
 }
 
 impl<'a> ContentEncoding<'a> {
-    /// The same with all texts owned. It takes memory; `Err` where there is none.
+    /// The same encoding with its text owned. It takes memory only for a text, also for one that is owned already;
+    /// `Err`: memory ran out.
     pub fn into_owned(self, alloc: Global) -> Result<ContentEncoding<'static>, AllocError>
         ensures { IfOk result (λ x. encoding_seen text_of x ≡ encoding_seen text_owned self.entry) }
     {
@@ -53,7 +56,8 @@ impl<'a> ContentEncoding<'a> {
 }
 
 impl<'a> BodyFields<'a> {
-    /// The same with all texts owned. It takes memory; `Err` where there is none.
+    /// The same fields with all texts owned. It takes memory, also for texts that are owned already; `Err`: memory ran
+    /// out.
     pub fn into_owned(self, alloc: Global) -> Result<BodyFields<'static>, AllocError>
         ensures { IfOk result (λ x. fields_seen text_of x ≡ fields_seen text_owned self.entry) }
     {
@@ -64,7 +68,8 @@ impl<'a> BodyFields<'a> {
 }
 
 impl<'a> ContentDisposition<'a> {
-    /// The same with all texts owned. It takes memory; `Err` where there is none.
+    /// The same disposition with all texts owned. It takes memory, also for texts that are owned already; `Err`: memory
+    /// ran out.
     pub fn into_owned(self, alloc: Global) -> Result<ContentDisposition<'static>, AllocError>
         ensures { IfOk result (λ x. disposition_seen text_of x ≡ disposition_seen text_owned self.entry) }
     {
@@ -75,7 +80,8 @@ impl<'a> ContentDisposition<'a> {
 }
 
 impl<'a> BodyExtension<'a> {
-    /// The same with all texts owned. It takes memory; `Err` where there is none.
+    /// The same extension with all texts owned. It takes memory, also for texts that are owned already; `Err`: memory
+    /// ran out.
     pub fn into_owned(self, alloc: Global) -> Result<BodyExtension<'static>, AllocError>
         ensures { IfOk result (λ x. extension_seen text_of x ≡ extension_seen text_owned self.entry) }
     {
@@ -86,7 +92,8 @@ impl<'a> BodyExtension<'a> {
 }
 
 impl<'a> BodyExt1Part<'a> {
-    /// The same with all texts owned. It takes memory; `Err` where there is none.
+    /// The same data with all texts owned. It takes memory, also for texts that are owned already; `Err`: memory ran
+    /// out.
     pub fn into_owned(self, alloc: Global) -> Result<BodyExt1Part<'static>, AllocError>
         ensures { IfOk result (λ x. ext_1part_seen text_of x ≡ ext_1part_seen text_owned self.entry) }
     {
@@ -97,7 +104,8 @@ impl<'a> BodyExt1Part<'a> {
 }
 
 impl<'a> BodyExtMPart<'a> {
-    /// The same with all texts owned. It takes memory; `Err` where there is none.
+    /// The same data with all texts owned. It takes memory, also for texts that are owned already; `Err`: memory ran
+    /// out.
     pub fn into_owned(self, alloc: Global) -> Result<BodyExtMPart<'static>, AllocError>
         ensures { IfOk result (λ x. ext_mpart_seen text_of x ≡ ext_mpart_seen text_owned self.entry) }
     {
@@ -108,7 +116,8 @@ impl<'a> BodyExtMPart<'a> {
 }
 
 impl<'a> ContentType<'a> {
-    /// The same with all texts owned. It takes memory; `Err` where there is none.
+    /// The same type with all texts owned. It takes memory, also for texts that are owned already; `Err`: memory ran
+    /// out.
     pub fn into_owned(self, alloc: Global) -> Result<ContentType<'static>, AllocError>
         ensures { IfOk result (λ x. type_seen text_of x ≡ type_seen text_owned self.entry) }
     {
@@ -119,7 +128,8 @@ impl<'a> ContentType<'a> {
 }
 
 impl<'a> BodyContentCommon<'a> {
-    /// The same with all texts owned. It takes memory; `Err` where there is none.
+    /// What every body says, with all texts owned. It takes memory, also for texts that are owned already; `Err`:
+    /// memory ran out.
     pub fn into_owned(self, alloc: Global) -> Result<BodyContentCommon<'static>, AllocError>
         ensures { IfOk result (λ x. common_seen text_of x ≡ common_seen text_owned self.entry) }
     {
@@ -130,7 +140,8 @@ impl<'a> BodyContentCommon<'a> {
 }
 
 impl<'a> BodyContentSinglePart<'a> {
-    /// The same with all texts owned. It takes memory; `Err` where there is none.
+    /// What a single part says, with all texts owned. It takes memory, also for texts that are owned already; `Err`:
+    /// memory ran out.
     pub fn into_owned(self, alloc: Global) -> Result<BodyContentSinglePart<'static>, AllocError>
         ensures { IfOk result (λ x. single_seen text_of x ≡ single_seen text_owned self.entry) }
     {
@@ -141,7 +152,8 @@ impl<'a> BodyContentSinglePart<'a> {
 }
 
 impl<'a> BodyStructure<'a> {
-    /// The same with all texts owned. It takes memory; `Err` where there is none.
+    /// The same structure with all texts owned. It takes memory, also for texts that are owned already; `Err`: memory
+    /// ran out.
     pub fn into_owned(self, alloc: Global) -> Result<BodyStructure<'static>, AllocError>
         ensures { IfOk result (λ x. body_seen text_of bytes_of x ≡ body_seen text_owned bytes_owned self.entry) }
     {

@@ -47,12 +47,6 @@ struct Part<'b, 'a> {
     body: &'b BodyStructure<'a>,
 }
 
-fn copied(path: &Vec<u32>) -> Result<Vec<u32>, AllocError>
-    ensures { IfOk result (λ v. v.items ≡ path.now.items) }
-{
-    path.clone()
-}
-
 // Puts a body at its path behind the parts.
 fn hold<'b, 'a>(
     body: &'b BodyStructure<'a>,
@@ -62,7 +56,7 @@ fn hold<'b, 'a>(
     ensures { OnOk result (map part_seen parts.new.items ≡ map part_seen parts.old.items ++ ((path.now.items, body_seen text_of bytes_of body.now) ∷ [])) }
 {
     parts.reserve(1)?;
-    let path = copied(path)?;
+    let path = path.clone()?;
     parts.push_reserved(Part { path, body });
     Ok(())
 }
@@ -94,16 +88,19 @@ fn visit<'b, 'a>(
     Ok(())
 }
 
-/// The bodies inside a body, each with its path: the numbers of the parts on the way to it, from 1 (RFC 3501, section 6.4.5).
+/// A body and the bodies inside it, each with its path: the numbers of the parts on the way to it, from 1 (RFC 3501,
+/// section 6.4.5).
 #[derive(Drop)]
 pub struct BodyStructParser<'b, 'a> {
     parts: Vec<Part<'b, 'a>>,
 }
 
 impl<'b, 'a> BodyStructParser<'b, 'a> {
-    /// The bodies inside root, parent before child and left to right. The body inside a message is none of them.
+    /// Root and the bodies inside it, parent before child and left to right. The body inside a message is none of them.
     ///
-    /// `TooManyParts` where a multipart has more than 4,294,967,295 bodies, judged before those; `OutOfMemory` where a growth was refused before that.
+    /// It takes memory for the list of bodies, and for their paths. `TooManyParts`: a multipart has more than
+    /// 4,294,967,295 bodies, which is judged before the bodies in it are visited; `OutOfMemory`: memory ran out before
+    /// that.
     pub fn new(
         alloc: Global,
         root: &'b BodyStructure<'a>,
@@ -118,12 +115,13 @@ impl<'b, 'a> BodyStructParser<'b, 'a> {
         Ok(BodyStructParser { parts })
     }
 
-    /// The path of the first body at which f holds, and `None` where it holds at none. `Err` where there is no memory for the path.
+    /// The path of the first body at which f holds, and `None` where it holds at none. It takes memory for the path;
+    /// `Err`: memory ran out.
     ///
-    /// Joined by dots, a path is the section of its part. The empty path is root's: where root is no multipart, its section is `1`
-    /// (RFC 3501, section 6.4.5).
+    /// Joined by dots, a path is the section of its part. The empty path is root's: where root is no multipart, its
+    /// section is `1` (RFC 3501, section 6.4.5).
     ///
-    /// f may be called on each body that is held, and answers the same each time.
+    /// f must be callable on each body that is held, and should answer the same each time.
     pub fn search<F: Fn(&BodyStructure<'a>) -> bool>(
         &self,
         f: F,
@@ -134,7 +132,7 @@ impl<'b, 'a> BodyStructParser<'b, 'a> {
         let Some(part) = self.first(f) else {
             return Ok(None);
         };
-        Ok(Some(copied(&part.path)?))
+        Ok(Some(part.path.clone()?))
     }
 
     // The first part at whose body f holds.

@@ -44,6 +44,8 @@ multipart_of (bodies, (subtype, ext)) =
 
 -- ---- rules
 
+-- In the four types each field of extension data brings its own SP, and may be missing with it.
+
 -- body-type-text = media-text SP body-fields SP body-fld-lines [SP body-ext-1part], where media-text = DQUOTE "TEXT" DQUOTE SP media-subtype
 unfoldable pub body_type_text : Rule BodyValue
 body_type_text = gives text_of_parts (word "\"TEXT\"" ▹ spaced string_utf8 ⨾ spaced body_fields ⨾ spaced number ⨾ body_ext_1part)
@@ -72,7 +74,7 @@ body_type_mpart body = gives multipart_of (some_bodies body ⨾ spaced string_ut
 unfoldable pub body_type : Rule BodyValue → Rule BodyValue
 body_type inner = body_type_text or body_type_msg inner or body_type_basic or body_type_mpart inner
 
--- of these those that begin with a quoted string
+-- the alternatives that may begin with a quoted string
 unfoldable pub quoted_type : Rule BodyValue → Rule BodyValue
 quoted_type inner = body_type_text or body_type_msg inner or body_type_basic
 

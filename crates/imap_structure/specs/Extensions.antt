@@ -30,11 +30,11 @@ some_languages = list1 sp string_utf8
 abbrev pub single : Option Text → Option (List Text)
 single t = option_map (λ x. x ∷ []) t
 
--- "(" string *(SP string) ")"
+-- "(" string *(SP string) ")", where blanks may stand before the `)`
 unfoldable pub language_list : Rule (Option (List Text))
 language_list = gives Some (tag "(" ▹ some_languages ◃ blanks0 ⨾ tag ")")
 
--- body-fld-lang = nstring / "(" string *(SP string) ")"
+-- body-fld-lang = nstring / "(" string *(SP string) ")", with blanks as above
 unfoldable pub body_fld_lang : Rule (Option (List Text))
 body_fld_lang = gives single nstring_utf8 or language_list
 
@@ -44,7 +44,7 @@ body_fld_lang = gives single nstring_utf8 or language_list
 unfoldable pub extension_over : Rule ExtensionValue → Rule ExtensionValue
 extension_over lists = gives Num number or gives Str nstring_utf8 or lists
 
--- of these those that start alike, but lists
+-- the alternatives by their first byte, but for lists
 
 unfoldable pub number_extension : Rule ExtensionValue
 number_extension = gives Num number
@@ -59,7 +59,7 @@ some_extensions lists = list1 sp (extension_over lists)
 abbrev pub listed : List ExtensionValue → ExtensionValue
 listed es = Listed (extensions_of es)
 
--- "(" body-extension *(SP body-extension) ")", where lists inside are those
+-- "(" body-extension *(SP body-extension) ")", where lists inside are those, and blanks may stand before the `)`
 unfoldable pub bracketed_extensions : Rule ExtensionValue → Rule ExtensionValue
 bracketed_extensions lists = gives listed (tag "(" ▹ some_extensions lists ◃ blanks0 ⨾ tag ")")
 

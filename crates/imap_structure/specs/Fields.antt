@@ -18,7 +18,7 @@ body_param = string_utf8 ⨾ spaced string_utf8
 unfoldable pub some_params : Rule (List (Text × Text))
 some_params = list1 sp body_param
 
--- body-fld-param = "(" string SP string *(SP string SP string) ")" / nil
+-- body-fld-param = "(" string SP string *(SP string SP string) ")" / nil, where blanks may stand before the `)`
 unfoldable pub body_fld_param : Rule ParamsValue
 body_fld_param = nil_or (tag "(" ▹ some_params ◃ blanks0 ⨾ tag ")")
 
@@ -34,7 +34,7 @@ quoted_encoding = tag "\"" ▹ encoding_name ◃ tag "\""
 unfoldable pub body_fld_enc : Rule EncodingValue
 body_fld_enc = nil ▹ nothing SevenBit or quoted_encoding or gives Other string_utf8
 
--- of these those that start alike
+-- the alternatives of `encoding_name` and `body_fld_enc` by their first byte
 
 unfoldable pub seven_bit : Rule EncodingValue
 seven_bit = names "7BIT" SevenBit

@@ -14,7 +14,8 @@ use Rattle.imap_shapes.specs.BodyValues.{BodyValue, body_seen}
 abbrev pub boxed_seen : {S B : Type 0} → (S → Text) → (B → Text) → Box (BodyStructure S B) Global → BodyValue
 boxed_seen f g b = body_seen f g b.value
 
--- Behind the old ones there is one more: what the step yields on m, which rests on the bytes before the position that was reached.
+-- The new list is the old one and one element more, whose value in m is what the step yields. That value depends only
+-- on the bytes before q.
 pub record OneMore {A V : Type 0} (view : Bytes → A → V) (m : Bytes) (old new : List A) (q : ℕ) (s : Step V) : Type 0 where
   pub one : A
   pub behind : new ≡ old ++ one ∷ []

@@ -13,6 +13,9 @@ use std::process::Abort;
 /// Inputs, each with what a reader answers.
 pub type Rows = &'static [(&'static [u8], &'static str)];
 
+/// What a reader answers that waits for bytes which it can't count.
+pub const WAITS: &str = "Incomplete(Unknown)";
+
 /// The debug text of what was read, and the bytes behind it where there are any; or why nothing was read.
 pub fn told<T: Debug + Drop>(
     alloc: Global,
@@ -93,6 +96,7 @@ pub enum Marked<'a> {
     Owned(&'a str),
 }
 
+/// The text with its mark: whether it is borrowed or owned.
 pub fn with_mark<'a>(text: &'a CowStr<'_>) -> Marked<'a> {
     match text {
         CowStr::Borrowed(text) => Marked::Borrowed(*text),

@@ -1,6 +1,6 @@
 //! Bytes: classes, numbers, strings and sets.
 
-use crate::answers::{Rows, says, says_bytes};
+use crate::answers::{Rows, WAITS, says, says_bytes};
 use imap_proto::imap_core::{
     astring, atom, is_astring_char, is_atom_char, is_atom_specials, is_char, is_list_wildcards,
     is_quoted_specials, is_resp_specials, is_text_char, literal, nil, nstring, number, number_64,
@@ -39,8 +39,6 @@ fn classes(rt: HostRuntime) {
     assert!(rt; lacks(is_atom_char, ATOM_SPECIALS));
     assert!(rt; lacks(is_astring_char, NO_ASTRING_CHARS));
 }
-
-const WAITS: &str = "Incomplete(Unknown)";
 
 static NUMBERS: Rows = &[
     (b"007 ", r#"7 then " ""#),

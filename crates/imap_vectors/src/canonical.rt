@@ -100,7 +100,7 @@ pub fn texts_by_definition()
     ensures unknown { canonical_bytes value.unknown ≡ codes "* 1 FETCH (X NIL UID 4)\r\n" }
 {}
 
-// Information that begins with `[` would be read as a code: no canonical text is promised.
+// Information that begins with `[`, as a code does: no canonical text is promised.
 const BRACKETED: &[u8] = b"* OK [BADCHARSET ({5}\r\nabcdex";
 
 // Whether both texts, and the canonical one with more behind it, answer so.

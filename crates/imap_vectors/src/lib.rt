@@ -1,6 +1,7 @@
 //! Lines and calls with the answers that they are known to have, as tests by topic.
 //!
-//! A table has an input and the text of its answer a row: the debug text of the value, and behind `then` the bytes that are left.
+//! Each row of a table has an input and the text of its answer: the debug text of the value, and behind `then` the
+//! bytes that are left.
 #![tactic(auto)]
 
 #[cfg(test)]

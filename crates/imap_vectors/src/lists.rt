@@ -8,15 +8,13 @@ ghost use Rattle.imap_grammar.specs.Step.{step};
 ghost use Rattle.imap_grammar.specs.Lists.{delimited, list_of, nonempty_list_of};
 ghost use Rattle.imap_bytes.specs.Numbers as rules;
 
-use crate::answers::{Rows, says};
+use crate::answers::{Rows, WAITS, says};
 use imap_proto::imap_core::{
     IResult, literal, number, opt_opt, paren_delimited, parenthesized_list,
     parenthesized_nonempty_list,
 };
 use std::alloc::Global;
 use std::test::*;
-
-const WAITS: &str = "Incomplete(Unknown)";
 
 fn numbers(alloc: Global, i: &[u8]) -> IResult<&[u8], Vec<u32>>
     ensures { Gives (λ x. x.items) result (step (list_of rules.number) i.now) }

@@ -2,6 +2,7 @@
 
 ghost use Rattle.std.specs.Prelude.{None};
 
+use crate::answers::displays;
 use imap_report::{Fault, Finish, Sink, Source, report_of, run};
 use std::alloc::Global;
 use std::io::{self, ErrorKind};
@@ -274,19 +275,11 @@ fn writes_before_the_next_read(rt: HostRuntime) {
     }
 }
 
-// Whether a fault is told so.
-fn is_named(alloc: Global, fault: Fault, want: &str) -> bool {
-    match fault.to_string(alloc) {
-        Ok(text) => text.as_str() == want,
-        Err(_) => false,
-    }
-}
-
 #[test]
 fn faults(rt: HostRuntime) {
     let alloc = rt.alloc();
-    assert!(rt; is_named(alloc, Fault::Read, "read failed"));
-    assert!(rt; is_named(alloc, Fault::Write, "write failed"));
-    assert!(rt; is_named(alloc, Fault::TooLong, "input too long"));
-    assert!(rt; is_named(alloc, Fault::OutOfMemory, "out of memory"));
+    assert!(rt; displays(alloc, Fault::Read, "read failed"));
+    assert!(rt; displays(alloc, Fault::Write, "write failed"));
+    assert!(rt; displays(alloc, Fault::TooLong, "input too long"));
+    assert!(rt; displays(alloc, Fault::OutOfMemory, "out of memory"));
 }

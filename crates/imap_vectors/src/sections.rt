@@ -1,12 +1,10 @@
 //! Sections of bodies: which part of a message is meant.
 
-use crate::answers::{Rows, says};
+use crate::answers::{Rows, WAITS, says};
 use imap_proto::rfc3501::body::{
     MessageSection, SectionPath, section, section_msgtext, section_part,
 };
 use std::test::*;
-
-const WAITS: &str = "Incomplete(Unknown)";
 
 static SECTIONS: Rows = &[
     (b"[1.2.MIME]x", r#"Some(Part([1, 2], Some(Mime))) then "x""#),

@@ -77,7 +77,7 @@ fn section_contents<K: KeepAttribute>(
 ///
 /// It takes memory for the path of a part.
 #[tactic(auto, unfolding(crate::specs::Attributes::msg_att_body_section))]
-pub fn msg_att_body_section<K: KeepAttribute>(
+pub(crate) fn msg_att_body_section<K: KeepAttribute>(
     keep: &K,
     alloc: Global,
     m: &[u8],
@@ -231,7 +231,7 @@ fn message_attribute<K: KeepAttribute>(
 }
 
 #[tactic(auto, using(crate::proofs::Resting::envelope_rests), unfolding(crate::specs::Attributes::msg_att_envelope))]
-#[inline(never)] // Its slots are large.
+#[inline(never)] // Its stack frame is large, and a caller that inlined it would clear it at each call.
 fn msg_att_envelope<K: KeepAttribute>(
     keep: &K,
     alloc: Global,
@@ -256,8 +256,7 @@ fn date(m: &[u8], p: usize) -> Reached<Span>
     ensures ahead { Ahead m.now p result }
     ensures rests { RestsOn text_in result }
 {
-    let (q, date) = string(m, p)?;
-    Ok((q, date))
+    string(m, p)
 }
 
 #[tactic(auto, unfolding(crate::specs::Attributes::msg_att_internal_date))]
@@ -379,10 +378,8 @@ fn id_bytes(m: &[u8], p: usize) -> Reached<Span>
     ensures inside { Inside m.now p result }
 {
     let (q, id) = astring_chars(m, p)?;
-    match as_utf8(id.bytes(m)) {
-        None => Err(Err::Error),
-        Some(_) => Ok((q, id)),
-    }
+    as_utf8(id.bytes(m)).ok_or(Err::Error)?;
+    Ok((q, id))
 }
 
 #[tactic(auto, using(crate::proofs::Resting::id_decoded, imap_items::proofs::Spanned::text_rests), unfolding(crate::specs::Attributes::object_id))]
@@ -392,8 +389,7 @@ fn object_id(m: &[u8], p: usize) -> Reached<Span>
     ensures ahead { Ahead m.now p result }
     ensures rests { RestsOn text_in result }
 {
-    let (q, id) = id_bytes(m, p)?;
-    Ok((q, id))
+    id_bytes(m, p)
 }
 
 #[tactic(auto, unfolding(crate::specs::Attributes::bracketed_id))]
@@ -546,8 +542,8 @@ fn msg_att_unknown<K: KeepAttribute>(
     Ok((p, AttributeParts::Unknown))
 }
 
-// Those that begin with a letter, by a call each: an answer has slots of some size, which each call of `attribute` would clear
-// for all of them.
+// One function for each first letter, never inlined: each answer takes room on the stack, and `attribute` would clear
+// the room of all of them at each call.
 
 #[tactic(auto, unfolding(crate::specs::Attributes::attribute_of_b))]
 #[inline(never)]
@@ -699,12 +695,13 @@ fn attribute_of_x<K: KeepAttribute>(
     msg_att_unknown::<K>(m, p)
 }
 
-/// An attribute (RFC 3501, section 9: msg-att): of the alternatives those are tried, in order, that may start with the first byte.
+/// An attribute (RFC 3501, section 9: msg-att): of the alternatives those are tried, in order, that may start with the
+/// first byte.
 ///
-/// It takes memory for lists, envelopes and body structures; and where values are kept of their strings, for texts that are no
-/// UTF-8.
+/// It takes memory for lists, envelopes and body structures, and, where values are kept of its strings, for texts that
+/// are not UTF-8.
 #[tactic(auto, using(crate::proofs::AttributeFirstBytes::attribute_none, crate::proofs::AttributeFirstBytes::attribute_is_of_b, crate::proofs::AttributeFirstBytes::attribute_is_of_e, crate::proofs::AttributeFirstBytes::attribute_is_of_f, crate::proofs::AttributeFirstBytes::attribute_is_of_i, crate::proofs::AttributeFirstBytes::attribute_is_of_m, crate::proofs::AttributeFirstBytes::attribute_is_of_r, crate::proofs::AttributeFirstBytes::attribute_is_of_t, crate::proofs::AttributeFirstBytes::attribute_is_of_u, crate::proofs::AttributeFirstBytes::attribute_is_of_x, crate::proofs::AttributeFirstBytes::attribute_other))]
-pub fn attribute<K: KeepAttribute>(
+pub(crate) fn attribute<K: KeepAttribute>(
     keep: &K,
     alloc: Global,
     m: &[u8],

@@ -32,9 +32,11 @@ fn named<'a>(
     Ok((rest(i, q), value?))
 }
 
-/// A section of a message's body, maybe from an index on, and its contents (RFC 3501, section 7.4.2: `BODY[<section>]<<origin octet>>`).
+/// A section of a message's body, maybe from an index on, and its contents (RFC 3501, section 7.4.2:
+/// `BODY[<section>]<<origin octet>>`).
 ///
-/// It takes memory for the path of a part. Its bytes are borrowed.
+/// A section that is read always takes memory, at least for one attribute; more for the path of a part. Its bytes are
+/// borrowed.
 #[tactic(auto, using(imap_grammar::proofs::Agreement::answered))]
 pub fn msg_att_body_section(alloc: Global, i: &[u8]) -> IResult<&[u8], AttributeValue<'_>>
     ensures steps { Gives (λ x. attribute_value x) result (step rules.msg_att_body_section i.now) }
@@ -44,10 +46,11 @@ pub fn msg_att_body_section(alloc: Global, i: &[u8]) -> IResult<&[u8], Attribute
     named(alloc, i, q, spans)
 }
 
-/// An attribute of a message (RFC 3501, section 9: msg-att; RFC 7162, section 7; RFC 8474, section 7; Gmail's X-GM-EXT-1). Any other,
-/// and one of a known name with another value, is `Unknown`, and its value is skipped.
+/// An attribute of a message (RFC 3501, section 9: msg-att; RFC 7162, section 7; RFC 8474, section 7; Gmail's
+/// X-GM-EXT-1). Any other, and one of a known name with another value, is `Unknown`, and its value is skipped.
 ///
-/// It takes memory for lists, envelopes and body structures, and for texts that are no UTF-8.
+/// An attribute that is read always takes memory, at least for itself; more for lists, envelopes and body structures,
+/// and for texts that are not UTF-8.
 #[tactic(auto, using(imap_grammar::proofs::Agreement::answered))]
 pub fn attribute(alloc: Global, i: &[u8]) -> IResult<&[u8], AttributeValue<'_>>
     ensures steps { Gives (λ x. attribute_value x) result (step rules.attribute i.now) }
@@ -59,7 +62,7 @@ pub fn attribute(alloc: Global, i: &[u8]) -> IResult<&[u8], AttributeValue<'_>>
 
 /// The attributes of a message in parentheses, one or more, by one space (RFC 3501, section 9: msg-att).
 ///
-/// It takes memory for the lists, for envelopes and body structures, and for texts that are no UTF-8.
+/// It takes memory for the list, for the lists, envelopes and body structures in it, and for texts that are not UTF-8.
 #[tactic(auto, using(imap_grammar::proofs::Agreement::answered))]
 pub fn attribute_list(alloc: Global, i: &[u8]) -> IResult<&[u8], Vec<AttributeValue<'_>>>
     ensures steps { Gives (λ x. map attribute_value x.items) result (step rules.attribute_list i.now) }

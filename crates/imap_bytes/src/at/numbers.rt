@@ -73,12 +73,12 @@ fn digits_in_front(i: &[u8]) -> Option<(usize, Option<u32>)>
 }
 
 // The number with one more digit, if 64 bits hold it.
-fn with_digit(number: u64, digit: u8) -> Option<u64>
-    ensures { result ≡ only (λ n. nat_lt n (2 ^ 64)) (number * 10 + (digit - 48)) }
+fn with_digit(number: u64, byte: u8) -> Option<u64>
+    ensures { result ≡ only (λ n. nat_lt n (2 ^ 64)) (number * 10 + (byte - 48)) }
 {
     number
         .checked_mul(10)?
-        .checked_add(u64::from(digit.saturating_sub(b'0')))
+        .checked_add(u64::from(byte.saturating_sub(b'0')))
 }
 
 // How many digits stand in front, and the number that they write, if 64 bits hold it. `None` where nothing follows them.
@@ -101,7 +101,7 @@ fn digits_in_front_64(i: &[u8]) -> Option<(usize, Option<u64>)>
     None
 }
 
-/// A number below 2^32, leading zeros allowed (RFC 3501, section 9: number).
+/// A number below 2^32, leading zeros allowed (RFC 3501, section 9: number). No memory.
 ///
 /// It is judged behind the byte that ends its digits: a larger one is `Error`, digits up to the end of the message wait.
 #[tactic(auto, using(imap_grammar::proofs::Agreement::exact_answered_at))]
@@ -128,7 +128,9 @@ pub fn number(m: &[u8], p: usize) -> Reached<u32>
     }
 }
 
-/// A number below 2^64, leading zeros allowed (RFC 4551, section 4: mod-sequence-value). It is judged as `number` is.
+/// A number below 2^64, leading zeros allowed (RFC 4551, section 4: mod-sequence-value). No memory.
+///
+/// It is judged as `number` is.
 #[tactic(auto, using(imap_grammar::proofs::Agreement::exact_answered_at))]
 pub fn number_64(m: &[u8], p: usize) -> Reached<u64>
     requires { p ≤ length m.now }

@@ -18,7 +18,9 @@ use imap_grammar::lists::{Separator, tried};
 use std::alloc::Global;
 use std::ops::RangeInclusive;
 
-/// Two numbers with a colon between, their order kept. No memory (RFC 3501, section 9: seq-range).
+/// Two numbers with a colon between, their order kept (RFC 3501, section 9: seq-range). No memory.
+///
+/// A number past 32 bits is `Error`.
 #[tactic(auto, using(imap_grammar::proofs::Agreement::exact_answered_at), unfolding(crate::specs::Sets::sequence_range))]
 pub fn sequence_range(m: &[u8], p: usize) -> Reached<RangeInclusive<u32>>
     requires { p ≤ length m.now }
@@ -43,7 +45,9 @@ fn range_end(m: &[u8], p: usize) -> Reached<u32>
     number(m, p)
 }
 
-/// A range, or a number as the range of it alone. No memory.
+/// A range, or a number n as n..=n (RFC 3501, section 9: sequence-set, without `*`). No memory.
+///
+/// It ends before a colon behind which `number` denies. A number past 32 bits in front is `Error`.
 pub fn sequence_item(m: &[u8], p: usize) -> Reached<RangeInclusive<u32>>
     requires { p ≤ length m.now }
     ensures steps { ExactlyAt (λ x. range_of x) m.now result (step sets.sequence_item (drop p m.now)) }
@@ -57,7 +61,10 @@ pub fn sequence_item(m: &[u8], p: usize) -> Reached<RangeInclusive<u32>>
     }
 }
 
-/// Numbers and ranges, with commas between (RFC 3501, section 9: sequence-set, without `*`). It takes memory for the list.
+/// Numbers and ranges, with commas between (RFC 3501, section 9: sequence-set, without `*`).
+///
+/// It ends before a colon or a comma behind which `number` denies. A number past 32 bits in front is `Error`. It takes
+/// memory for the list.
 pub fn sequence_set(alloc: Global, m: &[u8], p: usize) -> Reached<Vec<RangeInclusive<u32>>>
     requires { p ≤ length m.now }
     ensures steps { GivesAt (λ x. map (λ r. range_of r) x.items) m.now result (step sets.sequence_set (drop p m.now)) }

@@ -15,9 +15,8 @@ use crate::strings::as_utf8;
 use imap_grammar::at::Reached;
 use imap_grammar::at::span::Span;
 use imap_grammar::at::tags::{cut0, cut1, tag, word};
-use imap_grammar::lists::tried;
 use imap_grammar::scanning::{AstringChar, AtomChar, QuotedChar, long_run_end, run_end};
-use imap_grammar::{Err, Needed, first};
+use imap_grammar::{Err, Needed, first, maybe};
 
 #[inline(always)]
 fn plain(m: &[u8], p: usize) -> Reached<Span>
@@ -47,10 +46,7 @@ fn next_part(m: &[u8], p: usize) -> Reached<Option<Span>>
     ensures steps { ExactlyAt (λ x. maybe_in m.now x) m.now result (step (opt strings.quoted_part) (drop p m.now)) }
     ensures ahead { Ahead m.now p result }
 {
-    match tried(quoted_part(m, p))? {
-        Some((q, part)) => Ok((q, Some(part))),
-        None => Ok((p, None)),
-    }
+    maybe!(quoted_part(m, p), p)
 }
 
 #[tactic(auto, unfolding(crate::specs::Strings::quoted_content))]
@@ -75,7 +71,9 @@ fn quoted_content(m: &[u8], p: usize) -> Reached<Span>
     }
 }
 
-/// A quoted string: its raw content, backslashes and all (RFC 3501, section 9: quoted).
+/// A quoted string: its raw content, backslashes and all (RFC 3501, section 9: quoted). No memory.
+///
+/// NUL, CR, LF, or a backslash before another byte than `"` and `\` is `Error`.
 #[tactic(auto, using(imap_grammar::proofs::Agreement::exact_answered_at), unfolding(crate::specs::Strings::quoted))]
 #[inline(always)]
 pub fn quoted(m: &[u8], p: usize) -> Reached<Span>
@@ -121,9 +119,9 @@ fn counted(count: usize, m: &[u8], p: usize) -> Reached<Span>
     Ok((q, Span { start: p, end: q }))
 }
 
-/// A literal: as many bytes as its header says, of any value (RFC 3501, section 9: literal).
+/// A literal: as many bytes as its header says, of any value (RFC 3501, section 9: literal). No memory.
 ///
-/// Where fewer follow, `Needed::Size` is how many are missing.
+/// Where fewer follow, `Needed::Size` is how many are missing. A count above 4,294,967,295 is `Error`.
 #[tactic(auto, using(imap_grammar::proofs::Agreement::exact_answered_at), unfolding(crate::specs::Strings::literal))]
 pub fn literal(m: &[u8], p: usize) -> Reached<Span>
     requires { p ≤ length m.now }
@@ -143,13 +141,10 @@ fn quote_follows(m: &[u8], p: usize) -> bool
     ensures { result ≡ begins (λ b. b == quote) (drop p m.now) }
 {
     let (_, i) = m.split_at(p);
-    match i.first() {
-        Some(c) => *c == b'"',
-        None => false,
-    }
+    matches!(i.first(), Some(b'"'))
 }
 
-/// A string: quoted, or a literal (RFC 3501, section 9: string).
+/// A string: quoted, or a literal (RFC 3501, section 9: string). No memory.
 #[tactic(auto, using(imap_grammar::proofs::Agreement::exact_answered_at), unfolding(crate::specs::Strings::string))]
 #[inline(always)]
 pub fn string(m: &[u8], p: usize) -> Reached<Span>
@@ -166,7 +161,7 @@ pub fn string(m: &[u8], p: usize) -> Reached<Span>
     }
 }
 
-/// At least one astring-char.
+/// At least one astring-char (RFC 3501, section 9: ASTRING-CHAR). No memory.
 pub fn astring_chars(m: &[u8], p: usize) -> Reached<Span>
     requires { p ≤ length m.now }
     ensures steps { ExactlyAt (λ x. named_in m.now x) m.now result (step (run1 classes.is_astring_char) (drop p m.now)) }
@@ -177,7 +172,7 @@ pub fn astring_chars(m: &[u8], p: usize) -> Reached<Span>
     cut1(run_end::<AstringChar>(i), m, p)
 }
 
-/// Bare astring-chars, or a string (RFC 3501, section 9: astring).
+/// Bare astring-chars, or a string (RFC 3501, section 9: astring). No memory.
 #[tactic(auto, using(imap_grammar::proofs::Agreement::exact_answered_at), unfolding(crate::specs::Strings::astring))]
 pub fn astring(m: &[u8], p: usize) -> Reached<Span>
     requires { p ≤ length m.now }
@@ -190,7 +185,7 @@ pub fn astring(m: &[u8], p: usize) -> Reached<Span>
     string(m, p)
 }
 
-/// `NIL` in any case: the three bytes, whatever follows them (RFC 3501, section 9: nil).
+/// `NIL` in any case: the three bytes, whatever follows them (RFC 3501, section 9: nil). No memory.
 #[tactic(auto, using(imap_grammar::proofs::Agreement::exact_answered_at), unfolding(crate::specs::Strings::nil))]
 pub fn nil(m: &[u8], p: usize) -> Reached<Span>
     requires { p ≤ length m.now }
@@ -208,13 +203,10 @@ fn opens_string(m: &[u8], p: usize) -> bool
     ensures { result ≡ begins (λ b. (b == quote) || (b == open_brace)) (drop p m.now) }
 {
     let (_, i) = m.split_at(p);
-    match i.first() {
-        Some(c) => *c == b'"' || *c == b'{',
-        None => false,
-    }
+    matches!(i.first(), Some(b'"' | b'{'))
 }
 
-/// `NIL`, or a string (RFC 3501, section 9: nstring).
+/// `NIL`, or a string (RFC 3501, section 9: nstring). No memory.
 #[tactic(auto, using(imap_grammar::proofs::Agreement::exact_answered_at), unfolding(crate::specs::Strings::nstring))]
 pub fn nstring(m: &[u8], p: usize) -> Reached<Option<Span>>
     requires { p ≤ length m.now }
@@ -233,7 +225,7 @@ pub fn nstring(m: &[u8], p: usize) -> Reached<Option<Span>>
     Ok((q, None))
 }
 
-/// Atom-chars, maybe none.
+/// Atom-chars, maybe none (RFC 3501, section 9: ATOM-CHAR). No memory.
 pub fn atom_chars0(m: &[u8], p: usize) -> Reached<Span>
     requires { p ≤ length m.now }
     ensures steps { ExactlyAt (λ x. named_in m.now x) m.now result (step (run0 classes.is_atom_char) (drop p m.now)) }
@@ -244,7 +236,7 @@ pub fn atom_chars0(m: &[u8], p: usize) -> Reached<Span>
     cut0(run_end::<AtomChar>(i), m, p)
 }
 
-/// At least one atom-char.
+/// At least one atom-char (RFC 3501, section 9: ATOM-CHAR). No memory.
 pub fn atom_chars(m: &[u8], p: usize) -> Reached<Span>
     requires { p ≤ length m.now }
     ensures steps { ExactlyAt (λ x. named_in m.now x) m.now result (step (run1 classes.is_atom_char) (drop p m.now)) }
@@ -265,13 +257,13 @@ pub(crate) fn atom_text(m: &[u8], p: usize) -> Reached<(Span, &str)>
     ensures no_failure { NeverFails result }
 {
     let (q, content) = atom_chars(m, p)?;
-    match as_utf8(content.bytes(m)) {
-        None => Err(Err::Error),
-        Some(text) => Ok((q, (content, text))),
-    }
+    let text = as_utf8(content.bytes(m)).ok_or(Err::Error)?;
+    Ok((q, (content, text)))
 }
 
-/// An atom; bytes that are no UTF-8 are `Error` (RFC 3501, section 9: atom).
+/// An atom (RFC 3501, section 9: atom). No memory.
+///
+/// Bytes that are not UTF-8 are `Error`.
 #[tactic(auto, using(imap_grammar::proofs::Agreement::exact_answered_at))]
 pub fn atom(m: &[u8], p: usize) -> Reached<Span>
     requires { p ≤ length m.now }

@@ -14,7 +14,7 @@ use imap_grammar::at::span::Span;
 use imap_grammar::at::tags::cut0;
 use imap_grammar::scanning::{TextChar, long_run_end};
 
-/// Text-chars, maybe none.
+/// Text-chars, maybe none (RFC 3501, section 9: TEXT-CHAR). No memory.
 pub fn text_chars(m: &[u8], p: usize) -> Reached<Span>
     requires { p ≤ length m.now }
     ensures steps { ExactlyAt (λ x. named_in m.now x) m.now result (step (run0 classes.is_text_char) (drop p m.now)) }
@@ -25,7 +25,7 @@ pub fn text_chars(m: &[u8], p: usize) -> Reached<Span>
     cut0(long_run_end::<TextChar>(i), m, p)
 }
 
-/// Text-chars up to the first other byte, maybe none, as the span of the text (RFC 3501, section 9: text).
+/// Text-chars up to the first other byte, maybe none, as the span of the text (RFC 3501, section 9: text). No memory.
 #[tactic(auto, using(imap_grammar::proofs::Agreement::exact_answered_at), unfolding(crate::specs::Texts::text))]
 pub fn text(m: &[u8], p: usize) -> Reached<Span>
     requires { p ≤ length m.now }
@@ -34,6 +34,5 @@ pub fn text(m: &[u8], p: usize) -> Reached<Span>
     ensures inside { Inside m.now p result }
     ensures no_failure { NeverFails result }
 {
-    let (q, content) = text_chars(m, p)?;
-    Ok((q, content))
+    text_chars(m, p)
 }

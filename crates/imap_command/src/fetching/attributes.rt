@@ -21,8 +21,8 @@ impl FetchCommand<Attributes> {
         Ok(args)
     }
 
-    /// Asks for one more attribute (RFC 3501, section 6.4.5). It takes memory; `Err` where there is
-    /// none.
+    /// Asks for one more attribute (RFC 3501, section 6.4.5). It takes memory; `Err`: memory ran
+    /// out.
     pub fn attr(self, attribute: Attribute) -> Result<FetchCommand<Attributes>, AllocError>
         ensures { IfOk result (λ command. (calls : List Call) → stage calls ≡ attributes
             → self ≡ begun calls → command ≡ begun (call.attr attribute ∷ calls)) }
@@ -34,7 +34,7 @@ impl FetchCommand<Attributes> {
     }
 
     /// Asks only for messages that changed after this mod-sequence (RFC 4551, section 3.3.1). It
-    /// takes memory; `Err` where there is none.
+    /// takes memory; `Err`: memory ran out.
     pub fn changed_since(self, mod_seq: u64) -> Result<FetchCommand<Modifiers>, AllocError>
         ensures { IfOk result (λ command. (calls : List Call) → stage calls ≡ attributes
             → self ≡ begun calls → command ≡ begun (call.changed_since mod_seq ∷ calls)) }
@@ -44,7 +44,7 @@ impl FetchCommand<Attributes> {
         Ok(FetchCommand::with_text(args))
     }
 
-    /// The finished command. It takes memory; `Err` where there is none.
+    /// The finished command. It takes memory; `Err`: memory ran out.
     #[tactic(auto, using(crate::proofs::NextStates::fetches_attributes))]
     pub fn into_command(self) -> Result<Command, AllocError>
         ensures { IfOk result (λ command. (calls : List Call) → stage calls ≡ attributes

@@ -23,19 +23,19 @@ impl FetchCommand<Messages> {
         Ok(args)
     }
 
-    /// Asks for one more message (RFC 3501, section 6.4.5). It takes memory; `Err` where there is
-    /// none.
+    /// Asks for one more message (RFC 3501, section 6.4.5). It takes memory; `Err`: memory ran
+    /// out.
     pub fn num(self, number: u32) -> Result<FetchCommand<Messages>, AllocError>
         ensures { IfOk result (λ command. (calls : List Call) → stage calls ≡ messages
             → self ≡ begun calls → command ≡ begun (call.num number ∷ calls)) }
     {
         let mut args = self.continued()?;
-        push_number(&mut args, number as u64)?;
+        push_number(&mut args, u64::from(number))?;
         Ok(FetchCommand::with_text(args))
     }
 
-    /// Asks for one more range of messages (RFC 3501, section 6.4.5). It takes memory; `Err` where
-    /// there is none.
+    /// Asks for one more range of messages (RFC 3501, section 6.4.5). It takes memory; `Err`: memory
+    /// ran out.
     pub fn range(self, range: RangeInclusive<u32>) -> Result<FetchCommand<Messages>, AllocError>
         ensures { IfOk result (λ command. (calls : List Call) → stage calls ≡ messages
             → self ≡ begun calls → command
@@ -47,7 +47,7 @@ impl FetchCommand<Messages> {
     }
 
     /// Asks also for the messages from a number on (RFC 3501, section 6.4.5). It takes memory;
-    /// `Err` where there is none.
+    /// `Err`: memory ran out.
     pub fn range_from(self, range: RangeFrom<u32>) -> Result<FetchCommand<Messages>, AllocError>
         ensures { IfOk result (λ command. (calls : List Call) → stage calls ≡ messages
             → self ≡ begun calls → command ≡ begun (call.range_from range.start ∷ calls)) }
@@ -58,7 +58,7 @@ impl FetchCommand<Messages> {
     }
 
     /// Asks for a group of attributes of the messages (RFC 3501, section 6.4.5). It takes memory;
-    /// `Err` where there is none.
+    /// `Err`: memory ran out.
     pub fn attr_macro(self, group: AttrMacro) -> Result<FetchCommand<Modifiers>, AllocError>
         ensures { IfOk result (λ command. (calls : List Call) → stage calls ≡ messages
             → self ≡ begun calls → command ≡ begun (call.attr_macro group ∷ calls)) }
@@ -69,8 +69,8 @@ impl FetchCommand<Messages> {
         Ok(FetchCommand::with_text(args))
     }
 
-    /// Asks for an attribute of the messages (RFC 3501, section 6.4.5). It takes memory; `Err`
-    /// where there is none.
+    /// Asks for an attribute of the messages (RFC 3501, section 6.4.5). It takes memory;
+    /// `Err`: memory ran out.
     pub fn attr(self, attribute: Attribute) -> Result<FetchCommand<Attributes>, AllocError>
         ensures { IfOk result (λ command. (calls : List Call) → stage calls ≡ messages
             → self ≡ begun calls → command ≡ begun (call.attr attribute ∷ calls)) }

@@ -12,7 +12,9 @@ use std::alloc::Global;
 
 /// Annotations with their values, at least one: METADATA as a response to GETMETADATA (RFC 5464, section 4.4.1).
 ///
-/// It takes memory for each entry and value.
+/// An entry whose name begins with none of `/private/comment`, `/private/vendor/`, `/shared/comment`, `/shared/vendor/`
+/// and `/shared/admin` is `Error`. It takes memory for the list, for each entry and value, and for a mailbox that is
+/// not UTF-8.
 #[tactic(auto, using(imap_grammar::proofs::Agreement::answered), unfolding(crate::specs::Annotations::metadata_solicited))]
 pub fn metadata_solicited(alloc: Global, i: &[u8]) -> IResult<&[u8], MailboxDatum<'_>>
     ensures steps { Gives (λ x. mailbox_value x) result (step rules.metadata_solicited i.now) }
@@ -25,7 +27,7 @@ pub fn metadata_solicited(alloc: Global, i: &[u8]) -> IResult<&[u8], MailboxDatu
 
 /// Entries that changed, maybe none: METADATA that the server sends by itself (RFC 5464, section 4.4.2).
 ///
-/// It takes memory for the list, and for texts that are no UTF-8.
+/// It takes memory for the list, and for texts that are not UTF-8.
 #[tactic(auto, using(imap_grammar::proofs::Agreement::answered), unfolding(crate::specs::Annotations::metadata_unsolicited))]
 pub fn metadata_unsolicited(alloc: Global, i: &[u8]) -> IResult<&[u8], MailboxDatum<'_>>
     ensures steps { Gives (λ x. mailbox_value x) result (step rules.metadata_unsolicited i.now) }

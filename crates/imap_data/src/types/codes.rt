@@ -20,7 +20,7 @@ pub enum ResponseCode<'a> {
     BadCharset(Option<Vec<CowStr<'a>>>),
     /// `CAPABILITY`
     Capabilities(Vec<Capability<'a>>),
-    /// `HIGHESTMODSEQ` (RFC 4551, section 3.1.1)
+    /// `HIGHESTMODSEQ`: the highest of the messages' modification sequences (RFC 4551, section 3.1.1).
     HighestModSeq(u64),
     /// `PARSE`
     Parse,
@@ -32,11 +32,11 @@ pub enum ResponseCode<'a> {
     ReadWrite,
     /// `TRYCREATE`
     TryCreate,
-    /// `UIDNEXT`
+    /// `UIDNEXT`: the least UID that the next message can have.
     UidNext(u32),
-    /// `UIDVALIDITY`
+    /// `UIDVALIDITY`: while it stays, UIDs stay valid.
     UidValidity(u32),
-    /// `UNSEEN`
+    /// `UNSEEN`: the number of the first message that is not seen.
     Unseen(u32),
     /// `APPENDUID`: a UIDVALIDITY and the UIDs there (RFC 4315, section 3).
     AppendUid(u32, Vec<UidSetMember>),
@@ -44,9 +44,9 @@ pub enum ResponseCode<'a> {
     CopyUid(u32, Vec<UidSetMember>, Vec<UidSetMember>),
     /// `UIDNOTSTICKY` (RFC 4315, section 3)
     UidNotSticky,
-    /// `METADATA LONGENTRIES` (RFC 5464, section 4.2.1)
+    /// `METADATA LONGENTRIES`: the size of the longest value that was over the limit (RFC 5464, section 4.2.1).
     MetadataLongEntries(u64),
-    /// `METADATA MAXSIZE` (RFC 5464, section 4.3)
+    /// `METADATA MAXSIZE`: the size that a value may have at most (RFC 5464, section 4.3).
     MetadataMaxSize(u64),
     /// `METADATA TOOMANY` (RFC 5464, section 4.3)
     MetadataTooMany,
@@ -67,7 +67,8 @@ fn owned_charsets(
 }
 
 impl<'a> ResponseCode<'a> {
-    /// The same code with all texts owned. It takes memory only for lists of texts; `Err` where there is none.
+    /// The same code with all texts owned. It takes memory only for lists of texts and of capabilities, and for the
+    /// borrowed texts in them; `Err`: memory ran out.
     pub fn into_owned(self, alloc: Global) -> Result<ResponseCode<'static>, AllocError>
         ensures { IfOk result (λ c. code_value c ≡ owned_code (code_value self.entry)) }
     {

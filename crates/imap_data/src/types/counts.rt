@@ -9,7 +9,7 @@ pub enum StatusAttribute {
     Messages(u32),
     /// `RECENT`: how many of them are recent.
     Recent(u32),
-    /// `UIDNEXT`: the UID that the next message will have at least.
+    /// `UIDNEXT`: the least UID that the next message can have.
     UidNext(u32),
     /// `UIDVALIDITY`: while it stays, UIDs stay valid.
     UidValidity(u32),

@@ -12,7 +12,7 @@ use imap_items::owned::{owned_text, owned_texts};
 use std::alloc::{AllocError, Global};
 use std::borrow::CowStr;
 
-/// Data of a mailbox (RFC 3501, section 7.2; RFC 5256, section 4; RFC 5464, section 4.4; Gmail's items).
+/// Data of a mailbox (RFC 3501, sections 7.2 and 7.3; RFC 5256, section 4; RFC 5464, section 4.4; Gmail's items).
 #[derive(Debug, Drop, PartialEq, Eq)]
 pub enum MailboxDatum<'a> {
     /// `EXISTS`: how many messages there are.
@@ -69,7 +69,7 @@ fn copied_items(items: &Vec<StatusAttribute>) -> Result<Vec<StatusAttribute>, Al
 }
 
 impl<'a> MailboxDatum<'a> {
-    /// A copy. It takes memory for lists and for owned texts; `Err` where there is none.
+    /// A copy. It takes memory for lists and for owned texts; `Err`: memory ran out.
     pub fn clone(&self) -> Result<Self, AllocError>
         ensures same { IfOk result (λ c. mailbox_value c ≡ mailbox_value self.now) }
         ensures memory { IsNumber (mailbox_value self.now) → IsOk result }
@@ -103,7 +103,8 @@ impl<'a> MailboxDatum<'a> {
         })
     }
 
-    /// The same data with all texts owned. It takes memory; `Err` where there is none.
+    /// The same data with all texts owned. It takes memory for lists of texts and of attributes, and for borrowed
+    /// texts; `Err`: memory ran out.
     pub fn into_owned(self, alloc: Global) -> Result<MailboxDatum<'static>, AllocError>
         ensures { IfOk result (λ d. mailbox_value d ≡ owned_mailbox (mailbox_value self.entry)) }
     {

@@ -52,7 +52,7 @@ pub struct MailboxListData<'a> {
 }
 
 impl<'a> NameAttribute<'a> {
-    /// A copy. It takes memory only for an owned text; `Err` where there is none.
+    /// A copy. It takes memory only for an owned text; `Err`: memory ran out.
     pub fn clone(&self) -> Result<Self, AllocError>
         ensures same { IfOk result (λ c. attribute_value c ≡ attribute_value self.now) }
         ensures memory { IsLentAttribute (attribute_value self.now) → IsOk result }
@@ -73,7 +73,7 @@ impl<'a> NameAttribute<'a> {
         })
     }
 
-    /// The same attribute with its text owned. It takes memory only where that is borrowed; `Err` where there is none.
+    /// The same attribute with its text owned. It takes memory only for a borrowed text; `Err`: memory ran out.
     pub fn into_owned(self, alloc: Global) -> Result<NameAttribute<'static>, AllocError>
         ensures { IfOk result (λ a. attribute_value a ≡ owned_attribute (attribute_value self.entry)) }
     {
@@ -129,7 +129,7 @@ fn owned_attributes(
 }
 
 impl<'a> MailboxListData<'a> {
-    /// A copy. It takes memory for the attributes and for owned texts; `Err` where there is none.
+    /// A copy. It takes memory for the attributes and for owned texts; `Err`: memory ran out.
     pub fn clone(&self) -> Result<Self, AllocError>
         ensures { IfOk result (λ c. list_value c ≡ list_value self.now) }
     {
@@ -140,7 +140,8 @@ impl<'a> MailboxListData<'a> {
         })
     }
 
-    /// The same data with all texts owned. It takes memory; `Err` where there is none.
+    /// The same data with all texts owned. It takes memory for the attributes, and for borrowed texts; `Err`: memory
+    /// ran out.
     pub fn into_owned(self, alloc: Global) -> Result<MailboxListData<'static>, AllocError>
         ensures { IfOk result (λ l. list_value l ≡ owned_list (list_value self.entry)) }
     {

@@ -7,7 +7,7 @@ use std::alloc::{AllocError, Global};
 // How many elements it gets room for, so that a list of a few does not grow.
 const ROOM: usize = 4;
 
-/// A list of one. It takes memory; `Err` where there is none.
+/// A list of one. It takes memory; `Err`: memory ran out.
 pub fn list_of_one<T: Drop>(alloc: Global, first: T) -> Result<Vec<T>, AllocError>
     ensures { IfOk result (λ v. v.items ≡ first ∷ []) }
 {

@@ -18,7 +18,7 @@ use imap_bytes::at::tags::tag;
 use imap_bytes::first;
 use imap_shapes::spans::{Span, SpannedText};
 
-/// An nstring, its bytes as they stand (RFC 3501, section 9: nstring).
+/// An nstring, its bytes as they stand (RFC 3501, section 9: nstring). No memory.
 #[tactic(auto, using(crate::proofs::Naming::bytes_seen), unfolding(crate::specs::Envelopes::byte_string))]
 pub fn byte_string(m: &[u8], p: usize) -> Reached<Option<Span>>
     requires { p ≤ length m.now }
@@ -31,7 +31,7 @@ pub fn byte_string(m: &[u8], p: usize) -> Reached<Option<Span>>
     Ok((q, bytes))
 }
 
-/// The same behind a space.
+/// A space, then an nstring, its bytes as they stand (RFC 3501, section 9: nstring). No memory.
 pub fn spaced_byte_string(m: &[u8], p: usize) -> Reached<Option<Span>>
     requires { p ≤ length m.now }
     ensures steps { ExactlyAt (λ x. maybe_bytes_in m.now x) m.now result (step (spaced envelopes.byte_string) (drop p m.now)) }
@@ -43,7 +43,7 @@ pub fn spaced_byte_string(m: &[u8], p: usize) -> Reached<Option<Span>>
     byte_string(m, p)
 }
 
-/// A string, to be decoded (RFC 3501, section 9: string).
+/// A string, to be decoded (RFC 3501, section 9: string). No memory.
 #[tactic(auto, unfolding(imap_bytes::specs::Texts::string_utf8))]
 pub fn string_text(m: &[u8], p: usize) -> Reached<SpannedText>
     requires { p ≤ length m.now }
@@ -56,7 +56,7 @@ pub fn string_text(m: &[u8], p: usize) -> Reached<SpannedText>
     Ok((q, SpannedText::Part(content)))
 }
 
-/// The same behind a space.
+/// A space, then a string, to be decoded (RFC 3501, section 9: string). No memory.
 pub fn spaced_string_text(m: &[u8], p: usize) -> Reached<SpannedText>
     requires { p ≤ length m.now }
     ensures steps { ExactlyAt (λ x. text_in m.now x) m.now result (step (spaced texts.string_utf8) (drop p m.now)) }
@@ -68,7 +68,7 @@ pub fn spaced_string_text(m: &[u8], p: usize) -> Reached<SpannedText>
     string_text(m, p)
 }
 
-/// An nstring, to be decoded (RFC 3501, section 9: nstring).
+/// An nstring, to be decoded (RFC 3501, section 9: nstring). No memory.
 #[inline(always)]
 #[tactic(auto, unfolding(imap_bytes::specs::Texts::nstring_utf8))]
 pub fn nstring_text(m: &[u8], p: usize) -> Reached<Option<SpannedText>>
@@ -83,7 +83,7 @@ pub fn nstring_text(m: &[u8], p: usize) -> Reached<Option<SpannedText>>
     Ok((q, Some(text)))
 }
 
-/// The same behind a space.
+/// A space, then an nstring, to be decoded (RFC 3501, section 9: nstring). No memory.
 pub fn spaced_nstring_text(m: &[u8], p: usize) -> Reached<Option<SpannedText>>
     requires { p ≤ length m.now }
     ensures steps { ExactlyAt (λ x. maybe_text_in m.now x) m.now result (step (spaced texts.nstring_utf8) (drop p m.now)) }
@@ -95,7 +95,7 @@ pub fn spaced_nstring_text(m: &[u8], p: usize) -> Reached<Option<SpannedText>>
     nstring_text(m, p)
 }
 
-/// A number behind a space (RFC 3501, section 9: number).
+/// A space, then a number (RFC 3501, section 9: number). No memory.
 pub fn spaced_number(m: &[u8], p: usize) -> Reached<u32>
     requires { p ≤ length m.now }
     ensures steps { ExactlyAt (λ x. x) m.now result (step (spaced numbers.number) (drop p m.now)) }

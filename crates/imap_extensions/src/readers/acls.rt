@@ -38,7 +38,7 @@ fn acl_entries(alloc: Global, i: &[u8]) -> IResult<&[u8], Vec<AclEntry<'_>>>
 
 /// The rights of each identifier on a mailbox, maybe of none (RFC 4314, section 7: acl-data).
 ///
-/// It takes memory for them, and for texts that are no UTF-8.
+/// It takes memory for them, and for texts that are not UTF-8.
 #[tactic(auto, using(imap_grammar::proofs::Agreement::answered), unfolding(crate::specs::Acls::acl))]
 pub fn acl(alloc: Global, i: &[u8]) -> IResult<&[u8], Acl<'_>>
     ensures steps { Gives (λ x. acl_value x) result (step rules.acl i.now) }
@@ -103,9 +103,10 @@ fn list_rights_parts(alloc: Global, i: &[u8]) -> IResult<&[u8], ListRights<'_>>
     ))
 }
 
-/// The rights that an identifier always has on a mailbox, and those that it may be granted, in order (RFC 4314, section 7: listrights-data).
+/// The rights that an identifier always has on a mailbox, and those that it may be granted, in order
+/// (RFC 4314, section 7: listrights-data).
 ///
-/// It takes memory for them, and for texts that are no UTF-8.
+/// It takes memory for them, and for texts that are not UTF-8.
 #[tactic(auto, using(imap_grammar::proofs::Agreement::answered))]
 pub fn list_rights(alloc: Global, i: &[u8]) -> IResult<&[u8], ListRights<'_>>
     ensures steps { Gives (λ x. list_rights_value x) result (step rules.list_rights i.now) }
@@ -128,7 +129,7 @@ fn my_rights_parts(alloc: Global, i: &[u8]) -> IResult<&[u8], MyRights<'_>>
 
 /// The client's own rights on a mailbox (RFC 4314, section 7: myrights-data).
 ///
-/// It takes memory for them, and for a mailbox that is no UTF-8.
+/// It takes memory for them, and for texts that are not UTF-8.
 #[tactic(auto, using(imap_grammar::proofs::Agreement::answered))]
 pub fn my_rights(alloc: Global, i: &[u8]) -> IResult<&[u8], MyRights<'_>>
     ensures steps { Gives (λ x. my_rights_value x) result (step rules.my_rights i.now) }

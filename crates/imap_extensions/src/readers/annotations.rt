@@ -142,7 +142,7 @@ fn entry_utf8(alloc: Global, i: &[u8]) -> IResult<&[u8], CowStr<'_>>
     Ok((rest, decode(alloc, name)?))
 }
 
-fn owned_text(alloc: Global, text: CowStr<'_>) -> Result<String, AllocError>
+fn owned_string(alloc: Global, text: CowStr<'_>) -> Result<String, AllocError>
     ensures { IfOk result (λ s. string_bytes s ≡ rules.bytes_in (text_of text.entry)) }
 {
     text.into_owned(alloc)
@@ -153,7 +153,7 @@ fn owned_value(alloc: Global, value: Option<CowStr<'_>>) -> Result<Option<String
 {
     match value {
         None => Ok(None),
-        Some(text) => Ok(Some(owned_text(alloc, text)?)),
+        Some(text) => Ok(Some(owned_string(alloc, text)?)),
     }
 }
 
@@ -165,7 +165,7 @@ fn annotation(alloc: Global, i: &[u8]) -> IResult<&[u8], Metadata>
     let (rest, entry) = entry_utf8(alloc, i)?;
     let (rest, _) = tag(b" ", rest)?;
     let (rest, value) = nstring_utf8(alloc, rest)?;
-    let entry = owned_text(alloc, entry)?;
+    let entry = owned_string(alloc, entry)?;
     let value = owned_value(alloc, value)?;
     Ok((rest, Metadata { entry, value }))
 }
@@ -180,9 +180,10 @@ fn metadata_mailbox_parts(alloc: Global, i: &[u8]) -> IResult<&[u8], CowStr<'_>>
     Ok((rest, mailbox))
 }
 
-/// `METADATA`, the mailbox in quotes, empty for the server, and a space: what stands before annotations or entries (RFC 5464, section 5: metadata-resp).
+/// `METADATA`, the mailbox in quotes, empty for the server, and a space: what stands before annotations or entries
+/// (RFC 5464, section 5: metadata-resp).
 ///
-/// It takes memory only where the mailbox is no UTF-8.
+/// It takes memory only where the mailbox is not UTF-8.
 #[tactic(auto, using(imap_grammar::proofs::Agreement::answered))]
 pub fn metadata_mailbox(alloc: Global, i: &[u8]) -> IResult<&[u8], CowStr<'_>>
     ensures steps { Gives (λ x. text_of x) result (step rules.metadata_mailbox i.now) }
@@ -193,8 +194,11 @@ pub fn metadata_mailbox(alloc: Global, i: &[u8]) -> IResult<&[u8], CowStr<'_>>
 
 /// Annotations with their values in parentheses, at least one (RFC 5464, section 5: entry-values).
 ///
-/// A name that begins with none of `/private/comment`, `/private/vendor/`, `/shared/comment`, `/shared/vendor/` and
-/// `/shared/admin` is `Error`. It takes memory for the list, and for each entry and value.
+/// A name is `/private/comment`, `/shared/comment` or `/shared/admin`, and after it nothing, a path, or a space or CR
+/// and anything; or it is `/private/vendor` or `/shared/vendor`, and a path whose first component is not empty. A path
+/// is `/` and bytes from 26 to 127 without `*` and `%`, and may end with a CR and anything. Any other name is `Error`.
+///
+/// It takes memory for the list, and for each entry and value.
 pub fn annotations(alloc: Global, i: &[u8]) -> IResult<&[u8], Vec<Metadata>>
     ensures steps { Gives (λ x. map metadata_value x.items) result (step rules.annotations i.now) }
     ensures answer { Answers rules.annotations (λ x. map metadata_value x.items) i.now result }
@@ -207,7 +211,8 @@ pub fn annotations(alloc: Global, i: &[u8]) -> IResult<&[u8], Vec<Metadata>>
 
 /// Names of entries, a space between, maybe none (RFC 5464, section 5: entry-list).
 ///
-/// It ends before a name that `annotations` denies. It takes memory for the list, and for texts that are no UTF-8.
+/// It ends before a name that `annotations` denies, and before the space in front of that name. It takes memory for the
+/// list, and for texts that are not UTF-8.
 pub fn entries(alloc: Global, i: &[u8]) -> IResult<&[u8], Vec<CowStr<'_>>>
     ensures steps { Gives (λ x. map text_of x.items) result (step rules.entries i.now) }
     ensures answer { Answers rules.entries (λ x. map text_of x.items) i.now result }

@@ -114,7 +114,7 @@ fn id_params(alloc: Global, i: &[u8]) -> IResult<&[u8], Option<IdMap<'_>>>
 /// `ID`, and fields with their values, or `NIL` (RFC 2971, section 4: id_response).
 ///
 /// A field whose value is `NIL` is left out, and of equal fields the last counts. `NIL` in place of the list is `None`.
-/// It takes memory for the map, and for texts that are no UTF-8; for `NIL` none.
+/// It takes memory for the map, and for texts that are not UTF-8; for `NIL` none.
 #[tactic(auto, using(imap_grammar::proofs::Agreement::answered), unfolding(crate::specs::Ids::id))]
 pub fn id(alloc: Global, i: &[u8]) -> IResult<&[u8], Option<IdMap<'_>>>
     ensures steps { Gives (option_map id_value) result (step ids.id i.now) }

@@ -75,7 +75,7 @@ fn quota_parts(alloc: Global, i: &[u8]) -> IResult<&[u8], Quota<'_>>
 
 /// `QUOTA`, a quota root, and its resources, maybe none (RFC 2087, section 6: quota_response).
 ///
-/// A usage or limit past 64 bits is `Error`. It takes memory for the resources, and for texts that are no UTF-8.
+/// A usage or limit past 64 bits is `Error`. It takes memory for the resources, and for texts that are not UTF-8.
 #[tactic(auto, using(imap_grammar::proofs::Agreement::answered))]
 pub fn quota(alloc: Global, i: &[u8]) -> IResult<&[u8], Quota<'_>>
     ensures steps { Gives (λ x. quota_value x) result (step quotas.quota i.now) }
@@ -120,7 +120,7 @@ fn quota_root_parts(alloc: Global, i: &[u8]) -> IResult<&[u8], QuotaRoot<'_>>
 
 /// `QUOTAROOT`, a mailbox, and its quota roots, maybe none (RFC 2087, section 6: quotaroot_response).
 ///
-/// It takes memory for the roots, and for texts that are no UTF-8.
+/// It takes memory for the roots, and for texts that are not UTF-8.
 #[tactic(auto, using(imap_grammar::proofs::Agreement::answered))]
 pub fn quota_root(alloc: Global, i: &[u8]) -> IResult<&[u8], QuotaRoot<'_>>
     ensures steps { Gives (λ x. quota_root_value x) result (step quotas.quota_root i.now) }

@@ -14,7 +14,7 @@ use std::borrow::CowStr;
 pub struct AclEntry<'a> {
     /// Whose rights these are, raw: backslashes of a quoted string stay. A `-` before a name denies them.
     pub identifier: CowStr<'a>,
-    /// The rights, in the order of their letters.
+    /// The rights, in the order in which their letters stand.
     pub rights: Vec<AclRight>,
 }
 
@@ -48,12 +48,12 @@ pub struct MyRights<'a> {
     /// The mailbox's name, raw: backslashes of a quoted string stay, and modified UTF-7 isn't decoded. INBOX in any case is
     /// `INBOX`.
     pub mailbox: CowStr<'a>,
-    /// The rights, in the order of their letters.
+    /// The rights, in the order in which their letters stand.
     pub rights: Vec<AclRight>,
 }
 
 impl<'a> AclEntry<'a> {
-    /// The same entry with its text owned. It takes memory only where that is borrowed; `Err` where there is none.
+    /// The same entry with its text owned. It takes memory only where that is borrowed; `Err`: memory ran out.
     pub fn into_owned(self, alloc: Global) -> Result<AclEntry<'static>, AllocError>
         ensures { IfOk result (λ entry. acl_entry_value entry ≡ owned_acl_entry (acl_entry_value self.entry)) }
     {
@@ -79,7 +79,7 @@ fn owned_entries(
 }
 
 impl<'a> Acl<'a> {
-    /// The same list with all texts owned. It takes memory; `Err` where there is none.
+    /// The same list with all texts owned. It takes memory for the list, and for borrowed texts; `Err`: memory ran out.
     pub fn into_owned(self, alloc: Global) -> Result<Acl<'static>, AllocError>
         ensures { IfOk result (λ acl. acl_value acl ≡ owned_acl (acl_value self.entry)) }
     {
@@ -91,7 +91,7 @@ impl<'a> Acl<'a> {
 }
 
 impl<'a> ListRights<'a> {
-    /// The same rights with all texts owned. It takes memory only for borrowed texts; `Err` where there is none.
+    /// The same rights with all texts owned. It takes memory only for borrowed texts; `Err`: memory ran out.
     pub fn into_owned(self, alloc: Global) -> Result<ListRights<'static>, AllocError>
         ensures { IfOk result (λ rights. list_rights_value rights ≡ owned_list_rights (list_rights_value self.entry)) }
     {
@@ -105,7 +105,8 @@ impl<'a> ListRights<'a> {
 }
 
 impl<'a> MyRights<'a> {
-    /// The same rights with the mailbox's name owned. It takes memory only where that is borrowed; `Err` where there is none.
+    /// The same rights with the mailbox's name owned. It takes memory only where that is borrowed; `Err`: memory ran
+    /// out.
     pub fn into_owned(self, alloc: Global) -> Result<MyRights<'static>, AllocError>
         ensures { IfOk result (λ rights. my_rights_value rights ≡ owned_my_rights (my_rights_value self.entry)) }
     {

@@ -17,7 +17,7 @@ pub struct Metadata {
 }
 
 impl Metadata {
-    /// A copy. It takes memory for the texts; `Err` where there is none.
+    /// A copy. It takes memory for the texts; `Err`: memory ran out.
     pub fn clone(&self) -> Result<Self, AllocError>
         ensures { IfOk result (λ c. metadata_value c ≡ metadata_value self.now) }
     {
@@ -37,7 +37,7 @@ fn copied_value(value: &Option<String>) -> Result<Option<String>, AllocError>
     })
 }
 
-/// The same annotations. It takes memory for the list and for the texts; `Err` where there is none.
+/// The same annotations. It takes memory for the list and for the texts; `Err`: memory ran out.
 pub fn copied_annotations(annotations: &Vec<Metadata>) -> Result<Vec<Metadata>, AllocError>
     ensures { IfOk result (λ v. map metadata_value v.items ≡ map metadata_value annotations.now.items) }
 {

@@ -41,7 +41,8 @@ fn put_owned(
     put(map, key, value)
 }
 
-/// The same map with all texts owned, its keys too. It takes memory; `Err` where there is none.
+/// The same map with all texts owned, its keys too. It takes memory for the map, and for borrowed texts; `Err`: memory
+/// ran out.
 pub fn owned_id_map(alloc: Global, map: IdMap<'_>) -> Result<IdMap<'static>, AllocError>
     ensures { IfOk result (λ m. id_value m ≡ owned_id (id_value map.entry)) }
 {

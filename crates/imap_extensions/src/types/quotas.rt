@@ -16,7 +16,7 @@ pub enum QuotaResourceName<'a> {
     Storage,
     /// `MESSAGE`: how many messages there are.
     Message,
-    /// Any other, raw.
+    /// Any other, raw; and any name in quotes or as a literal, `STORAGE` too.
     Atom(CowStr<'a>),
 }
 
@@ -50,7 +50,7 @@ pub struct QuotaRoot<'a> {
 }
 
 impl<'a> QuotaResourceName<'a> {
-    /// The same name. It takes memory only for an owned text; `Err` where there is none.
+    /// The same name. It takes memory only for an owned text; `Err`: memory ran out.
     pub fn clone(&self) -> Result<Self, AllocError>
         ensures same { IfOk result (λ copy. quota_resource_name_value copy ≡ quota_resource_name_value self.now) }
         ensures memory { IsLentName (quota_resource_name_value self.now) → IsOk result }
@@ -62,7 +62,7 @@ impl<'a> QuotaResourceName<'a> {
         })
     }
 
-    /// The same name with its text owned. It takes memory only where that is borrowed; `Err` where there is none.
+    /// The same name with its text owned. It takes memory only where that is borrowed; `Err`: memory ran out.
     pub fn into_owned(self, alloc: Global) -> Result<QuotaResourceName<'static>, AllocError>
         ensures { IfOk result (λ name. quota_resource_name_value name ≡ owned_quota_resource_name (quota_resource_name_value self.entry)) }
     {
@@ -75,7 +75,7 @@ impl<'a> QuotaResourceName<'a> {
 }
 
 impl<'a> QuotaResource<'a> {
-    /// The same resource. It takes memory only for an owned text; `Err` where there is none.
+    /// The same resource. It takes memory only for an owned text; `Err`: memory ran out.
     pub fn clone(&self) -> Result<Self, AllocError>
         ensures same { IfOk result (λ copy. quota_resource_value copy ≡ quota_resource_value self.now) }
         ensures memory { IsLentName (quota_resource_name_value self.now.name) → IsOk result }
@@ -87,7 +87,7 @@ impl<'a> QuotaResource<'a> {
         })
     }
 
-    /// The same resource with its text owned. It takes memory only where that is borrowed; `Err` where there is none.
+    /// The same resource with its text owned. It takes memory only where that is borrowed; `Err`: memory ran out.
     pub fn into_owned(self, alloc: Global) -> Result<QuotaResource<'static>, AllocError>
         ensures { IfOk result (λ resource. quota_resource_value resource ≡ owned_quota_resource (quota_resource_value self.entry)) }
     {
@@ -126,7 +126,7 @@ fn owned_resources(
 }
 
 impl<'a> Quota<'a> {
-    /// The same quota. It takes memory for the resources, and for owned texts; `Err` where there is none.
+    /// The same quota. It takes memory for the resources, and for owned texts; `Err`: memory ran out.
     pub fn clone(&self) -> Result<Self, AllocError>
         ensures { IfOk result (λ copy. quota_value copy ≡ quota_value self.now) }
     {
@@ -136,7 +136,8 @@ impl<'a> Quota<'a> {
         })
     }
 
-    /// The same quota with all texts owned. It takes memory; `Err` where there is none.
+    /// The same quota with all texts owned. It takes memory for the resources, and for borrowed texts; `Err`: memory
+    /// ran out.
     pub fn into_owned(self, alloc: Global) -> Result<Quota<'static>, AllocError>
         ensures { IfOk result (λ quota. quota_value quota ≡ owned_quota (quota_value self.entry)) }
     {
@@ -148,7 +149,7 @@ impl<'a> Quota<'a> {
 }
 
 impl<'a> QuotaRoot<'a> {
-    /// The same roots. It takes memory for the list of them, and for owned texts; `Err` where there is none.
+    /// The same roots. It takes memory for the list of them, and for owned texts; `Err`: memory ran out.
     pub fn clone(&self) -> Result<Self, AllocError>
         ensures { IfOk result (λ copy. quota_root_value copy ≡ quota_root_value self.now) }
     {
@@ -158,7 +159,8 @@ impl<'a> QuotaRoot<'a> {
         })
     }
 
-    /// The same roots with all texts owned. It takes memory; `Err` where there is none.
+    /// The same roots with all texts owned. It takes memory for the list of them, and for borrowed texts; `Err`: memory
+    /// ran out.
     pub fn into_owned(self, alloc: Global) -> Result<QuotaRoot<'static>, AllocError>
         ensures { IfOk result (λ root. quota_root_value root ≡ owned_quota_root (quota_root_value self.entry)) }
     {

@@ -108,7 +108,7 @@ pub fn separated<O: Drop, F: Fn(usize) -> Reached<O>>(
     Ok((q, items))
 }
 
-/// What f reads, with separators between, maybe not once.
+/// What f reads, zero or more times, with a separator between.
 ///
 /// It ends as `separated` does. f has to consume at least a byte. Its `Incomplete` and `Failure` go through.
 /// It takes memory for the list.
@@ -131,7 +131,7 @@ pub fn maybe_separated<O: Drop, F: Fn(usize) -> Reached<O>>(
     }
 }
 
-/// A list in parentheses: what f reads, with one space between, maybe none, and maybe a space before the `)`.
+/// A list in parentheses of zero or more: what f reads, with one space between, and maybe a space before the `)`.
 ///
 /// f has to consume at least a byte. Its `Incomplete` and `Failure` go through. It takes memory for the list.
 pub fn parenthesized_list<O: Drop, F: Fn(usize) -> Reached<O>>(
@@ -153,7 +153,10 @@ pub fn parenthesized_list<O: Drop, F: Fn(usize) -> Reached<O>>(
     Ok((p, items))
 }
 
-/// The same of at least one element, with spaces and tabs before the `)`. It takes memory for the list.
+/// A list in parentheses of one or more: what f reads, with one space between, and maybe spaces and tabs before the
+/// `)`.
+///
+/// f has to consume at least a byte. Its `Incomplete` and `Failure` go through. It takes memory for the list.
 pub fn parenthesized_nonempty_list<O: Drop, F: Fn(usize) -> Reached<O>>(
     alloc: Global,
     f: F,

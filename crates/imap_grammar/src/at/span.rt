@@ -24,7 +24,7 @@ pub struct Span {
 }
 
 impl Span {
-    /// The bytes that it names in m. Its start is at most its end, and its end at most m's length.
+    /// The bytes that it names in m. Its start must be at most its end, and its end at most m's length. No memory.
     pub fn bytes<'a>(&self, m: &'a [u8]) -> &'a [u8]
         requires ordered { self.now.start ≤ self.now.end }
         requires within { self.now.end ≤ length m.now }
@@ -35,7 +35,7 @@ impl Span {
         content
     }
 
-    /// The same bytes of any message, as far as it has them.
+    /// The bytes that it names in m, as far as m has them: any span and any m will do. No memory.
     #[tactic(auto, using(crate::proofs::Positions::as_far))]
     pub fn part<'a>(&self, m: &'a [u8]) -> &'a [u8]
         ensures { result.now ≡ named_in m.now self.now }
@@ -45,10 +45,11 @@ impl Span {
         content
     }
 
-    /// The text of the bytes that it names: borrowed from m where they are UTF-8, and else with one U+FFFD for each ill-formed part.
+    /// The text of the bytes that it names: borrowed from m where they are UTF-8, and else with one U+FFFD for each
+    /// ill-formed part.
     ///
-    /// Its start is at most its end, and its end at most m's length. It takes memory only for bytes that are no UTF-8; `Err`
-    /// where there is none.
+    /// Its start must be at most its end, and its end at most m's length. It takes memory only for bytes that are not
+    /// UTF-8; `Err`: memory ran out.
     pub fn text<'a>(&self, alloc: Global, m: &'a [u8]) -> Result<CowStr<'a>, AllocError>
         requires ordered { self.now.start ≤ self.now.end }
         requires within { self.now.end ≤ length m.now }
@@ -59,7 +60,7 @@ impl Span {
     }
 }
 
-/// What is left of m from a position on, which is at most m's length.
+/// What is left of m from p on. p must be at most m's length. No memory.
 pub fn rest(m: &[u8], p: usize) -> &[u8]
     requires { p ≤ length m.now }
     ensures { result.now ≡ drop p m.now }
@@ -68,7 +69,10 @@ pub fn rest(m: &[u8], p: usize) -> &[u8]
     rest
 }
 
-/// What was reached from the start of m, as slices of it.
+/// What was reached from the start of m, as slices of it: the rest, and the bytes of the span. No memory.
+///
+/// The span's start must be at most its end, its end at most the position that was reached, and that at most m's
+/// length.
 pub fn sliced(m: &[u8], reached: Reached<Span>) -> IResult<&[u8], &[u8]>
     requires { Inside m.now 0 reached }
     ensures steps { (s : Step (List ℕ)) → ExactlyAt (λ x. named_in m.now x) m.now reached s → Exactly (λ x. x.now) result s }

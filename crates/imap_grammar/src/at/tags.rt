@@ -38,7 +38,7 @@ fn agrees_in_any_case(word: &[u8], i: &[u8]) -> bool
     word.iter().zip(i).all(|(a, b)| is_same_letter(*a, *b))
 }
 
-/// Exactly these bytes.
+/// Exactly these bytes. No memory.
 #[tactic(auto, using(crate::proofs::Positions::stepped, crate::proofs::Positions::zip_cut), unfolding(crate::specs::Step::tag_step))]
 #[inline(always)]
 pub fn tag(text: &[u8], m: &[u8], p: usize) -> Reached<Span>
@@ -62,7 +62,7 @@ pub fn tag(text: &[u8], m: &[u8], p: usize) -> Reached<Span>
     Ok((q, Span { start: p, end: q }))
 }
 
-/// These bytes, ASCII letters in either case.
+/// These bytes, ASCII letters in either case. No memory.
 #[tactic(auto, using(crate::proofs::Positions::stepped, crate::proofs::Positions::zip_cut), unfolding(crate::specs::Step::tag_step))]
 pub fn word(text: &[u8], m: &[u8], p: usize) -> Reached<Span>
     requires { p ≤ length m.now }
@@ -85,7 +85,7 @@ pub fn word(text: &[u8], m: &[u8], p: usize) -> Reached<Span>
     Ok((q, Span { start: p, end: q }))
 }
 
-/// A space, or nothing.
+/// A space, or nothing. No memory.
 pub fn maybe_space(m: &[u8], p: usize) -> Reached<Option<Span>>
     requires { p ≤ length m.now }
     ensures steps { ExactlyAt (λ x. maybe_in m.now x) m.now result (step tags.maybe_space (drop p m.now)) }
@@ -96,8 +96,9 @@ pub fn maybe_space(m: &[u8], p: usize) -> Reached<Option<Span>>
     maybe!(tag(b" ", m, p), p)
 }
 
-/// The bytes before the first that is outside a class, where that one stands `end` behind p. `None` is `Incomplete`: it isn't
-/// there yet.
+/// The run of a class from p on: `end` bytes, up to where the first byte outside the class stands. No memory.
+///
+/// `None`: no such byte is there yet, so the answer is `Incomplete`.
 #[tactic(auto, using(crate::proofs::Positions::stepped), unfolding(crate::specs::Step::run0_step))]
 pub fn cut0(end: Option<usize>, m: &[u8], p: usize) -> Reached<Span>
     requires { ForSome end (λ n. p + n < length m.now) }
@@ -114,7 +115,10 @@ pub fn cut0(end: Option<usize>, m: &[u8], p: usize) -> Reached<Span>
     }
 }
 
-/// The same, of at least one byte: an `end` of 0 is `Error`, and `None` is `Incomplete`.
+/// The run of a class from p on, at least one byte: `end` bytes, up to where the first byte outside the class stands.
+/// No memory.
+///
+/// An `end` of 0 is `Error`. `None`: no such byte is there yet, so the answer is `Incomplete`.
 pub fn cut1(end: Option<usize>, m: &[u8], p: usize) -> Reached<Span>
     requires { ForSome end (λ n. p + n < length m.now) }
     ensures steps { (class : ℕ → Bool) → end ≡ position (outside class) (drop p m.now) → ExactlyAt (λ x. named_in m.now x) m.now result (step (run1 class) (drop p m.now)) }
@@ -123,10 +127,8 @@ pub fn cut1(end: Option<usize>, m: &[u8], p: usize) -> Reached<Span>
 {
     match end {
         None => Err(Err::Incomplete(Needed::Unknown)),
+        Some(0) => Err(Err::Error),
         Some(n) => {
-            if n == 0 {
-                return Err(Err::Error);
-            }
             let q = p + n;
             Ok((q, Span { start: p, end: q }))
         }
@@ -140,7 +142,7 @@ fn blanks_end(i: &[u8]) -> Option<usize>
     i.iter().position(|c| !is_blank(*c))
 }
 
-/// Spaces and tabs, maybe none.
+/// Spaces and tabs, maybe none. No memory.
 pub fn blanks0(m: &[u8], p: usize) -> Reached<Span>
     requires { p ≤ length m.now }
     ensures steps { ExactlyAt (λ x. named_in m.now x) m.now result (step tags.blanks0 (drop p m.now)) }
@@ -151,7 +153,7 @@ pub fn blanks0(m: &[u8], p: usize) -> Reached<Span>
     cut0(blanks_end(i), m, p)
 }
 
-/// Spaces and tabs, at least one.
+/// Spaces and tabs, at least one. No memory.
 pub fn blanks1(m: &[u8], p: usize) -> Reached<Span>
     requires { p ≤ length m.now }
     ensures steps { ExactlyAt (λ x. named_in m.now x) m.now result (step tags.blanks1 (drop p m.now)) }

@@ -108,7 +108,7 @@ fn flag_text(m: &[u8], p: usize) -> Reached<Span>
 
 /// Flags in parentheses, maybe none, each as the span of its text, which is UTF-8 (RFC 3501, section 9: flag-list).
 ///
-/// It takes memory for the list, and for no text. Bytes that are no UTF-8 are `Error`.
+/// It takes memory for the list, and for no text. Bytes that are not UTF-8 are `Error`.
 pub fn flag_list(alloc: Global, m: &[u8], p: usize) -> Reached<Vec<Span>>
     requires { p ≤ length m.now }
     ensures steps { GivesAt (λ x. map (text_in m.now) x.items) m.now result (step flags.flag_list (drop p m.now)) }

@@ -30,8 +30,7 @@ fn quoted_label(m: &[u8], p: usize) -> Reached<Span>
     ensures steps { ExactlyAt (λ x. text_in m.now x) m.now result (step texts.quoted_utf8 (drop p m.now)) }
     ensures inside { Inside m.now p result }
 {
-    let (q, content) = quoted(m, p)?;
-    Ok((q, content))
+    quoted(m, p)
 }
 
 // A label: a flag, or a quoted string.
@@ -43,8 +42,7 @@ pub(crate) fn gmail_label(m: &[u8], p: usize) -> Reached<Span>
     ensures rests { RestsOn text_in result }
 {
     first!(flag_label(m, p));
-    let (q, label) = quoted_label(m, p)?;
-    Ok((q, label))
+    quoted_label(m, p)
 }
 
 fn gmail_labels(alloc: Global, m: &[u8], p: usize) -> Reached<Vec<Span>>
@@ -72,8 +70,7 @@ fn labels(alloc: Global, m: &[u8], p: usize) -> Reached<Vec<Span>>
     ensures rests { RestsOn (λ n x. map (text_in n) x.items) result }
 {
     let (p, _) = word(b"X-GM-LABELS ", m, p)?;
-    let (p, labels) = gmail_labels(alloc, m, p)?;
-    Ok((p, labels))
+    gmail_labels(alloc, m, p)
 }
 
 /// `X-GM-LABELS` and the labels of a message in parentheses, maybe none, each as the span of a flag's text or of a quoted string's raw content (Gmail's X-GM-EXT-1).

@@ -70,16 +70,10 @@ fn spaced_names(alloc: Global, i: &[u8]) -> IResult<&[u8], Vec<Capability<'_>>>
     repeated(alloc, spaced_name, i)
 }
 
-fn is_revision(capability: &Capability<'_>) -> bool
-    ensures { result ≡ capabilities.is_revision (capability_value capability.now) }
-{
-    matches!(capability, Capability::Imap4rev1)
-}
-
 fn has_revision(items: &[Capability<'_>]) -> bool
     ensures { result ≡ list_any (λ c. capabilities.is_revision (capability_value c)) items.now }
 {
-    items.iter().any(|c| is_revision(c))
+    items.iter().any(|c| matches!(c, Capability::Imap4rev1))
 }
 
 #[tactic(auto, unfolding(crate::specs::Capabilities::capability_data))]
@@ -97,7 +91,7 @@ fn with_revision(alloc: Global, i: &[u8]) -> IResult<&[u8], Vec<Capability<'_>>>
 
 /// `CAPABILITY` and capabilities (RFC 3501, section 9: capability-data).
 ///
-/// They are `Error` where none is `IMAP4rev1`. It takes memory for the list, and only behind that word.
+/// They are `Error` where none is `IMAP4rev1`. It takes memory for the list, and only behind `CAPABILITY`.
 #[tactic(auto, using(imap_grammar::proofs::Agreement::answered))]
 pub fn capability_data(alloc: Global, i: &[u8]) -> IResult<&[u8], Vec<Capability<'_>>>
     ensures steps { Gives (λ x. map capability_value x.items) result (step capabilities.capability_data i.now) }

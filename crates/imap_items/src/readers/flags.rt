@@ -15,7 +15,7 @@ use std::borrow::CowStr;
 
 /// A backslash and atom-chars, maybe none, as text (RFC 3501, section 9: flag-extension). No memory.
 ///
-/// Bytes that are no UTF-8 are `Error`.
+/// Bytes that are not UTF-8 are `Error`.
 #[tactic(auto, using(imap_grammar::proofs::Agreement::exact_answered))]
 pub fn backslashed_text(i: &[u8]) -> IResult<&[u8], &str>
     ensures steps { Exactly (λ x. x.now) result (step flags.backslashed_text i.now) }
@@ -26,9 +26,10 @@ pub fn backslashed_text(i: &[u8]) -> IResult<&[u8], &str>
     Ok((rest(i, q), text))
 }
 
-/// A flag: a backslash and atom-chars, or astring-chars (RFC 3501, section 9: flag, with the crate's leniences). No memory.
+/// A flag: a backslash and atom-chars, or astring-chars (RFC 3501, section 9: flag). No memory.
 ///
-/// Bytes that are no UTF-8 are `Error`.
+/// It is read as the Rust crate reads it: astring-chars may have `]`, and after the backslash there may be nothing.
+/// Bytes that are not UTF-8 are `Error`.
 #[tactic(auto, using(imap_grammar::proofs::Agreement::exact_answered))]
 pub fn flag(i: &[u8]) -> IResult<&[u8], &str>
     ensures steps { Exactly (λ x. x.now) result (step flags.flag i.now) }
@@ -41,7 +42,7 @@ pub fn flag(i: &[u8]) -> IResult<&[u8], &str>
 
 /// `\*`, or a flag (RFC 3501, section 9: flag-perm). No memory.
 ///
-/// Bytes that are no UTF-8 are `Error`.
+/// Bytes that are not UTF-8 are `Error`.
 #[tactic(auto, using(imap_grammar::proofs::Agreement::exact_answered))]
 #[inline(always)]
 pub fn flag_perm(i: &[u8]) -> IResult<&[u8], &str>
@@ -53,9 +54,9 @@ pub fn flag_perm(i: &[u8]) -> IResult<&[u8], &str>
     Ok((rest(i, q), text))
 }
 
-/// A flag of a list, as text that lies in the input. No memory.
+/// A flag of a list, as text that lies in the input (RFC 3501, section 9: flag-perm). No memory.
 ///
-/// Bytes that are no UTF-8 are `Error`.
+/// Bytes that are not UTF-8 are `Error`.
 #[tactic(auto, using(imap_grammar::proofs::Agreement::exact_answered), unfolding(crate::specs::Flags::flag_text))]
 #[inline(always)]
 pub fn flag_text(i: &[u8]) -> IResult<&[u8], CowStr<'_>>
@@ -69,7 +70,7 @@ pub fn flag_text(i: &[u8]) -> IResult<&[u8], CowStr<'_>>
 
 /// Flags in parentheses, maybe none (RFC 3501, section 9: flag-list).
 ///
-/// It takes memory for the list, and for no text. Bytes that are no UTF-8 are `Error`.
+/// It takes memory for the list, and for no text. Bytes that are not UTF-8 are `Error`.
 pub fn flag_list(alloc: Global, i: &[u8]) -> IResult<&[u8], Vec<CowStr<'_>>>
     ensures steps { Gives (λ x. map text_of x.items) result (step flags.flag_list i.now) }
     ensures answer { Answers flags.flag_list (λ x. map text_of x.items) i.now result }

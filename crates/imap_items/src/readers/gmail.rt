@@ -38,13 +38,12 @@ fn labels(alloc: Global, i: &[u8]) -> IResult<&[u8], Vec<CowStr<'_>>>
     ensures memory { FailsOnlyIf (BeginsWord "X-GM-LABELS " i.now) result }
 {
     let (rest, _) = word(b"X-GM-LABELS ", i)?;
-    let (rest, labels) = gmail_labels(alloc, rest)?;
-    Ok((rest, labels))
+    gmail_labels(alloc, rest)
 }
 
 /// `X-GM-LABELS` and the labels of a message in parentheses, maybe none (Gmail's X-GM-EXT-1).
 ///
-/// It takes memory only behind that word: for the list, and for texts that are no UTF-8.
+/// It takes memory only behind that word: for the list, and for texts that are not UTF-8.
 #[tactic(auto, using(imap_grammar::proofs::Agreement::answered))]
 pub fn gmail_label_list(alloc: Global, i: &[u8]) -> IResult<&[u8], Vec<CowStr<'_>>>
     ensures steps { Gives (λ x. map text_of x.items) result (step rules.gmail_label_list i.now) }
@@ -64,6 +63,8 @@ fn msgid(i: &[u8]) -> IResult<&[u8], u64>
 }
 
 /// `X-GM-MSGID` and the number of a message (Gmail's X-GM-EXT-1). No memory.
+///
+/// A number past 64 bits is `Error`.
 #[tactic(auto, using(imap_grammar::proofs::Agreement::exact_answered))]
 pub fn gmail_msgid(i: &[u8]) -> IResult<&[u8], u64>
     ensures steps { Exactly (λ x. x) result (step rules.gmail_msgid i.now) }
@@ -83,6 +84,8 @@ fn thrid(i: &[u8]) -> IResult<&[u8], u64>
 }
 
 /// `X-GM-THRID` and the number of a thread (Gmail's X-GM-EXT-1). No memory.
+///
+/// A number past 64 bits is `Error`.
 #[tactic(auto, using(imap_grammar::proofs::Agreement::exact_answered))]
 pub fn gmail_thrid(i: &[u8]) -> IResult<&[u8], u64>
     ensures steps { Exactly (λ x. x) result (step rules.gmail_thrid i.now) }

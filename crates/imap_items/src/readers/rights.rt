@@ -13,14 +13,12 @@ use std::alloc::{AllocError, Global};
 fn rights_in(alloc: Global, text: &str) -> Result<Vec<AclRight>, AllocError>
     ensures { IfOk result (λ v. v.items ≡ rights_of text.now) }
 {
-    text.chars()
-        .map(|letter| AclRight::from(letter))
-        .collect(alloc)
+    text.chars().map(AclRight::from).collect(alloc)
 }
 
 /// The rights that the characters of an astring name, in order (RFC 4314, section 7: rights).
 ///
-/// It takes memory for them.
+/// It takes memory for them, and for a text that is not UTF-8.
 #[tactic(auto, using(imap_grammar::proofs::Agreement::answered), unfolding(crate::specs::Rights::rights))]
 pub fn rights(alloc: Global, i: &[u8]) -> IResult<&[u8], Vec<AclRight>>
     ensures steps { Gives (λ x. x.items) result (step rule.rights i.now) }

@@ -6,22 +6,23 @@ ghost use Rattle.imap_grammar.specs.Step.{step};
 ghost use Rattle.imap_items.specs.Statuses as rule;
 
 use crate::types::statuses::Status;
+use imap_bytes::tags::word;
 use imap_bytes::{Err, IResult, Needed, named};
 
 #[tactic(auto, unfolding(crate::specs::Statuses::ok_word))]
 fn ok_word(i: &[u8]) -> IResult<&[u8], Status>
     ensures { Exactly (λ x. x) result (step rule.ok_word i.now) }
 {
-    named!(b"OK", i, Status::Ok);
-    Err(Err::Error)
+    let (rest, _) = word(b"OK", i)?;
+    Ok((rest, Status::Ok))
 }
 
 #[tactic(auto, unfolding(crate::specs::Statuses::no_word))]
 fn no_word(i: &[u8]) -> IResult<&[u8], Status>
     ensures { Exactly (λ x. x) result (step rule.no_word i.now) }
 {
-    named!(b"NO", i, Status::No);
-    Err(Err::Error)
+    let (rest, _) = word(b"NO", i)?;
+    Ok((rest, Status::No))
 }
 
 #[tactic(auto, unfolding(crate::specs::Statuses::bad_or_bye))]
@@ -37,8 +38,8 @@ fn bad_or_bye(i: &[u8]) -> IResult<&[u8], Status>
 fn preauth_word(i: &[u8]) -> IResult<&[u8], Status>
     ensures { Exactly (λ x. x) result (step rule.preauth_word i.now) }
 {
-    named!(b"PREAUTH", i, Status::PreAuth);
-    Err(Err::Error)
+    let (rest, _) = word(b"PREAUTH", i)?;
+    Ok((rest, Status::PreAuth))
 }
 
 // Of the words those are tried, in order, that may start with the first byte.

@@ -15,12 +15,12 @@ pub enum Capability<'a> {
     Imap4rev1,
     /// The mechanism that stands behind `AUTH=`.
     Auth(CowStr<'a>),
-    /// Any other, as it stands.
+    /// Any other, as it stands; and each name of an `ENABLED` line, `IMAP4rev1` too.
     Atom(CowStr<'a>),
 }
 
 impl<'a> Capability<'a> {
-    /// The same with its text owned. It takes memory only where that is borrowed; `Err` where there is none.
+    /// The same capability with its text owned. It takes memory only where that is borrowed; `Err`: memory ran out.
     pub fn into_owned(self, alloc: Global) -> Result<Capability<'static>, AllocError>
         ensures { IfOk result (λ c. capability_value c ≡ owned_capability (capability_value self.entry)) }
     {

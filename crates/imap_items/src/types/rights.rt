@@ -28,13 +28,13 @@ pub enum AclRight {
     Expunge,
     /// `a`
     Administer,
-    /// `n`
+    /// `n`, of RFC 5257
     Annotation,
     /// `c`, of RFC 2086
     OldCreate,
     /// `d`, of RFC 2086
     OldDelete,
-    /// Any other letter.
+    /// Any other character.
     Custom(char),
 }
 

@@ -8,7 +8,8 @@ use std::ops::RangeInclusive;
 /// A member of a set of UIDs (RFC 4315, section 3). Its clone takes no memory.
 #[derive(Clone, Debug, Drop, PartialEq, Eq)]
 pub enum UidSetMember {
-    /// Two UIDs and all between them. Of a reader the first is at most the last, in whichever order they were written.
+    /// Two UIDs and all between them. In what a reader gives the first is at most the last, in whichever order they
+    /// were written.
     UidRange(RangeInclusive<u32>),
     /// One UID.
     Uid(u32),

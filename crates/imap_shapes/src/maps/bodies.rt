@@ -32,7 +32,7 @@ impl<S> ContentType<S> {
 }
 
 impl<S> BodyContentCommon<S> {
-    /// The same with each text changed.
+    /// What every body says, with each text changed.
     #[tactic(auto, unfolding(crate::specs::BodyValues::common_seen))]
     pub(crate) fn try_map<C: Change<S>>(
         &self,
@@ -55,7 +55,7 @@ impl<S> BodyContentCommon<S> {
 }
 
 impl<S> BodyContentSinglePart<S> {
-    /// The same with each text changed.
+    /// What a single part says, with each text changed.
     #[tactic(auto, unfolding(crate::specs::BodyValues::single_seen))]
     pub(crate) fn try_map<C: Change<S>>(
         &self,
@@ -79,10 +79,10 @@ impl<S, B> BodyStructure<S, B> {
         ensures { (f : S → Text) (g : B → Text) → common_of (body_seen f g self.now) ≡ common_seen f result.now }
     {
         match self {
-            BodyStructure::Basic { common, .. } => common,
-            BodyStructure::Text { common, .. } => common,
-            BodyStructure::Message { common, .. } => common,
-            BodyStructure::Multipart { common, .. } => common,
+            BodyStructure::Basic { common, .. }
+            | BodyStructure::Text { common, .. }
+            | BodyStructure::Message { common, .. }
+            | BodyStructure::Multipart { common, .. } => common,
         }
     }
 
@@ -91,14 +91,15 @@ impl<S, B> BodyStructure<S, B> {
         ensures { (f : S → Text) (g : B → Text) → extension_of (body_seen f g self.now) ≡ option_map (extension_seen f) result.now }
     {
         match self {
-            BodyStructure::Basic { extension, .. } => extension,
-            BodyStructure::Text { extension, .. } => extension,
-            BodyStructure::Message { extension, .. } => extension,
-            BodyStructure::Multipart { extension, .. } => extension,
+            BodyStructure::Basic { extension, .. }
+            | BodyStructure::Text { extension, .. }
+            | BodyStructure::Message { extension, .. }
+            | BodyStructure::Multipart { extension, .. } => extension,
         }
     }
 
-    /// The same structure with each text changed by c, and each byte string by d. It takes memory; `Err` where there is none.
+    /// The same structure with each text changed by c, and each byte string by d. It takes memory for lists and boxes,
+    /// and where c and d do; `Err`: memory ran out.
     pub fn try_map<C: Change<S>, D: Change<B>>(
         &self,
         alloc: Global,
@@ -111,7 +112,8 @@ impl<S, B> BodyStructure<S, B> {
     }
 }
 
-// What all kinds have is changed once, before the kinds are told apart: a slot that a kind alone needs is cleared for each of them.
+// What all kinds have is changed once, before the kinds are told apart: each arm takes room of its own on the stack,
+// and the room of all arms is cleared at each call.
 #[cycle(body)]
 fn mapped_body<S, B, C: Change<S>, D: Change<B>>(
     alloc: Global,
@@ -144,14 +146,9 @@ fn mapped_body<S, B, C: Change<S>, D: Change<B>>(
         } => {
             let other = made!(other.try_map(c), extension, common);
             let envelope = made!(envelope.try_map(alloc, d), other, extension, common);
+            let inner = mapped_inner(alloc, c, d, body);
             BodyStructure::Message {
-                body: made!(
-                    mapped_inner(alloc, c, d, body),
-                    envelope,
-                    other,
-                    extension,
-                    common
-                ),
+                body: made!(inner, envelope, other, extension, common),
                 common,
                 other,
                 envelope,
@@ -167,16 +164,17 @@ fn mapped_body<S, B, C: Change<S>, D: Change<B>>(
     })
 }
 
-// The body of a message. A call of its own, as the next one: its slots are as large as a body.
+// The body of a message. This and `mapped_bodies` are never inlined: the stack frame of each has room for a body, and
+// `mapped_body`, had it inlined them, would clear that at each call.
 #[cycle(body)]
 #[inline(never)]
 fn mapped_inner<S, B, C: Change<S>, D: Change<B>>(
     alloc: Global,
     c: &C,
     d: &D,
-    inner: &Box<BodyStructure<S, B>>,
+    inner: &BodyStructure<S, B>,
 ) -> Result<Box<BodyStructure<C::To, D::To>>, AllocError>
-    ensures { IfOk result (λ b. body_seen C.after D.after b.value ≡ body_seen (C.before c.now) (D.before d.now) inner.now.value) }
+    ensures { IfOk result (λ b. body_seen C.after D.after b.value ≡ body_seen (C.before c.now) (D.before d.now) inner.now) }
 {
     let mapped = made!(mapped_body(alloc, c, d, inner));
     Ok(Box::new(alloc, mapped)?)
@@ -195,10 +193,7 @@ fn mapped_bodies<S, B, C: Change<S>, D: Change<B>>(
     let mut mapped = Vec::with_capacity(alloc, bodies.len())?;
     for body in bodies {
         mapped.reserve(1)?;
-        match mapped_body(alloc, c, d, body) {
-            Ok(body) => mapped.push_reserved(body),
-            Err(e) => return Err(e),
-        }
+        mapped.push_reserved(made!(mapped_body(alloc, c, d, body)));
     }
     Ok(mapped)
 }

@@ -17,7 +17,7 @@ pub trait Change<X> {
     /// What a new text says.
     ghost after: { Self.To → Text };
 
-    /// The new text of x. `Err` where there is no memory.
+    /// The new text of x. It may take memory; `Err`: memory ran out.
     fn change(&self, x: &X) -> Result<Self::To, AllocError>
         ensures { IfOk result (λ y. after y ≡ before self.now x.now) };
 }
@@ -33,7 +33,7 @@ pub trait BodyChange<Y> {
     /// What a new body says.
     ghost after: { Self.To → BodyValue };
 
-    /// The new body of this one. `Err` where there is no memory.
+    /// The new body of this one. It may take memory; `Err`: memory ran out.
     fn change_body(&self, body: &Y) -> Result<Self::To, AllocError>
         ensures { IfOk result (λ b. after b ≡ before self.now body.now) };
 }

@@ -8,16 +8,15 @@ ghost use Rattle.imap_shapes.specs.BodyValues.{body_seen};
 use super::change::{BodyChange, Change};
 use crate::spans::{Span, SpannedText};
 use crate::{BodyStructure, shapes};
-use imap_bytes::texts::decode;
 use std::alloc::{AllocError, Global};
 use std::borrow::{CowSlice, CowStr};
 use std::marker::PhantomData;
 
-/// Each text owned. The target's lifetime is this type's own.
+/// The change that makes each text owned. `'b` is the lifetime of the new texts, which borrow nothing.
 #[derive(Drop)]
 pub struct Owning<'b> {
     /// Where memory is taken for the texts.
-    pub alloc: Global,
+    alloc: Global,
     target: PhantomData<&'b u8>,
 }
 
@@ -99,7 +98,7 @@ impl<'a> Change<Span> for NamedBytes<'a> {
 /// The texts that spans name in a message, decoded, those that rules fix, and the body structures of such texts.
 #[derive(Drop)]
 pub struct NamedTexts<'a> {
-    /// Where memory is taken for texts whose bytes are no UTF-8, and for bodies.
+    /// Where memory is taken for texts whose bytes are not UTF-8, and for bodies.
     pub alloc: Global,
     /// The message.
     pub m: &'a [u8],
@@ -113,13 +112,7 @@ impl<'a> Change<SpannedText> for NamedTexts<'a> {
     ghost after = { text_of };
 
     fn change(&self, x: &SpannedText) -> Result<CowStr<'a>, AllocError> {
-        match x {
-            SpannedText::Part(span) => decode(self.alloc, span.part(self.m)),
-            SpannedText::Text => Ok(CowStr::Borrowed("TEXT")),
-            SpannedText::Message => Ok(CowStr::Borrowed("MESSAGE")),
-            SpannedText::Rfc822 => Ok(CowStr::Borrowed("RFC822")),
-            SpannedText::Multipart => Ok(CowStr::Borrowed("MULTIPART")),
-        }
+        x.named_in(self.alloc, self.m)
     }
 }
 

@@ -51,7 +51,8 @@ fn mapped_addresses<B, C: Change<B>>(
 }
 
 impl<B> Envelope<B> {
-    /// The same envelope with each text changed. It takes memory for the lists, and where c does; `Err` where there is none.
+    /// The same envelope with each text changed. It takes memory for the lists, and where c does; `Err`: memory ran
+    /// out.
     #[tactic(auto, unfolding(crate::specs::EnvelopeValues::envelope_seen))]
     pub fn try_map<C: Change<B>>(&self, alloc: Global, c: &C) -> Result<Envelope<C::To>, AllocError>
         ensures { IfOk result (λ e. envelope_seen C.after e ≡ envelope_seen (C.before c.now) self.now) }
@@ -71,16 +72,17 @@ impl<B> Envelope<B> {
     }
 }
 
-/// The same envelope with each text changed. It takes memory; `Err` where there is none.
+/// The same envelope, boxed, with each text changed. It takes memory for the box and the lists, and where d does;
+/// `Err`: memory ran out.
 ///
-/// A call of its own, since its slots are large.
+/// It is never inlined: its stack frame is large, and a caller that inlined it would clear it at each call.
 #[inline(never)]
 pub fn mapped_envelope<B, D: Change<B>>(
     alloc: Global,
     d: &D,
-    envelope: &Box<Envelope<B>>,
+    envelope: &Envelope<B>,
 ) -> Result<Box<Envelope<D::To>>, AllocError>
-    ensures { IfOk result (λ e. envelope_seen D.after e.value ≡ envelope_seen (D.before d.now) envelope.now.value) }
+    ensures { IfOk result (λ e. envelope_seen D.after e.value ≡ envelope_seen (D.before d.now) envelope.now) }
 {
     let mapped = made!(envelope.try_map(alloc, d));
     Ok(Box::new(alloc, mapped)?)

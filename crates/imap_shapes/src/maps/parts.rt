@@ -7,7 +7,7 @@ ghost use Rattle.imap_shapes.specs.ExtensionValues.{languages_seen};
 use super::change::Change;
 use std::alloc::{AllocError, Global};
 
-/// A text that may be missing, changed. It takes memory only where c does; `Err` where there is none.
+/// A text that may be missing, changed. It takes memory only where c does; `Err`: memory ran out.
 pub fn mapped_text<X, C: Change<X>>(c: &C, text: &Option<X>) -> Result<Option<C::To>, AllocError>
     ensures { IfOk result (λ t. option_map C.after t ≡ option_map (C.before c.now) text.now) }
 {
@@ -17,7 +17,7 @@ pub fn mapped_text<X, C: Change<X>>(c: &C, text: &Option<X>) -> Result<Option<C:
     }
 }
 
-/// A list of texts, each of them changed. It takes memory for the list, and where c does; `Err` where there is none.
+/// A list of texts, each of them changed. It takes memory for the list, and where c does; `Err`: memory ran out.
 pub fn mapped_list<X, C: Change<X>>(
     alloc: Global,
     c: &C,

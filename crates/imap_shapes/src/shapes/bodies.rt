@@ -7,15 +7,16 @@ use super::fields::{BodyParams, ContentEncoding};
 /// The type of a body's content (RFC 3501, section 9: media-basic, media-message, media-text).
 #[derive(Debug, Drop, PartialEq, Eq)]
 pub struct ContentType<S> {
-    /// The media type, as `TEXT`, in the server's case.
+    /// The media type: `TEXT`, `MESSAGE` or `MULTIPART` for a body of that kind, and for `Basic` as the server wrote
+    /// it.
     pub ty: S,
-    /// The subtype, as `PLAIN`.
+    /// The subtype, as `PLAIN`; for a message it is `RFC822`.
     pub subtype: S,
-    /// The parameters, as `CHARSET`; `None` is `NIL`.
+    /// The parameters, as `CHARSET`; `None` where they are `NIL` or not told.
     pub params: BodyParams<S>,
 }
 
-/// What every body says of its content.
+/// What every body says of its content (RFC 3501, section 7.4.2: BODYSTRUCTURE).
 #[derive(Debug, Drop, PartialEq, Eq)]
 pub struct BodyContentCommon<S> {
     /// The type of the content.
@@ -28,7 +29,7 @@ pub struct BodyContentCommon<S> {
     pub location: Option<S>,
 }
 
-/// What a single part says beyond that.
+/// What a single part says beyond `BodyContentCommon` (RFC 3501, section 7.4.2: BODYSTRUCTURE).
 #[derive(Debug, Drop, PartialEq, Eq)]
 pub struct BodyContentSinglePart<S> {
     /// The content's id; `None` is `NIL`.
@@ -46,7 +47,8 @@ pub struct BodyContentSinglePart<S> {
 /// The structure of a body (RFC 3501, section 9: body). Its texts are raw: backslashes of a quoted string stay.
 #[derive(Debug, Drop, PartialEq, Eq)]
 pub enum BodyStructure<S, B> {
-    /// A single part of any other type (RFC 3501, section 9: body-type-basic).
+    /// A single part that reads neither as a text nor as a message: of another type, or of one of theirs without what
+    /// their rule asks (RFC 3501, section 9: body-type-basic).
     Basic {
         /// What every body says.
         common: BodyContentCommon<S>,

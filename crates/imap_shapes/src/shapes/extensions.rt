@@ -25,29 +25,29 @@ pub enum BodyExtension<S> {
 /// Extension data of a single part (RFC 3501, section 9: body-ext-1part).
 #[derive(Drop)]
 pub struct BodyExt1Part<S> {
-    /// The content's MD5 in base64; `None` is `NIL`.
+    /// The content's MD5 in base64; `None` where it is `NIL` or not told.
     pub md5: Option<S>,
-    /// How the part is to be shown.
+    /// How the part is to be shown; `None` where it is `NIL` or not told.
     pub disposition: Option<ContentDisposition<S>>,
-    /// The languages.
+    /// The languages; `None` where they are `NIL` or not told.
     pub language: Option<Vec<S>>,
-    /// Where the content is.
+    /// Where the content is; `None` where it is `NIL` or not told.
     pub location: Option<S>,
-    /// What later versions may define.
+    /// What later versions may define; `None` where it is not told.
     pub extension: Option<BodyExtension<S>>,
 }
 
 /// Extension data of a multipart (RFC 3501, section 9: body-ext-mpart).
 #[derive(Drop)]
 pub struct BodyExtMPart<S> {
-    /// The parameters, as `BOUNDARY`; `None` is `NIL`.
+    /// The parameters, as `BOUNDARY`; `None` where they are `NIL` or not told.
     pub param: BodyParams<S>,
-    /// How the parts are to be shown.
+    /// How the parts are to be shown; `None` where it is `NIL` or not told.
     pub disposition: Option<ContentDisposition<S>>,
-    /// The languages.
+    /// The languages; `None` where they are `NIL` or not told.
     pub language: Option<Vec<S>>,
-    /// Where the content is.
+    /// Where the content is; `None` where it is `NIL` or not told.
     pub location: Option<S>,
-    /// What later versions may define.
+    /// What later versions may define; `None` where it is not told.
     pub extension: Option<BodyExtension<S>>,
 }

@@ -16,7 +16,7 @@ pub enum ContentEncoding<S> {
     Base64,
     /// `QUOTED-PRINTABLE`
     QuotedPrintable,
-    /// Any other.
+    /// Any other, and any as a literal, `7BIT` too. It is raw: backslashes of a quoted string stay.
     Other(S),
 }
 

@@ -33,8 +33,8 @@ pub type Boxed<S, B> = Box<BodyStructure<S, B>>;
 /// Structures. A reader puts the one that it reads behind the others: each call that answers one would copy it.
 pub type Bodies<S, B> = Vec<BodyStructure<S, B>>;
 
-// Drops the last one. It and the next are calls of their own: the room that they clear for a structure would be cleared
-// by each reader that has them in it.
+// Drops the last one. This and `boxed_only` are never inlined: each clears room for a structure, and a reader that
+// inlined them would clear it at each call.
 #[inline(never)]
 fn drop_last<T: Drop>(items: &mut Vec<T>)
     ensures { (others : List T) (last : T) → items.old.items ≡ others ++ last ∷ [] → items.new.items ≡ others }
@@ -42,7 +42,8 @@ fn drop_last<T: Drop>(items: &mut Vec<T>)
     drop(items.pop());
 }
 
-// The only one of a list, in a box.
+// The only one of a list, in a box. Its caller has put one there; the error for an empty list only gives the function a
+// value.
 #[inline(never)]
 fn boxed_only<T: Drop>(alloc: Global, mut items: Vec<T>) -> Result<Box<T>, AllocError>
     ensures { (only : T) → items.items ≡ only ∷ [] → IfOk result (λ b. b.value ≡ only) }
@@ -75,7 +76,7 @@ fn body_type_text<K: Keep>(
     let subtype = keep.text(m, subtype)?;
     let (p, fields) = spaced_fields(keep, alloc, m, p)?;
     let (p, lines) = made!(spaced_number(m, p), fields);
-    let (p, ext) = made!(body_ext_1part(keep, alloc, m, p), fields);
+    let (p, extension_data) = made!(body_ext_1part(keep, alloc, m, p), fields);
     others.push_reserved(BodyStructure::Text {
         common: BodyContentCommon {
             ty: ContentType {
@@ -83,24 +84,24 @@ fn body_type_text<K: Keep>(
                 subtype,
                 params: fields.param,
             },
-            disposition: ext.disposition,
-            language: ext.language,
-            location: ext.location,
+            disposition: extension_data.disposition,
+            language: extension_data.language,
+            location: extension_data.location,
         },
         other: BodyContentSinglePart {
             id: fields.id,
-            md5: ext.md5,
+            md5: extension_data.md5,
             description: fields.description,
             transfer_encoding: fields.transfer_encoding,
             octets: fields.octets,
         },
         lines,
-        extension: ext.extension,
+        extension: extension_data.extension,
     });
     Ok(p)
 }
 
-/// A single part of any other type (RFC 3501, section 9: body-type-basic).
+/// A single part of any type (RFC 3501, section 9: body-type-basic).
 #[tactic(auto, unfolding(crate::specs::Bodies::body_type_basic))]
 fn body_type_basic<K: Keep>(
     keep: &K,
@@ -121,7 +122,7 @@ fn body_type_basic<K: Keep>(
     let ty = keep.text(m, ty)?;
     let subtype = keep.text(m, subtype)?;
     let (p, fields) = spaced_fields(keep, alloc, m, p)?;
-    let (p, ext) = made!(body_ext_1part(keep, alloc, m, p), fields);
+    let (p, extension_data) = made!(body_ext_1part(keep, alloc, m, p), fields);
     others.push_reserved(BodyStructure::Basic {
         common: BodyContentCommon {
             ty: ContentType {
@@ -129,18 +130,18 @@ fn body_type_basic<K: Keep>(
                 subtype,
                 params: fields.param,
             },
-            disposition: ext.disposition,
-            language: ext.language,
-            location: ext.location,
+            disposition: extension_data.disposition,
+            language: extension_data.language,
+            location: extension_data.location,
         },
         other: BodyContentSinglePart {
             id: fields.id,
-            md5: ext.md5,
+            md5: extension_data.md5,
             description: fields.description,
             transfer_encoding: fields.transfer_encoding,
             octets: fields.octets,
         },
-        extension: ext.extension,
+        extension: extension_data.extension,
     });
     Ok(p)
 }
@@ -170,11 +171,11 @@ fn message_word(m: &[u8], p: usize) -> Reached<Span>
     word(b"\"MESSAGE\" \"RFC822\"", m, p)
 }
 
-/// A body, up to `level` inside one another (RFC 3501, section 9: body), which is put behind the others. At level 0 it denies
-/// without looking.
+/// Reads a body with at most `level` inside one another, itself counted (RFC 3501, section 9: body), and puts it after
+/// the others in the list. At level 0 it denies without looking.
 ///
-/// Where no body is read, the others are as they were. It takes memory for the tree, and, where values are kept of its strings,
-/// for texts that are no UTF-8.
+/// Where no body is read, the others are as they were. It takes memory for the tree, and, where values are kept of its
+/// strings, for texts that are not UTF-8.
 #[cycle(body)]
 pub fn body<K: Keep>(
     keep: &K,
@@ -296,7 +297,7 @@ fn body_type_msg<K: Keep>(
     let (p, envelope) = made!(spaced_envelope(keep, alloc, m, p), fields);
     let (p, inner) = made!(spaced_body(keep, alloc, level, m, p), envelope, fields);
     let (p, lines) = made!(spaced_number(m, p), inner, envelope, fields);
-    let (p, ext) = made!(body_ext_1part(keep, alloc, m, p), inner, envelope, fields);
+    let (p, extension_data) = made!(body_ext_1part(keep, alloc, m, p), inner, envelope, fields);
     others.push_reserved(BodyStructure::Message {
         common: BodyContentCommon {
             ty: ContentType {
@@ -304,13 +305,13 @@ fn body_type_msg<K: Keep>(
                 subtype,
                 params: fields.param,
             },
-            disposition: ext.disposition,
-            language: ext.language,
-            location: ext.location,
+            disposition: extension_data.disposition,
+            language: extension_data.language,
+            location: extension_data.location,
         },
         other: BodyContentSinglePart {
             id: fields.id,
-            md5: ext.md5,
+            md5: extension_data.md5,
             description: fields.description,
             transfer_encoding: fields.transfer_encoding,
             octets: fields.octets,
@@ -318,7 +319,7 @@ fn body_type_msg<K: Keep>(
         envelope,
         body: inner,
         lines,
-        extension: ext.extension,
+        extension: extension_data.extension,
     });
     Ok(p)
 }
@@ -363,20 +364,20 @@ fn body_type_mpart<K: Keep>(
     let (p, parts) = some_bodies(keep, alloc, level, m, p)?;
     let (p, subtype) = made!(spaced_string_text(m, p), parts);
     let subtype = keep.text(m, subtype)?;
-    let (p, ext) = made!(body_ext_mpart(keep, alloc, m, p), parts);
+    let (p, extension_data) = made!(body_ext_mpart(keep, alloc, m, p), parts);
     others.push_reserved(BodyStructure::Multipart {
         common: BodyContentCommon {
             ty: ContentType {
                 ty,
                 subtype,
-                params: ext.param,
+                params: extension_data.param,
             },
-            disposition: ext.disposition,
-            language: ext.language,
-            location: ext.location,
+            disposition: extension_data.disposition,
+            language: extension_data.language,
+            location: extension_data.location,
         },
         bodies: parts,
-        extension: ext.extension,
+        extension: extension_data.extension,
     });
     Ok(p)
 }

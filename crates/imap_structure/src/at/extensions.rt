@@ -170,7 +170,7 @@ fn string_extension<K: Keep>(keep: &K, m: &[u8], p: usize) -> Reached<BodyExtens
 /// Extension data, with up to `level` lists inside one another (RFC 3501, section 9: body-extension). At level 0 a list is
 /// `Error`.
 ///
-/// It takes memory for lists, and, where values are kept of its strings, for texts that are no UTF-8.
+/// It takes memory for lists, and, where values are kept of its strings, for texts that are not UTF-8.
 #[cycle(extension)]
 #[tactic(auto, using(crate::proofs::FirstBytes::extension_none, crate::proofs::FirstBytes::extension_is_string, crate::proofs::FirstBytes::extension_is_list, crate::proofs::FirstBytes::extension_is_number, crate::proofs::FirstBytes::extension_other))]
 pub fn extension<K: Keep>(
@@ -412,8 +412,8 @@ fn last_extension<K: Keep>(
 
 /// Extension data of a single part (RFC 3501, section 9: body-ext-1part).
 ///
-/// A field that is denied is skipped with its space. It takes memory for lists, and, where values are kept of its strings, for
-/// texts that are no UTF-8.
+/// A field that is denied is skipped with its space. It takes memory for lists, and, where values are kept of its
+/// strings, for texts that are not UTF-8.
 #[tactic(auto, unfolding(crate::specs::Extensions::body_ext_1part, imap_shapes::specs::ExtensionValues::ext_1part_seen))]
 pub fn body_ext_1part<K: Keep>(
     keep: &K,
@@ -444,9 +444,10 @@ pub fn body_ext_1part<K: Keep>(
     ))
 }
 
-/// Extension data of a multipart, in the same way (RFC 3501, section 9: body-ext-mpart).
+/// Extension data of a multipart (RFC 3501, section 9: body-ext-mpart).
 ///
-/// It takes memory as `body_ext_1part` does.
+/// A field that is denied is skipped with its space. It takes memory for lists, and, where values are kept of its
+/// strings, for texts that are not UTF-8.
 #[tactic(auto, unfolding(crate::specs::Extensions::body_ext_mpart, imap_shapes::specs::ExtensionValues::ext_mpart_seen))]
 pub fn body_ext_mpart<K: Keep>(
     keep: &K,

@@ -71,7 +71,7 @@ fn some_params<K: Keep>(
 
 /// `NIL`, or parameters in parentheses (RFC 3501, section 9: body-fld-param).
 ///
-/// It takes memory for the parameters, and, where values are kept of their strings, for texts that are no UTF-8.
+/// It takes memory for the parameters, and, where values are kept of their strings, for texts that are not UTF-8.
 #[tactic(auto, unfolding(crate::specs::Fields::body_fld_param))]
 pub fn body_fld_param<K: Keep>(
     keep: &K,
@@ -233,7 +233,7 @@ fn spaced_encoding(m: &[u8], p: usize) -> Reached<ContentEncoding<SpannedText>>
 
 /// The fields of a single part (RFC 3501, section 9: body-fields).
 ///
-/// It takes memory for the parameters, and, where values are kept of their strings, for texts that are no UTF-8.
+/// It takes memory for the parameters, and, where values are kept of the strings, for texts that are not UTF-8.
 #[tactic(auto, unfolding(crate::specs::Fields::body_fields, imap_shapes::specs::FieldValues::fields_seen))]
 pub fn body_fields<K: Keep>(
     keep: &K,
@@ -264,7 +264,9 @@ pub fn body_fields<K: Keep>(
     ))
 }
 
-/// The same behind a space. It takes memory as `body_fields` does.
+/// A space, then the fields of a single part (RFC 3501, section 9: body-fields).
+///
+/// It takes memory for the parameters, and, where values are kept of the strings, for texts that are not UTF-8.
 pub fn spaced_fields<K: Keep>(
     keep: &K,
     alloc: Global,

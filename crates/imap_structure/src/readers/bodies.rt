@@ -16,7 +16,7 @@ use std::alloc::Global;
 
 /// The structure of a body: a text, a message, another single part, or several parts (RFC 3501, section 9: body).
 ///
-/// A body inside `MAX_BODY_DEPTH` others is `Error`. It takes memory for the tree, and for texts that are no UTF-8.
+/// A body inside `MAX_BODY_DEPTH` others is `Error`. It takes memory for the tree, and for texts that are not UTF-8.
 #[tactic(auto, using(imap_grammar::proofs::Agreement::answered))]
 pub fn body_structure(alloc: Global, i: &[u8]) -> IResult<&[u8], BodyStructure<'_>>
     ensures steps { Gives (λ x. body_seen text_of bytes_of x) result (step bodies.body_structure i.now) }

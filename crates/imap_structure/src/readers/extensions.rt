@@ -15,7 +15,7 @@ use std::alloc::Global;
 
 /// A number, an nstring, or a list of such (RFC 3501, section 9: body-extension).
 ///
-/// A list inside `MAX_EXTENSION_DEPTH` others is `Error`. It takes memory for lists, and for texts that are no UTF-8.
+/// A list inside `MAX_EXTENSION_DEPTH` others is `Error`. It takes memory for lists, and for texts that are not UTF-8.
 #[tactic(auto, using(imap_grammar::proofs::Agreement::answered))]
 pub fn body_extension(alloc: Global, i: &[u8]) -> IResult<&[u8], BodyExtension<'_>>
     ensures steps { Gives (λ x. extension_seen text_of x) result (step extensions.body_extension i.now) }

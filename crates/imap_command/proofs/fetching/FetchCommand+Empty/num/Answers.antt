@@ -1,6 +1,6 @@
-use Rattle.std.proofs.Common.{refl}
+use Rattle.std.proofs.Common.{arith}
+use Rattle.std.proofs.lemmas.Grind.{common_steps}
 use Rattle.imap_command.proofs.fetching.FetchCommand+Empty.num.Goals as goal
 
 pub returns : goal.returns
-returns c calls at was =
-    rw (c.with_text.ensures, c.in_ok-push_number.ensures, at, c.self.view_is, was) refl
+returns c = grind (arith, common_steps)

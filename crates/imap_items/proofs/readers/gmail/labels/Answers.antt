@@ -6,5 +6,5 @@ use Rattle.imap_items.proofs.readers.gmail.labels.Goals as goal
 pub returns-in_err-rest-clause-memory : goal.returns-in_err-rest-clause-memory
 returns-in_err-rest-clause-memory c = part_failed _ (word "X-GM-LABELS ") _ c.in_err-rest.field-0.0 _ (search rules) c.in_err-rest.ensures.steps
 
-pub returns-in_err-rest-2-clause-memory : goal.returns-in_err-rest-2-clause-memory
-returns-in_err-rest-2-clause-memory c = holds_already _ c.from_residual-in_err-rest-2.result (begins_word "X-GM-LABELS " _ _ _ c.in_ok-rest.ensures.steps)
+pub returns-clause-memory : goal.returns-clause-memory
+returns-clause-memory c = holds_already _ c.gmail_labels.result (begins_word "X-GM-LABELS " _ _ _ c.in_ok-rest.ensures.steps)

@@ -1,19 +1,28 @@
 use Rattle.std.proofs.Common.{refl, sym, ◌∙◌}
-use Rattle.imap_grammar.specs.declared.answer.Err.TheVariants.{Incomplete}
+use Rattle.std.proofs.lemmas.Result.{err_from_is_err_and}
+use Rattle.imap_grammar.proofs.Joins.{tried_some, tried_none, tried_fault}
 use Rattle.imap_proto.specs.declared.kept.KeptFetch.{KeptFetch}
 use Rattle.imap_proto.proofs.Fetching.{kept, none_kept, fault_kept, line_refuses}
 use Rattle.imap_proto.proofs.kept.KeptFetch.keep.Goals as goal
 
-pub returns-in_ok-bytes-in-Ok : goal.returns-in_ok-bytes-in-Ok
-returns-in_ok-bytes-in-Ok c =
-    let k : KeptFetch = record { alloc = c.args.alloc; number = c.in-Ok.number; attributes = c.in-Ok.attributes; bytes = c.in_ok-bytes-in-Ok.bytes } in
-    kept c.args.msg.now c.in-Ok.q (c.in-Ok.number, c.in-Ok.attributes) k c.in-Ok.ensures.steps c.in-Ok.ensures.rests (c.in_ok-bytes-in-Ok.ensures.items ∙ c.split_at.ensures.front) refl refl
+pub returns : goal.returns
+returns c =
+    let k : KeptFetch = record { alloc = c.args.alloc; number = c.in-Some.number; attributes = c.in-Some.attributes; bytes = c.in_ok-bytes.bytes } in
+    let read = tried_some c.fetch_line.result _ _ (sym c.tried.ensures ∙ c.in_ok-q.was) c.in-Some.is in
+    kept c.args.msg.now c.in-Some.q (c.in-Some.number, c.in-Some.attributes) k (rw read at c.fetch_line.ensures.steps) (rw read at c.fetch_line.ensures.rests) (c.in_ok-bytes.ensures.items ∙ c.split_at.ensures.front) refl refl
 
-pub returns-in-Ok-valueless : goal.returns-in-Ok-valueless
-returns-in-Ok-valueless c = none_kept c.args.msg.now c.parse.result (rw c.in-Err-Error.field-0-is at c.in-Err-Error.ensures.steps) c.parse.ensures.answer (sym c.in-Ok-valueless.ensures)
+pub returns-in_default : goal.returns-in_default
+returns-in_default c =
+    let denied = tried_none c.fetch_line.result _ (sym c.tried.ensures ∙ c.in_ok-q.was) c.in_default.is in
+    none_kept c.args.msg.now c.parse.result (rw denied at c.fetch_line.ensures.steps) c.parse.ensures.answer (sym c.valueless.ensures ∙ c.in_ok-valueless.was)
 
-pub returns-in-Err : goal.returns-in-Err
-returns-in-Err c = fault_kept c.args.msg.now c.parse.result c.in-Err.e c.parse.ensures.answer (sym c.in-Err.ensures)
+pub returns-in_err-valueless : goal.returns-in_err-valueless
+returns-in_err-valueless c =
+    let r = err_from_is_err_and c.from_residual-in_err-valueless.result c.from_residual-in_err-valueless.ensures.1 in
+    rw (r.1, r.2) (fault_kept c.args.msg.now c.parse.result c.in_err-valueless.field-0.0 c.parse.ensures.answer (sym c.valueless.ensures ∙ c.in_err-valueless.was))
 
-pub returns-in-Err-Incomplete : goal.returns-in-Err-Incomplete
-returns-in-Err-Incomplete c = line_refuses (Incomplete c.in-Err-Incomplete.needed) c.args.msg.now (λ q. cc) (rw c.in-Err-Incomplete.field-0-is at c.in-Err-Incomplete.ensures.steps)
+pub returns-in_err-q : goal.returns-in_err-q
+returns-in_err-q c =
+    let r = err_from_is_err_and c.from_residual.result c.from_residual.ensures.1 in
+    let was = tried_fault c.fetch_line.result c.in_err-q.field-0.0 (sym c.tried.ensures ∙ c.in_err-q.was) in
+    rw (r.1, r.2) (line_refuses c.in_err-q.field-0.0 c.args.msg.now was.1 (rw was.0 at c.fetch_line.ensures.steps))

@@ -4,9 +4,9 @@ use Rattle.imap_shapes.specs.EnvelopeValues.{envelope_seen}
 use Rattle.imap_shapes.specs.ExtensionValues.{extension_seen}
 use Rattle.imap_shapes.specs.BodyValues.{common_seen, single_seen, common_of, extension_of, body_seen, Basic, TextBody, Message, Multipart, bodies_of}
 use Rattle.imap_shapes.proofs.Lists.{mapped_further, mapped_whole}
-use Rattle.imap_shapes.proofs.Trees.{basic_seen, text_seen, message_seen, multipart_seen, few_in_list, fewer_in_multipart, fewer_in_message}
+use Rattle.imap_shapes.proofs.Trees.{bodies_of_tree, basic_seen, text_seen, message_seen, multipart_seen, few_in_list, fewer_in_multipart, fewer_in_message}
 use Rattle.imap_shapes.proofs.maps.bodies.+body.Goals as goal
-use Rattle.imap_shapes.proofs.maps.bodies.+body.Goals.{mapped_body-in-Basic+in-Ok-try_map, mapped_body-in-Text+in-Ok-try_map-2, mapped_body-in-Message+in-Ok-try_map-3+in-Ok-try_map-4+in-Ok-mapped_inner, mapped_body-in-Multipart+in-Ok-mapped_bodies}
+use Rattle.imap_shapes.proofs.maps.bodies.+body.Goals.{mapped_body-in-Basic+in-Ok-try_map, mapped_body-in-Text+in-Ok-try_map-2, mapped_body-in-Message+in-Ok-try_map-3+in-Ok-try_map-4+in-Ok-inner, mapped_body-in-Multipart+in-Ok-mapped_bodies}
 
 pub mapped_bodies-mapped_body-requires : goal.mapped_bodies-mapped_body-requires
 mapped_bodies-mapped_body-requires g t c κs within =
@@ -18,7 +18,7 @@ pub mapped_bodies-loop-body-preserved : goal.mapped_bodies-loop-body-preserved
 mapped_bodies-loop-body-preserved g t c =
     let old = body_seen (g.C.Change.before c.args.c.now) (g.D.Change.before c.args.d.now) in
     let new = body_seen g.C.Change.after g.D.Change.after in
-    ap (map new) c.push_reserved.ensures.items ∙ ap (λ l. map new (l ++ (c.in-Ok.body ∷ []))) c.reserve.ensures.items ∙ mapped_further new old c.loop-body.mapped.items c.deref-body-items.result.now c.loop-body.body-index _ _ c.loop-body-test.true c.loop-body.invariant (c.in-Ok.ensures ∙ ap old c.body-item.is)
+    ap (map new) c.push_reserved.ensures.items ∙ ap (λ l. map new (l ++ (c.in-Ok.made ∷ []))) c.reserve.ensures.items ∙ mapped_further new old c.loop-body.mapped.items c.deref-body-items.result.now c.loop-body.body-index _ _ c.loop-body-test.true c.loop-body.invariant (c.in-Ok.ensures ∙ ap old c.body-item.is)
 
 pub mapped_bodies-returns : goal.mapped_bodies-returns
 mapped_bodies-returns g t c =
@@ -26,10 +26,10 @@ mapped_bodies-returns g t c =
     let new = body_seen g.C.Change.after g.D.Change.after in
     mapped_whole new old c.loop-body.mapped.items c.deref-body-items.result.now c.loop-body.body-index c.loop-body-test.false c.loop-body.invariant ∙ ap (map old) c.deref-body-items.ensures.value
 
-pub mapped_body-mapped_inner-requires : goal.mapped_body-mapped_inner-requires
-mapped_body-mapped_inner-requires g t c κs within =
+pub mapped_body-mapped_inner-inner-requires : goal.mapped_body-mapped_inner-inner-requires
+mapped_body-mapped_inner-inner-requires g t c κs within =
     let less = fewer_in_message c.args.body.now c.in-Message.common c.in-Message.other c.in-Message.envelope c.in-Message.body c.in-Message.lines c.in-Message.extension c.in-Message.is in
-    (omega (arith, less, c.decreases), within)
+    (omega (arith, less, ap bodies_of_tree c.deref.ensures, c.decreases), within)
 
 pub mapped_body-mapped_bodies-requires : goal.mapped_body-mapped_bodies-requires
 mapped_body-mapped_bodies-requires g t c κs within =
@@ -59,11 +59,11 @@ mapped_body-returns g t c =
           ∙ (λ i. TextBody (common i) (w.in-Ok-try_map-2.ensures i) w.in-Text.lines (last i))
           ∙ ap (λ v. TextBody (common_of v) (single_seen f w.in-Text.other) w.in-Text.lines (extension_of v)) is
           ∙ sym is)
-      | mapped_body-in-Message+in-Ok-try_map-3+in-Ok-try_map-4+in-Ok-mapped_inner w ↦
+      | mapped_body-in-Message+in-Ok-try_map-3+in-Ok-try_map-4+in-Ok-inner w ↦
           (let is = ap old w.in-Message.is ∙ message_seen f h w.in-Message.common w.in-Message.other w.in-Message.envelope w.in-Message.body w.in-Message.lines w.in-Message.extension in
           ap new w.result-is
           ∙ message_seen g.C.Change.after g.D.Change.after _ _ _ _ _ _
-          ∙ (λ i. Message (common i) (w.in-Ok-try_map-3.ensures i) (w.in-Ok-try_map-4.ensures i) (w.in-Ok-mapped_inner.ensures i) w.in-Message.lines (last i))
+          ∙ (λ i. Message (common i) (w.in-Ok-try_map-3.ensures i) (w.in-Ok-try_map-4.ensures i) ((w.in-Ok-inner.ensures ∙ ap old w.deref.ensures) i) w.in-Message.lines (last i))
           ∙ ap (λ v. Message (common_of v) (single_seen f w.in-Message.other) (envelope_seen h w.in-Message.envelope) (old w.in-Message.body.value) w.in-Message.lines (extension_of v)) is
           ∙ sym is)
       | mapped_body-in-Multipart+in-Ok-mapped_bodies w ↦

@@ -7,7 +7,7 @@ abbrev pub decreases-mapped_body : goal.decreases-mapped_body
 decreases-mapped_body g l = 2 * bodies_of_tree l.body.now
 
 abbrev pub decreases-mapped_inner : goal.decreases-mapped_inner
-decreases-mapped_inner g l = 2 * bodies_of_tree l.inner.now.value + 1
+decreases-mapped_inner g l = 2 * bodies_of_tree l.inner.now + 1
 
 abbrev pub decreases-mapped_bodies : goal.decreases-mapped_bodies
 decreases-mapped_bodies g l = 2 * bodies_of_trees l.bodies.now.items + 1

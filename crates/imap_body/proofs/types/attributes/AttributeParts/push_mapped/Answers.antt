@@ -1,4 +1,4 @@
-use Rattle.std.proofs.Common.{refl}
+use Rattle.std.proofs.Common.{refl, rules}
 use Rattle.imap_body.proofs.Putting.{put_behind}
 use Rattle.imap_body.proofs.types.attributes.AttributeParts.push_mapped.Goals as goal
 
@@ -9,7 +9,7 @@ pub returns-in_ok-mapped_text-in-BodySection : goal.returns-in_ok-mapped_text-in
 returns-in_ok-mapped_text-in-BodySection g c = put_behind _ _ _ _ _ _ c.in_ok-reserve.ensures.items c.push_reserved.ensures.items (rw (c.in-BodySection.is, c.in_ok-copied_section-in-BodySection.ensures, c.in_ok-mapped_text-in-BodySection.ensures) refl)
 
 pub returns-in_ok-mapped_envelope-in-Envelope : goal.returns-in_ok-mapped_envelope-in-Envelope
-returns-in_ok-mapped_envelope-in-Envelope g c = put_behind _ _ _ _ _ _ c.in_ok-reserve.ensures.items c.push_reserved-in-Envelope.ensures.items (rw (c.in-Envelope.is, c.in_ok-mapped_envelope-in-Envelope.ensures) refl)
+returns-in_ok-mapped_envelope-in-Envelope g c = put_behind _ _ _ _ _ _ c.in_ok-reserve.ensures.items c.push_reserved-in-Envelope.ensures.items (rw (c.in-Envelope.is, c.in_ok-mapped_envelope-in-Envelope.ensures) (search rules))
 
 pub returns-in_ok-mapped_list-in-Flags : goal.returns-in_ok-mapped_list-in-Flags
 returns-in_ok-mapped_list-in-Flags g c = put_behind _ _ _ _ _ _ c.in_ok-reserve.ensures.items c.push_reserved-in-Flags.ensures.items (rw (c.in-Flags.is, c.in_ok-mapped_list-in-Flags.ensures) refl)
