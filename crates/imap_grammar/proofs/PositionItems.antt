@@ -1,5 +1,5 @@
 -- What each item of a list that was read keeps to: the positions that the list began and ended at.
-use Rattle.std.proofs.Common.{ℕ, zero, suc, ◌+◌, ◌≤◌, List, [], ◌∷◌, length, drop, take, map, Ok, Err, refl, ap, subst, ◌∙◌, arith, inl, inr}
+use Rattle.std.proofs.Common.{ℕ, zero, suc, ◌+◌, ◌≤◌, List, [], ◌∷◌, length, drop, Ok, Err, ap, subst, ◌∙◌, arith, inl, inr}
 use Rattle.std.specs.Prelude.{All}
 use Rattle.std.specs.List.{AllByRecursion}
 use Rattle.std.specs.Global.{Vec}
@@ -9,10 +9,9 @@ use Rattle.imap_grammar.specs.Rule.{Rule, meaning, opt, ◌⨾◌}
 use Rattle.imap_grammar.specs.Tags.{tag, sp}
 use Rattle.imap_grammar.specs.Lists.{behind_means, list1_means, list0_means, list_means, enclosed_means, or_memory}
 use Rattle.imap_grammar.specs.declared.at.span.Span.{Span}
-use Rattle.imap_grammar.specs.Positions.{Reached, Rests, RestsOn, Lies, Ahead, Inside, EachInside}
+use Rattle.imap_grammar.specs.Positions.{Reached, Lies, Ahead, Inside, EachInside}
 use Rattle.imap_grammar.specs.PositionLists.{called_at, Advances, KeepsAhead, FollowsAt}
 use Rattle.imap_grammar.proofs.Agreement.{shrinks}
-use Rattle.imap_grammar.proofs.Positions.{rests_more}
 
 -- what holds between two positions holds between any that are further apart
 abbrev pub Widens : {O : Type 0} → (ℕ → ℕ → O → Type 0) → Type 0
@@ -111,18 +110,3 @@ pub listed_inside : {answers : ℕ → Reached Span → Type 0} {m : List ℕ} {
 listed_inside {answers = answers} {m = m} (Ok x) h le adv one =
     all_by_index _ _ (listed_keep (λ p q s. Lies p s q) x.0 x.1 h le lies_wider adv (λ k q s lk y. (one k (Ok (q, s)) lk y).0))
 listed_inside (Err e) h le adv one = tt
-
--- ---- what the items name
-
-items_rest : {O V : Type 0} (view : List ℕ → O → V) (q : ℕ) (vs : List O) → AllByRecursion (λ x. Rests view q x) vs → Rests (λ n ys. map (view n) ys) q vs
-items_rest view q [] h = record { same = λ n. refl }
-items_rest view q (x ∷ vs) h =
-    let more = items_rest view q vs h.1 in
-    record { same = λ n. ap (λ y. y ∷ map (view (take q n)) vs) (h.0.same n) ∙ ap (λ ys. view n x ∷ ys) (more.same n) }
-
-pub listed_rests : {O V : Type 0} {answers : ℕ → Reached O → Type 0} {m : List ℕ} {p : ℕ} (view : List ℕ → O → V) (result : Reached (Vec O)) → FollowsAt (λ a. or_memory (list_means a)) answers (λ y. y.items) m p result → p ≤ length m → Advances m answers → EachKept m answers (λ k q x. Rests view q x)
-    → RestsOn (λ n v. map (view n) v.items) result
-listed_rests view (Ok x) h le adv one =
-    let all = items_rest view x.0 x.1.items (listed_keep (λ p q x. Rests view q x) x.0 x.1 h le (λ p q k e x lp le r. rests_more q le r) adv one) in
-    record { same = λ n. all.same n }
-listed_rests view (Err e) h le adv one = tt

@@ -7,7 +7,7 @@ use Rattle.imap_grammar.specs.Meaning.{outside, begins}
 use Rattle.imap_grammar.specs.Rule.{Rule, run1, opt, only, many, raw}
 use Rattle.imap_grammar.specs.Step.{Step, step}
 use Rattle.imap_grammar.specs.declared.at.span.Span.{Span}
-use Rattle.imap_grammar.specs.Positions.{between, named_in, maybe_in, Rests}
+use Rattle.imap_grammar.specs.Positions.{between, named_in}
 use Rattle.imap_grammar.proofs.Consumption.{less}
 use Rattle.imap_grammar.proofs.Loops.{After, after_raw}
 use Rattle.imap_grammar.proofs.Runs.{run1_some}
@@ -40,21 +40,13 @@ raw_at a m p q r le within so_far here =
 pub as_far : (m from : List ℕ) (start end : ℕ) → from ≡ drop (min start (length m)) m → take (min (end - start) (length from)) from ≡ between m start end
 as_far m from start end e = let is = e ∙ drop_min start m in take_min (end - start) from ∙ ap (take (end - start)) is
 
--- ---- what a value rests on
+-- ---- what a span names
 
-pub rests_more : {A V : Type 0} {view : List ℕ → A → V} {q : ℕ} {x : A} (r : ℕ) → q ≤ r → Rests view q x → Rests view r x
-rests_more {view = view} {q = q} {x = x} r le h = record { same = λ m. sym (h.same (take r m)) ∙ ap (λ k. view k x) (take-take q r m le) ∙ h.same m }
-
-named_rests : (m : List ℕ) (s : Span) (q : ℕ) → s.start ≤ s.end → s.end ≤ q → named_in (take q m) s ≡ named_in m s
-named_rests m s q ordered le =
+-- it names the same in the bytes before q, where it ends there or before
+pub named_in_front : (m : List ℕ) (s : Span) (q : ℕ) → s.start ≤ s.end → s.end ≤ q → named_in (take q m) s ≡ named_in m s
+named_in_front m s q ordered le =
     let e : q ≡ s.start + (q - s.start) = omega (arith, ordered, le) in
     ap (λ k. take (s.end - s.start) (drop s.start (take k m))) e ∙ ap (take (s.end - s.start)) (drop-take s.start (q - s.start) m) ∙ take-take (s.end - s.start) (q - s.start) (drop s.start m) (omega (arith, le))
-
-pub none_rests : (q : ℕ) → Rests maybe_in q None
-none_rests q = record { same = λ m. refl }
-
-pub some_rests : (s : Span) (q : ℕ) → s.start ≤ s.end → s.end ≤ q → Rests maybe_in q (Some s)
-some_rests s q ordered le = record { same = λ m. ap (λ k. Some k) (named_rests m s q ordered le) }
 
 -- ---- the front of the bytes
 

@@ -69,11 +69,3 @@ MaybeInside p (Err e) = Unit {0}
 abbrev pub EachInside : ℕ → Reached (Vec Span) → Type 0
 EachInside p (Ok x) = All (λ s. Lies p s x.0) x.1.items
 EachInside p (Err e) = Unit {0}
-
--- What x names in a message rests on the bytes before q alone.
-pub record Rests {A V : Type 0} (view : List ℕ → A → V) (q : ℕ) (x : A) : Type 0 where
-  pub same : (m : List ℕ) → view (take q m) x ≡ view m x
-
-abbrev pub RestsOn : {A V : Type 0} → (List ℕ → A → V) → Reached A → Type 0
-RestsOn view (Ok x) = Rests view x.0 x.1
-RestsOn view (Err e) = Unit {0}

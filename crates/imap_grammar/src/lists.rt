@@ -34,7 +34,8 @@ pub fn tried<I, T>(answer: IResult<I, T>) -> Result<Option<(I, T)>, Err>
     match answer {
         Ok(found) => Ok(Some(found)),
         Err(Err::Error) => Ok(None),
-        Err(e) => Err(e),
+        Err(Err::Incomplete(needed)) => Err(Err::Incomplete(needed)),
+        Err(Err::Failure) => Err(Err::Failure),
     }
 }
 

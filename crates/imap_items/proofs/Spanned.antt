@@ -1,5 +1,5 @@
--- What spans name: of a form's bytes, of a word, of flags; and what their texts rest on.
-use Rattle.std.proofs.Common.{◌≡◌, ℕ, true, ◌-◌, ◌≤◌, ◌<◌, [], ◌∷◌, ◌++◌, length, take, drop, codes, Some, Ok, refl, sym, ◌∙◌, ap, ap₂, arith}
+-- What spans name: of a form's bytes, of a word, of flags.
+use Rattle.std.proofs.Common.{◌≡◌, ℕ, true, ◌-◌, ◌≤◌, ◌<◌, [], ◌∷◌, ◌++◌, length, take, drop, codes, Ok, refl, sym, ◌∙◌, ap, ap₂, arith}
 use Rattle.std.proofs.lemmas.Bool.{and_parts}
 use Rattle.std.proofs.Math.Seq.{take-append_seam}
 use Rattle.std.proofs.lemmas.List.{length-append, length-drop}
@@ -7,19 +7,16 @@ use Rattle.std.proofs.lemmas.Str.{IsUtf8-from_ascii, IsUtf8-from_is_utf8, is_utf
 use Rattle.std.proofs.lemmas.Str.Ascii.{IsAscii-from_all}
 use Rattle.std.proofs.lemmas.List.Elements.{All-nil, All-cons}
 use Rattle.std.specs.Str.{is_utf8}
-use Rattle.imap_grammar.specs.declared.at.span.Span.{Span}
 use Rattle.imap_grammar.specs.Spelling.{this}
 use Rattle.imap_grammar.specs.ReadBack.{Spells}
-use Rattle.imap_grammar.specs.Positions.{between, named_in, Rests}
+use Rattle.imap_grammar.specs.Positions.{between}
 use Rattle.imap_grammar.specs.Rule.{Rule, raw, gives}
 use Rattle.imap_grammar.specs.Step.{Step, step}
 use Rattle.imap_grammar.specs.Text.{Bytes, as_text, decoded}
 use Rattle.imap_grammar.proofs.Agreement.{agrees}
-use Rattle.imap_grammar.proofs.Positions.{some_rests}
 use Rattle.imap_grammar.proofs.Yields.{Yields, either_yields, named_yields}
 use Rattle.imap_items.specs.Flags.{flag, flag_perm}
 use Rattle.imap_items.specs.FlagTexts.{is_flag_word}
-use Rattle.imap_items.specs.Spanned.{text_in}
 use Rattle.imap_items.proofs.FlagTexts.{flag-is, flag_spells, flag_perm_spells}
 
 read : {V : Type 0} → Bytes → V → Step V
@@ -67,9 +64,3 @@ flag_there m p q v le within is = there flag m p q v flags_utf8 flag_spells le w
 
 pub flag_perm_there : (m : Bytes) (p q : ℕ) (v : Bytes) → p ≤ q → q ≤ length m → step flag_perm (drop p m) ≡ Ok (drop q m, v) → step (gives as_text flag_perm) (drop p m) ≡ Ok (drop q m, decoded (between m p q))
 flag_perm_there m p q v le within is = there flag_perm m p q v flag_perms_utf8 flag_perm_spells le within is
-
-pub named_rests : (s : Span) (q : ℕ) (m : Bytes) → s.start ≤ s.end → s.end ≤ q → named_in (take q m) s ≡ named_in m s
-named_rests s q m ordered le = let e : Some (named_in (take q m) s) ≡ Some (named_in m s) = (some_rests s q ordered le).same m in cc
-
-pub text_rests : (s : Span) (q : ℕ) → s.start ≤ s.end → s.end ≤ q → Rests text_in q s
-text_rests s q ordered le = record { same = λ m. ap decoded (named_rests s q m ordered le) }

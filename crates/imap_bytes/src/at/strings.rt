@@ -1,7 +1,7 @@
 //! Strings at a position, as spans of their content. None takes memory.
 
 ghost use Rattle.std.specs.Prelude.{◌≡◌, ◌==◌, ◌||◌, ◌≤◌, length, drop, IfOk};
-ghost use Rattle.imap_grammar.specs.Positions.{AnswersAt, ExactlyAt, Ahead, Inside, MaybeInside, Lies, RestsOn, maybe_in, named_in};
+ghost use Rattle.imap_grammar.specs.Positions.{AnswersAt, ExactlyAt, Ahead, Inside, MaybeInside, Lies, maybe_in, named_in};
 ghost use Rattle.imap_grammar.specs.Memory.{NeverFails};
 ghost use Rattle.imap_grammar.specs.Step.{step, take_step};
 ghost use Rattle.imap_grammar.specs.Meaning.{begins};
@@ -214,7 +214,6 @@ pub fn nstring(m: &[u8], p: usize) -> Reached<Option<Span>>
     ensures answer { AnswersAt strings.nstring (λ x. maybe_in m.now x) m.now p result }
     ensures ahead { Ahead m.now p result }
     ensures inside { MaybeInside p result }
-    ensures rests { RestsOn maybe_in result }
     ensures no_failure { NeverFails result }
 {
     if opens_string(m, p) {

@@ -1,7 +1,7 @@
 //! Flags at a position, as spans of their texts.
 
 ghost use Rattle.std.specs.Prelude.{◌≤◌, length, drop, codes, map};
-ghost use Rattle.imap_grammar.specs.Positions.{AnswersAt, ExactlyAt, GivesAt, Ahead, Inside, EachInside, RestsOn, named_in};
+ghost use Rattle.imap_grammar.specs.Positions.{AnswersAt, ExactlyAt, GivesAt, Ahead, Inside, EachInside, named_in};
 ghost use Rattle.imap_grammar.specs.Memory.{NeverFails};
 ghost use Rattle.imap_grammar.specs.Step.{step};
 ghost use Rattle.imap_grammar.specs.Tags.{exactly_names};
@@ -95,12 +95,11 @@ pub(crate) fn flag_perm(m: &[u8], p: usize) -> Reached<&str>
 }
 
 // The text of a flag lies from p up to the position behind it.
-#[tactic(auto, using(crate::proofs::Spanned::flag_perm_there, crate::proofs::Spanned::text_rests), unfolding(crate::specs::Flags::flag_text))]
+#[tactic(auto, using(crate::proofs::Spanned::flag_perm_there), unfolding(crate::specs::Flags::flag_text))]
 fn flag_text(m: &[u8], p: usize) -> Reached<Span>
     requires { p ≤ length m.now }
     ensures steps { ExactlyAt (λ x. text_in m.now x) m.now result (step flags.flag_text (drop p m.now)) }
     ensures inside { Inside m.now p result }
-    ensures rests { RestsOn text_in result }
 {
     let (q, _) = flag_perm(m, p)?;
     Ok((q, Span { start: p, end: q }))
@@ -115,13 +114,11 @@ pub fn flag_list(alloc: Global, m: &[u8], p: usize) -> Reached<Vec<Span>>
     ensures answer { AnswersAt flags.flag_list (λ x. map (text_in m.now) x.items) m.now p result }
     ensures ahead { Ahead m.now p result }
     ensures inside { EachInside p result }
-    ensures rests { RestsOn (λ n x. map (text_in n) x.items) result }
 {
     let item = |k: usize|
         requires { k ≤ length m.now }
         ensures steps { ExactlyAt (λ x. text_in m.entry.now x) m.entry.now result (step flags.flag_text (drop k m.entry.now)) }
         ensures inside { Inside m.entry.now k result }
-        ensures rests { RestsOn text_in result }
     { flag_text(m, k) };
     parenthesized_list(alloc, item, m, p)
 }

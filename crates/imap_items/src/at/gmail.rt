@@ -1,7 +1,7 @@
 //! Gmail's labels at a position, as spans of their texts.
 
 ghost use Rattle.std.specs.Prelude.{◌≤◌, length, drop, map};
-ghost use Rattle.imap_grammar.specs.Positions.{AnswersAt, ExactlyAt, GivesAt, Ahead, Inside, EachInside, RestsOn};
+ghost use Rattle.imap_grammar.specs.Positions.{AnswersAt, ExactlyAt, GivesAt, Ahead, Inside, EachInside};
 ghost use Rattle.imap_grammar.specs.Step.{step};
 ghost use Rattle.imap_bytes.specs.Texts as texts;
 ghost use Rattle.imap_items.specs.Gmail as rules;
@@ -34,12 +34,11 @@ fn quoted_label(m: &[u8], p: usize) -> Reached<Span>
 }
 
 // A label: a flag, or a quoted string.
-#[tactic(auto, using(crate::proofs::Spanned::text_rests), unfolding(crate::specs::Gmail::gmail_label))]
+#[tactic(auto, unfolding(crate::specs::Gmail::gmail_label))]
 pub(crate) fn gmail_label(m: &[u8], p: usize) -> Reached<Span>
     requires { p ≤ length m.now }
     ensures steps { ExactlyAt (λ x. text_in m.now x) m.now result (step rules.gmail_label (drop p m.now)) }
     ensures inside { Inside m.now p result }
-    ensures rests { RestsOn text_in result }
 {
     first!(flag_label(m, p));
     quoted_label(m, p)
@@ -50,13 +49,11 @@ fn gmail_labels(alloc: Global, m: &[u8], p: usize) -> Reached<Vec<Span>>
     ensures steps { GivesAt (λ x. map (text_in m.now) x.items) m.now result (step rules.gmail_labels (drop p m.now)) }
     ensures ahead { Ahead m.now p result }
     ensures inside { EachInside p result }
-    ensures rests { RestsOn (λ n x. map (text_in n) x.items) result }
 {
     let label = |k: usize|
         requires { k ≤ length m.now }
         ensures steps { ExactlyAt (λ x. text_in m.entry.now x) m.entry.now result (step rules.gmail_label (drop k m.entry.now)) }
         ensures inside { Inside m.entry.now k result }
-        ensures rests { RestsOn text_in result }
     { gmail_label(m, k) };
     parenthesized_list(alloc, label, m, p)
 }
@@ -67,7 +64,6 @@ fn labels(alloc: Global, m: &[u8], p: usize) -> Reached<Vec<Span>>
     ensures steps { GivesAt (λ x. map (text_in m.now) x.items) m.now result (step rules.gmail_label_list (drop p m.now)) }
     ensures ahead { Ahead m.now p result }
     ensures inside { EachInside p result }
-    ensures rests { RestsOn (λ n x. map (text_in n) x.items) result }
 {
     let (p, _) = word(b"X-GM-LABELS ", m, p)?;
     gmail_labels(alloc, m, p)
@@ -83,7 +79,6 @@ pub fn gmail_label_list(alloc: Global, m: &[u8], p: usize) -> Reached<Vec<Span>>
     ensures answer { AnswersAt rules.gmail_label_list (λ x. map (text_in m.now) x.items) m.now p result }
     ensures ahead { Ahead m.now p result }
     ensures inside { EachInside p result }
-    ensures rests { RestsOn (λ n x. map (text_in n) x.items) result }
 {
     labels(alloc, m, p)
 }
