@@ -7,7 +7,7 @@ use Rattle.imap_grammar.specs.Step.{step}
 use Rattle.imap_grammar.specs.Text.{Bytes, Text, as_text, decoded}
 use Rattle.imap_grammar.proofs.Reading.{test-has}
 use Rattle.imap_items.proofs.Spanned.{utf8_decoded}
-use Rattle.imap_grammar.specs.Positions.{Rests}
+use Rattle.imap_shapes.specs.Spans.{Lookup, Rests}
 use Rattle.imap_shapes.specs.declared.shapes.envelopes.Envelope.{Envelope as Kept}
 use Rattle.imap_shapes.specs.declared.shapes.bodies.BodyStructure.{BodyStructure as Structure}
 use Rattle.imap_shapes.specs.EnvelopeValues.{envelope_seen}
@@ -16,11 +16,11 @@ use Rattle.imap_body.specs.declared.types.attributes.AttributeParts.TheVariants 
 use Rattle.imap_body.specs.AttributeValues.{BodyStructure, Envelope, parts_said}
 use Rattle.imap_body.specs.Attributes.{id_bytes}
 
-pub structure_rests : {S B : Type 0} (text : Bytes → S → Text) (bytes : Bytes → B → Text) (q : ℕ) (b : Box (Structure S B) Global) → Rests (λ n x. boxed_seen (text n) (bytes n) x) q b → Rests (λ n x. parts_said text bytes n x) q (parts.BodyStructure b)
-structure_rests text bytes q b h = record { same = λ m. ap (λ v. BodyStructure v) (h.same m) }
+pub structure_rests : {S B : Type 0} (text : Lookup → S → Text) (bytes : Lookup → B → Text) (q : ℕ) (b : Box (Structure S B) Global) → Rests (λ n x. boxed_seen (text n) (bytes n) x) q b → Rests (λ n x. parts_said text bytes n x) q (parts.BodyStructure b)
+structure_rests text bytes q b h = record { same = λ n k alike. ap (λ v. BodyStructure v) (h.same n k alike) }
 
-pub envelope_rests : {S B : Type 0} (text : Bytes → S → Text) (bytes : Bytes → B → Text) (q : ℕ) (b : Box (Kept B) Global) (x : Kept B) → b.value ≡ x → Rests (λ n e. envelope_seen (bytes n) e) q x → Rests (λ n e. parts_said text bytes n e) q (parts.Envelope b)
-envelope_rests text bytes q b x is h = record { same = λ m. rw is (ap (λ v. Envelope v) (h.same m)) }
+pub envelope_rests : {S B : Type 0} (text : Lookup → S → Text) (bytes : Lookup → B → Text) (q : ℕ) (b : Box (Kept B) Global) (x : Kept B) → b.value ≡ x → Rests (λ n e. envelope_seen (bytes n) e) q x → Rests (λ n e. parts_said text bytes n e) q (parts.Envelope b)
+envelope_rests text bytes q b x is h = record { same = λ n k alike. rw is (ap (λ v. Envelope v) (h.same n k alike)) }
 
 -- ---- the id of an object is UTF-8, so decoding changes nothing
 

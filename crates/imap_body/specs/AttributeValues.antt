@@ -5,13 +5,13 @@ use Rattle.std.specs.declared.alloc.Global.{Global}
 use Rattle.std.specs.declared.borrow.CowSlice.{CowSlice}
 use Rattle.std.specs.declared.borrow.CowStr.{CowStr}
 use Rattle.std.specs.declared.boxed.Box.{Box}
-use Rattle.imap_grammar.specs.Text.{Bytes, Text, text_of, lent_text}
+use Rattle.imap_grammar.specs.Text.{Text, text_of, lent_text}
 use Rattle.imap_grammar.specs.declared.at.span.Span.{Span}
 use Rattle.imap_sections.specs.SectionValues.{PathValue, path_value}
 use Rattle.imap_shapes.specs.Lent.{lent_ntext, lent_envelope, lent_body}
 use Rattle.imap_shapes.specs.EnvelopeValues.{EnvelopeValue, envelope_seen}
 use Rattle.imap_shapes.specs.BodyValues.{BodyValue, body_seen}
-use Rattle.imap_shapes.specs.Spans.{bytes_in, text_in, bytes_of, text_owned, bytes_owned}
+use Rattle.imap_shapes.specs.Spans.{Lookup, bytes_in, text_in, bytes_of, text_owned, bytes_owned}
 use Rattle.imap_structure.specs.Kept.{boxed_seen}
 use Rattle.imap_shapes.specs.declared.shapes.bodies.BodyStructure.{BodyStructure as Structure}
 use Rattle.imap_shapes.specs.declared.spans.SpannedText.{SpannedText}
@@ -66,13 +66,13 @@ AttributeKept S B = AttributeParts S B (Box (Structure S B) Global)
 abbrev pub AttributeSpans : Type 0
 AttributeSpans = AttributeKept SpannedText Span
 
--- the value that it stands for in m, by the values of its texts and byte strings
-abbrev pub parts_said : {S B : Type 0} → (Bytes → S → Text) → (Bytes → B → Text) → Bytes → AttributeKept S B → AttributeValue
-parts_said text bytes m x = attribute_seen (text m) (bytes m) (λ b. boxed_seen (text m) (bytes m) b) x
+-- the value that it stands for where spans are looked up so, by the values of its texts and byte strings
+abbrev pub parts_said : {S B : Type 0} → (Lookup → S → Text) → (Lookup → B → Text) → Lookup → AttributeKept S B → AttributeValue
+parts_said text bytes n x = attribute_seen (text n) (bytes n) (λ b. boxed_seen (text n) (bytes n) b) x
 
--- what the spans of an attribute name in m
-abbrev pub parts_in : Bytes → AttributeSpans → AttributeValue
-parts_in m x = parts_said text_in bytes_in m x
+-- what the spans of an attribute name
+abbrev pub parts_in : Lookup → AttributeSpans → AttributeValue
+parts_in n x = parts_said text_in bytes_in n x
 
 abbrev pub attribute_value : {Z : Type 0} → AttributeParts (CowStr Z) (CowSlice ℕ Z) (Structure (CowStr Z) (CowSlice ℕ Z)) → AttributeValue
 attribute_value x = attribute_seen text_of bytes_of (body_seen text_of bytes_of) x

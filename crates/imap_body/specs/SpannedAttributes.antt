@@ -1,5 +1,5 @@
 -- Attributes that are kept as positions of a message: what they name in one, and how they stand in it.
-use Rattle.std.specs.Prelude.{◌≡◌, ℕ, ◌+◌, ◌≤◌, List, [], ◌∷◌, drop, map, codes, Ok, Err}
+use Rattle.std.specs.Prelude.{◌≡◌, ℕ, ◌+◌, ◌-◌, ◌≤◌, List, [], ◌∷◌, take, drop, map, codes, Ok, Err}
 use Rattle.std.specs.declared.alloc.Global.{Global}
 use Rattle.std.specs.declared.vec.Vec.{Vec}
 use Rattle.imap_grammar.specs.Text.{Bytes, Text, as_text}
@@ -10,7 +10,7 @@ use Rattle.imap_grammar.specs.Step.{Step}
 use Rattle.imap_grammar.specs.Rule.{meaning}
 use Rattle.imap_body.specs.declared.spanned.SpannedAttribute.{SpannedAttribute}
 use Rattle.imap_shapes.specs.BodyValues.{BodyValue, body_seen}
-use Rattle.imap_shapes.specs.Spans.{bytes_in, text_in}
+use Rattle.imap_shapes.specs.Spans.{Lookup, Rests, bytes_in, text_in}
 use Rattle.imap_shapes.specs.declared.shapes.bodies.BodyStructure.{BodyStructure as Structure}
 use Rattle.imap_shapes.specs.declared.spans.SpannedText.{SpannedText}
 use Rattle.imap_shapes.specs.declared.spans.SpannedText.TheVariants as spanned
@@ -19,23 +19,24 @@ use Rattle.imap_body.specs.Attributes.{attribute}
 
 -- The value that the attribute stands for in m, by the values of its texts and byte strings. Its positions count from
 -- where its span starts, and name bytes of the span alone.
-abbrev pub attribute_said : {S B : Type 0} → (Bytes → S → Text) → (Bytes → B → Text) → Bytes → SpannedAttribute S B → AttributeValue
-attribute_said text bytes m s = parts_said text bytes (named_in m s.span) s.parts
+abbrev pub attribute_said : {S B : Type 0} → (Lookup → S → Text) → (Lookup → B → Text) → Bytes → SpannedAttribute S B → AttributeValue
+attribute_said text bytes m s = parts_said text bytes (named_in (named_in m s.span)) s.parts
 
 -- What it names in m.
 abbrev pub attribute_in : Bytes → SpannedAttribute SpannedText Span → AttributeValue
 attribute_in m s = attribute_said text_in bytes_in m s
 
 -- The attribute stands in m at p, and ends at q or before: the rule yields its value at p, and the rest begins where
--- its span ends.
-pub record StandsAt {S B : Type 0} (text : Bytes → S → Text) (bytes : Bytes → B → Text) (m : Bytes) (p q : ℕ) (s : SpannedAttribute S B) : Type 0 where
+-- its span ends. All its positions lie in its span (`inside`): counted from where that starts, none is behind its end.
+pub record StandsAt {S B : Type 0} (text : Lookup → S → Text) (bytes : Lookup → B → Text) (m : Bytes) (p q : ℕ) (s : SpannedAttribute S B) : Type 0 where
   pub start : s.span.start ≡ p
   pub ordered : p ≤ s.span.end
   pub within : s.span.end ≤ q
+  pub inside : Rests (λ n x. parts_said text bytes n x) (s.span.end - s.span.start) s.parts
   pub is : (meaning attribute).yields (drop p m) (attribute_said text bytes m s) (drop s.span.end m)
 
 -- They stand one behind another with a byte between, the first from p on, and end by q.
-abbrev pub TurnsAt : {S B : Type 0} → (Bytes → S → Text) → (Bytes → B → Text) → Bytes → ℕ → ℕ → List (SpannedAttribute S B) → Type 0
+abbrev pub TurnsAt : {S B : Type 0} → (Lookup → S → Text) → (Lookup → B → Text) → Bytes → ℕ → ℕ → List (SpannedAttribute S B) → Type 0
 TurnsAt text bytes m p q [] = Unit {0}
 TurnsAt text bytes m p q (s ∷ rest) = StandsAt text bytes m p q s × TurnsAt text bytes m (s.span.end + 1) q rest
 
@@ -44,12 +45,21 @@ abbrev pub InTurn : Bytes → ℕ → ℕ → List (SpannedAttribute SpannedText
 InTurn m p q xs = TurnsAt text_in bytes_in m p q xs
 
 -- It stands there, and ends at q.
-abbrev pub EndsAt : {S B : Type 0} → (Bytes → S → Text) → (Bytes → B → Text) → Bytes → ℕ → ℕ → SpannedAttribute S B → Type 0
+abbrev pub EndsAt : {S B : Type 0} → (Lookup → S → Text) → (Lookup → B → Text) → Bytes → ℕ → ℕ → SpannedAttribute S B → Type 0
 EndsAt text bytes m p q s = StandsAt text bytes m p q s × (s.span.end ≡ q)
+
+-- What x names in a message stands in its first q bytes.
+pub record Stands {A V : Type 0} (view : Bytes → A → V) (q : ℕ) (x : A) : Type 0 where
+  pub same : (m : Bytes) → view (take q m) x ≡ view m x
+
+-- What was read names what stands before the position that was reached.
+abbrev pub InFront : {A V : Type 0} → (Bytes → A → V) → Reached A → Type 0
+InFront view (Ok x) = Stands view x.0 x.1
+InFront view (Err e) = Unit {0}
 
 -- What a reader keeps of the attributes that it read from p on, where s is the rule's answer: s yields the values that
 -- they stand for in m; and they stand in turn from p on, and end at the position that was reached, or before.
-abbrev pub KeepsAt : {S B K : Type 0} → (Bytes → S → Text) → (Bytes → B → Text) → (List (SpannedAttribute S B) → List K → Type 0) → Bytes → ℕ → Reached (Vec K Global) → Step (List AttributeValue) → Type 0
+abbrev pub KeepsAt : {S B K : Type 0} → (Lookup → S → Text) → (Lookup → B → Text) → (List (SpannedAttribute S B) → List K → Type 0) → Bytes → ℕ → Reached (Vec K Global) → Step (List AttributeValue) → Type 0
 KeepsAt {S} {B} text bytes keeps m p (Ok x) s = (read : List (SpannedAttribute S B)) × keeps read x.1.items × (s ≡ Ok (drop x.0 m, map (attribute_said text bytes m) read)) × TurnsAt text bytes m p x.0 read
 KeepsAt text bytes keeps m p (Err e) s = Stops e s
 

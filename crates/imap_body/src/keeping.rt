@@ -1,7 +1,7 @@
 //! Lists of attributes at a position, whatever is kept of each: one reader for positions and for what these name.
 
 ghost use Rattle.std.specs.Prelude.{◌≡◌, ◌≤◌, ◌+◌, ◌++◌, ◌∷◌, [], List, length, drop, map, IfOk, OnOk};
-ghost use Rattle.imap_grammar.specs.Positions.{GivesAt, Ahead, RestsOn};
+ghost use Rattle.imap_grammar.specs.Positions.{GivesAt, Ahead, named_in};
 ghost use Rattle.imap_grammar.specs.Rule.{list1, ◌▹◌};
 ghost use Rattle.imap_grammar.specs.Step.{step};
 ghost use Rattle.imap_grammar.specs.Tags.{sp};
@@ -13,7 +13,7 @@ ghost use Rattle.imap_body.specs.AttributeValues.{attribute_value};
 ghost use Rattle.imap_grammar.specs.Text.{text_of};
 ghost use Rattle.imap_items.specs.Flags as flags;
 ghost use Rattle.imap_items.specs.Gmail as gmail;
-ghost use Rattle.imap_shapes.specs.Spans.{bytes_of, text_in};
+ghost use Rattle.imap_shapes.specs.Spans.{RestsOn, bytes_of, text_in};
 ghost use Rattle.imap_body.specs.SpannedAttributes.{attribute_said, EndsAt, KeepsAt};
 ghost use Rattle.imap_body.specs.Attributes as rules;
 
@@ -52,7 +52,7 @@ pub(crate) trait KeepAttribute: Keep + Drop {
     fn flags(&self, alloc: Global, m: &[u8], p: usize) -> Reached<Vec<Self::Text>>
         requires inside { p ≤ length m.now }
         requires serves { Self.serves self.now m.now }
-        ensures steps { GivesAt (λ x. map (Self.text_said m.now) x.items) m.now result (step flags.flag_list (drop p m.now)) }
+        ensures steps { GivesAt (λ x. map (Self.text_said (named_in m.now)) x.items) m.now result (step flags.flag_list (drop p m.now)) }
         ensures ahead { Ahead m.now p result }
         ensures rests { RestsOn (λ n x. map (Self.text_said n) x.items) result };
 
@@ -61,7 +61,7 @@ pub(crate) trait KeepAttribute: Keep + Drop {
     fn labels(&self, alloc: Global, m: &[u8], p: usize) -> Reached<Vec<Self::Text>>
         requires inside { p ≤ length m.now }
         requires serves { Self.serves self.now m.now }
-        ensures steps { GivesAt (λ x. map (Self.text_said m.now) x.items) m.now result (step gmail.gmail_label_list (drop p m.now)) }
+        ensures steps { GivesAt (λ x. map (Self.text_said (named_in m.now)) x.items) m.now result (step gmail.gmail_label_list (drop p m.now)) }
         ensures ahead { Ahead m.now p result }
         ensures rests { RestsOn (λ n x. map (Self.text_said n) x.items) result };
 
@@ -89,7 +89,7 @@ impl KeepAttribute for Positions {
 
     fn flags(&self, alloc: Global, m: &[u8], p: usize) -> Reached<Vec<SpannedText>>
         requires inside { p ≤ length m.now }
-        ensures steps { GivesAt (λ x. map (text_in m.now) x.items) m.now result (step flags.flag_list (drop p m.now)) }
+        ensures steps { GivesAt (λ x. map (text_in (named_in m.now)) x.items) m.now result (step flags.flag_list (drop p m.now)) }
         ensures ahead { Ahead m.now p result }
         ensures rests { RestsOn (λ n x. map (text_in n) x.items) result }
     {
@@ -99,7 +99,7 @@ impl KeepAttribute for Positions {
 
     fn labels(&self, alloc: Global, m: &[u8], p: usize) -> Reached<Vec<SpannedText>>
         requires inside { p ≤ length m.now }
-        ensures steps { GivesAt (λ x. map (text_in m.now) x.items) m.now result (step gmail.gmail_label_list (drop p m.now)) }
+        ensures steps { GivesAt (λ x. map (text_in (named_in m.now)) x.items) m.now result (step gmail.gmail_label_list (drop p m.now)) }
         ensures ahead { Ahead m.now p result }
         ensures rests { RestsOn (λ n x. map (text_in n) x.items) result }
     {
@@ -196,9 +196,9 @@ fn spaced_attribute<K: KeepAttribute>(
 ) -> Reached<SpannedAttribute<K::Text, K::Bytes>>
     requires inside { p ≤ length m.now }
     requires serves { K.serves keep.now m.now }
-    ensures steps { GivesAt (λ x. attribute_said K.text_said K.bytes_said m.now x) m.now result (step (sp ▹ rules.attribute) (drop p m.now)) }
+    ensures steps { GivesAt (λ x. attribute_said K.text_said K.bytes_said (named_in m.now) x) m.now result (step (sp ▹ rules.attribute) (drop p m.now)) }
     ensures ahead { Ahead m.now p result }
-    ensures stands { IfOk result (λ x. EndsAt K.text_said K.bytes_said m.now (p + 1) x.0 x.1) }
+    ensures stands { IfOk result (λ x. EndsAt K.text_said K.bytes_said (named_in m.now) (p + 1) x.0 x.1) }
 {
     let (p, _) = tag(b" ", m, p)?;
     spanned_attribute(keep, alloc, m, p)

@@ -1,10 +1,10 @@
 //! Attributes of a message as positions in it: they keep no bytes, and tell their values of any message that has bytes in these places.
 
 ghost use Rattle.std.specs.Prelude.{◌≡◌, ◌≤◌, ◌+◌, ◌++◌, ◌∷◌, [], length, drop, map, IfOk, OnOk};
-ghost use Rattle.imap_grammar.specs.Positions.{AnswersAt, GivesAt, Ahead, RestsOn};
+ghost use Rattle.imap_grammar.specs.Positions.{AnswersAt, GivesAt, Ahead, named_in};
 ghost use Rattle.imap_grammar.specs.Step.{step};
 ghost use Rattle.imap_body.specs.AttributeValues.{attribute_value, kept_value, parts_in};
-ghost use Rattle.imap_body.specs.SpannedAttributes.{attribute_in, attribute_said, EndsAt, InTurn};
+ghost use Rattle.imap_body.specs.SpannedAttributes.{attribute_in, attribute_said, EndsAt, InFront, InTurn};
 ghost use Rattle.imap_body.specs.Attributes as rules;
 
 use crate::at::attributes::attribute;
@@ -66,7 +66,7 @@ impl AttributeSpans {
         alloc: Global,
         m: &'a [u8],
     ) -> Result<AttributeValue<'a>, AllocError>
-        ensures { IfOk result (λ v. attribute_value v ≡ parts_in m.now self.now) }
+        ensures { IfOk result (λ v. attribute_value v ≡ parts_in (named_in m.now) self.now) }
     {
         let texts = NamedTexts { alloc, m };
         self.try_map(alloc, &texts, &NamedBytes { m }, &texts)
@@ -104,7 +104,7 @@ pub fn attribute_list_at(alloc: Global, m: &[u8], p: usize) -> Reached<Vec<Spann
     ensures steps { GivesAt (λ x. map (attribute_in m.now) x.items) m.now result (step rules.attribute_list (drop p m.now)) }
     ensures answer { AnswersAt rules.attribute_list (λ x. map (attribute_in m.now) x.items) m.now p result }
     ensures ahead { Ahead m.now p result }
-    ensures rests { RestsOn (λ n x. map (attribute_in n) x.items) result }
+    ensures rests { InFront (λ n x. map (attribute_in n) x.items) result }
     ensures spans { IfOk result (λ x. InTurn m.now (p + 1) x.0 x.1.items) }
 {
     kept_list(&Positions, alloc, m, p)

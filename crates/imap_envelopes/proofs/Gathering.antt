@@ -1,15 +1,14 @@
 -- A loop that reads one more as often as there is one, and keeps what it read.
-use Rattle.std.proofs.Common.{arith, length, ◌≡◌, ◌≢◌, ℕ, ◌<◌, ◌≤◌, true, List, [], ◌∷◌, ◌++◌, map, take, drop, Ok, Err, refl, sym, ap, ◌∙◌, append_assoc}
+use Rattle.std.proofs.Common.{arith, length, ◌≡◌, ◌≢◌, ℕ, ◌<◌, ◌≤◌, true, List, [], ◌∷◌, ◌++◌, map, drop, Ok, Err, refl, sym, ap, ◌∙◌, append_assoc}
 use Rattle.std.proofs.lemmas.List.{append-nil, map-append}
 use Rattle.imap_grammar.specs.declared.answer.Err.{Err as Fault}
 use Rattle.imap_grammar.specs.declared.answer.Err.TheVariants.{Incomplete, Error, Failure}
 use Rattle.imap_grammar.specs.Answer.{Stops}
 use Rattle.imap_grammar.specs.Rule.{Rule, gives, opt, many, some1, ◌⨾◌}
 use Rattle.imap_grammar.specs.Step.{Step, ◌>>=◌, step, beside, many_step}
-use Rattle.imap_grammar.specs.Positions.{Rests}
 use Rattle.imap_grammar.proofs.Consumption.{consumes, less}
 use Rattle.imap_grammar.proofs.Loops.{onto, onto_nothing, reads_more, reads_end, after_start, after_fault}
-use Rattle.imap_grammar.proofs.Positions.{further, rests_more}
+use Rattle.imap_grammar.proofs.Positions.{further}
 
 -- Of a list that s reads, vs were read, and the rest of it is still to be read by `more` from k on.
 pub record Gathered {V : Type 0} (s : Step (List V)) (more : Rule V) (vs : List V) (k : List ℕ) : Type 0 where
@@ -88,13 +87,3 @@ one_there view s k (x ∷ xs) few read = rw read refl
 -- what was read goes further
 pub onward : {V : Type 0} (a : Rule V) (m : List ℕ) (p q : ℕ) (x : V) → step a (drop p m) ≡ Ok (drop q m, x) → consumes a ≡ true → p < q
 onward a m p q x here c = further m p q (less a (drop p m) (drop q m) x c here)
-
--- ---- what the list rests on
-
-pub alone : {A V : Type 0} (view : List ℕ → A → V) (q : ℕ) (x : A) → Rests view q x → Rests (λ n xs. map (view n) xs) q (x ∷ [])
-alone view q x h = record { same = λ n. ap (λ y. y ∷ []) (h.same n) }
-
-pub together : {A V : Type 0} (view : List ℕ → A → V) (q r : ℕ) (xs : List A) (x : A) → q ≤ r → Rests (λ n ys. map (view n) ys) q xs → Rests view r x → Rests (λ n ys. map (view n) ys) r (xs ++ x ∷ [])
-together view q r xs x le front h =
-    let further = rests_more r le front in
-    record { same = λ n. map-append (view (take r n)) xs (x ∷ []) ∙ ap (λ ys. ys ++ view (take r n) x ∷ []) (further.same n) ∙ ap (λ y. map (view n) xs ++ y ∷ []) (h.same n) ∙ sym (map-append (view n) xs (x ∷ [])) }

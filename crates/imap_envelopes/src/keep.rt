@@ -2,7 +2,7 @@
 
 ghost use Rattle.std.specs.Prelude.{◌≡◌, IfOk};
 ghost use Rattle.imap_grammar.specs.Text.{Bytes, Text, text_of};
-ghost use Rattle.imap_shapes.specs.Spans.{bytes_of, bytes_in, text_in};
+ghost use Rattle.imap_shapes.specs.Spans.{Lookup, bytes_of, bytes_in, text_in};
 ghost use Rattle.imap_envelopes.specs.Keeping.{Says};
 
 use imap_shapes::spans::{Span, SpannedText};
@@ -19,11 +19,11 @@ pub trait Keep {
     /// It keeps strings of this message.
     ghost serves: { Self → Bytes → Type 0 };
 
-    /// What a byte string that is kept says, where it is looked up in this message.
-    ghost bytes_said: { Bytes → Self.Bytes → Text };
+    /// What a byte string that is kept says, where spans are looked up so.
+    ghost bytes_said: { Lookup → Self.Bytes → Text };
 
-    /// What a text that is kept says, where it is looked up in this message.
-    ghost text_said: { Bytes → Self.Text → Text };
+    /// What a text that is kept says, where spans are looked up so.
+    ghost text_said: { Lookup → Self.Text → Text };
 
     /// Keeps a byte string. No memory.
     fn bytes(&self, m: &[u8], span: Span) -> Self::Bytes
@@ -77,9 +77,9 @@ impl<'a> Keep for Named<'a> {
 
     ghost serves = { λ k m. k.m.now ≡ m };
 
-    ghost bytes_said = { λ m t. bytes_of t };
+    ghost bytes_said = { λ n t. bytes_of t };
 
-    ghost text_said = { λ m t. text_of t };
+    ghost text_said = { λ n t. text_of t };
 
     // What it gives is borrowed from the message that it holds, so that it may outlive the loan of m.
     fn bytes(&self, _m: &[u8], span: Span) -> CowSlice<'a, u8> {

@@ -11,7 +11,6 @@ use Rattle.imap_grammar.specs.declared.answer.Needed.TheVariants.{Unknown}
 use Rattle.imap_grammar.specs.Answer.{Answers, Returned, Stops, Refuses}
 use Rattle.imap_grammar.specs.Classes.{is_digit}
 use Rattle.imap_grammar.specs.Meaning.{differs, is_begun}
-use Rattle.imap_grammar.specs.Positions.{Rests}
 use Rattle.imap_grammar.specs.Rule.{Rule, meaning, tag_by, gives, ◌⨾◌, ◌or◌}
 use Rattle.imap_grammar.specs.Starts.{may_start}
 use Rattle.imap_grammar.specs.Step.{Step, step, ◌>>=◌, and_then}
@@ -24,6 +23,7 @@ use Rattle.imap_bytes.specs.Numbers.{number, digits}
 use Rattle.imap_grammar.specs.declared.at.span.Span.{Span}
 use Rattle.imap_shapes.specs.declared.spans.SpannedText.{SpannedText}
 use Rattle.imap_body.specs.declared.spanned.SpannedAttribute.{SpannedAttribute}
+use Rattle.imap_body.specs.SpannedAttributes.{Stands}
 use Rattle.imap_data.specs.MailboxData.{exists, recent}
 use Rattle.imap_data.specs.Annotations.{metadata_solicited, metadata_unsolicited}
 use Rattle.imap_items.specs.Capabilities.{capability_data, enabled_data}
@@ -252,7 +252,7 @@ unfolding Answers
 fault_kept m (Ok x) e h is = absurd cc
 fault_kept m (Err d) e h is = let same : d ≡ e = cc in subst (Refuses (meaning response) m) same h
 
-pub kept : (m : Bytes) (q : ℕ) (x : ℕ × Vec (SpannedAttribute SpannedText Span)) (k : KeptFetch) → step fetch_line m ≡ Ok (drop q m, fetch_in m x) → Rests fetch_in q x → k.bytes.items ≡ take q m → k.number ≡ x.0 → k.attributes ≡ x.1 → Keeps m (Ok (Some k))
+pub kept : (m : Bytes) (q : ℕ) (x : ℕ × Vec (SpannedAttribute SpannedText Span)) (k : KeptFetch) → step fetch_line m ≡ Ok (drop q m, fetch_in m x) → Stands fetch_in q x → k.bytes.items ≡ take q m → k.number ≡ x.0 → k.attributes ≡ x.1 → Keeps m (Ok (Some k))
 kept m q x k reads rests same_bytes same_number same_attributes =
     let says : fetch_in m x ≡ Fetch k.number (attributes_of k) = sym (rests.same m) ∙ rw (same_bytes, same_number, same_attributes) refl in (
       drop q m,

@@ -1,10 +1,10 @@
 //! Fetches that are kept: the bytes of one `FETCH` once, and its attributes as positions in them.
 
 ghost use Rattle.std.specs.Prelude.{◌≡◌, ◌≤◌, ◌<◌, Some, drop, length, map, slice_get, IfOk};
-ghost use Rattle.imap_grammar.specs.Positions.{Ahead, ExactlyAt, GivesAt, RestsOn, Inside, named_in};
+ghost use Rattle.imap_grammar.specs.Positions.{Ahead, ExactlyAt, GivesAt, Inside, named_in};
 ghost use Rattle.imap_grammar.specs.Step.{step};
 ghost use Rattle.imap_body.specs.AttributeValues.{attribute_value};
-ghost use Rattle.imap_body.specs.SpannedAttributes.{attribute_in};
+ghost use Rattle.imap_body.specs.SpannedAttributes.{InFront, attribute_in};
 ghost use Rattle.imap_proto.specs.Kept.{Keeps, attributes_of, without_value};
 ghost use Rattle.imap_proto.specs.Responses.{fetch_in};
 ghost use Rattle.imap_proto.specs.Lines as rule;
@@ -36,7 +36,7 @@ fn fetched(alloc: Global, m: &[u8], p: usize) -> Reached<Vec<SpannedAttribute>>
     requires { p ≤ length m.now }
     ensures steps { GivesAt (λ x. map (attribute_in m.now) x.items) m.now result (step rule.fetched (drop p m.now)) }
     ensures ahead { Ahead m.now p result }
-    ensures rests { RestsOn (λ n x. map (attribute_in n) x.items) result }
+    ensures rests { InFront (λ n x. map (attribute_in n) x.items) result }
 {
     let (p, _) = word(b" FETCH ", m, p)?;
     attribute_list_at(alloc, m, p)
@@ -47,7 +47,7 @@ fn fetched(alloc: Global, m: &[u8], p: usize) -> Reached<Vec<SpannedAttribute>>
 fn fetch_line(alloc: Global, m: &[u8]) -> Reached<(u32, Vec<SpannedAttribute>)>
     ensures steps { GivesAt (λ x. fetch_in m.now x) m.now result (step rule.fetch_line m.now) }
     ensures within { IfOk result (λ x. x.0 ≤ length m.now) }
-    ensures rests { RestsOn fetch_in result }
+    ensures rests { InFront fetch_in result }
 {
     let (p, _) = tag(b"* ", m, 0)?;
     let (p, number) = number(m, p)?;

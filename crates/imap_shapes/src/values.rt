@@ -2,6 +2,7 @@
 
 ghost use Rattle.std.specs.Prelude.{◌≡◌, IfOk};
 ghost use Rattle.std.specs.Option.{option_map};
+ghost use Rattle.imap_grammar.specs.Positions.{named_in};
 ghost use Rattle.imap_grammar.specs.Text.{text_of};
 ghost use Rattle.imap_shapes.specs.Spans.{bytes_of, bytes_in, text_in};
 ghost use Rattle.imap_shapes.specs.EnvelopeValues.{address_seen};
@@ -17,7 +18,7 @@ use std::borrow::CowSlice;
 
 // The bytes that a span names in m, if there is one.
 fn lent<'a>(m: &'a [u8], bytes: &Option<Span>) -> Option<CowSlice<'a, u8>>
-    ensures { option_map bytes_of result ≡ option_map (bytes_in m.now) bytes.now }
+    ensures { option_map bytes_of result ≡ option_map (bytes_in (named_in m.now)) bytes.now }
 {
     match bytes {
         None => None,
@@ -28,7 +29,7 @@ fn lent<'a>(m: &'a [u8], bytes: &Option<Span>) -> Option<CowSlice<'a, u8>>
 impl shapes::envelopes::Address<Span> {
     /// The address that its spans name in m. No memory.
     pub fn value<'a>(&self, m: &'a [u8]) -> Address<'a>
-        ensures { address_seen bytes_of result ≡ address_seen (bytes_in m.now) self.now }
+        ensures { address_seen bytes_of result ≡ address_seen (bytes_in (named_in m.now)) self.now }
     {
         Address {
             name: lent(m, &self.name),
@@ -43,7 +44,7 @@ impl shapes::bodies::BodyStructure<SpannedText, Span> {
     /// The body that its spans name in m. It takes memory for lists and boxes, and for texts that are not UTF-8; `Err`:
     /// memory ran out.
     pub fn value<'a>(&self, alloc: Global, m: &'a [u8]) -> Result<BodyStructure<'a>, AllocError>
-        ensures { IfOk result (λ b. body_seen text_of bytes_of b ≡ body_seen (text_in m.now) (bytes_in m.now) self.now) }
+        ensures { IfOk result (λ b. body_seen text_of bytes_of b ≡ body_seen (text_in (named_in m.now)) (bytes_in (named_in m.now)) self.now) }
     {
         self.try_map(alloc, &NamedTexts { alloc, m }, &NamedBytes { m })
     }

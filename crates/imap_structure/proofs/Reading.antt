@@ -1,7 +1,6 @@
 -- What a body says that was made of the parts that were kept, and what it rests on.
-use Rattle.std.proofs.Common.{◌≡◌, ℕ, List, refl, sym, ◌∙◌, map, take, codes, Vec, Box, Global, Ok}
-use Rattle.imap_grammar.specs.Text.{Bytes, Text, as_text}
-use Rattle.imap_grammar.specs.Positions.{Rests}
+use Rattle.std.proofs.Common.{◌≡◌, ℕ, List, refl, sym, ◌∙◌, map, codes, Vec, Box, Global, Ok}
+use Rattle.imap_grammar.specs.Text.{Text, as_text}
 use Rattle.imap_shapes.specs.declared.shapes.envelopes.Envelope.{Envelope}
 use Rattle.imap_shapes.specs.declared.shapes.fields.BodyFields.{BodyFields}
 use Rattle.imap_shapes.specs.declared.shapes.extensions.BodyExt1Part.{BodyExt1Part}
@@ -24,6 +23,7 @@ use Rattle.imap_structure.specs.Fields.{body_fields}
 use Rattle.imap_structure.specs.Extensions.{body_ext_1part, body_ext_mpart}
 use Rattle.imap_structure.specs.Kept.{boxed_seen}
 use Rattle.imap_structure.specs.Bodies.{common_of, single_of, basic_of, message_word, body_type_text, body_type_basic, body_type_msg, body_type_mpart, some_bodies, body as body_at}
+use Rattle.imap_shapes.specs.Spans.{Lookup, Rests}
 
 abbrev pub common_parts : {S : Type 0} → S → S → BodyFields S → BodyExt1Part S → BodyContentCommon S
 common_parts ty subtype fields ext = record { ty = record { ty = ty; subtype = subtype; params = fields.param }; disposition = ext.disposition; language = ext.language; location = ext.location }
@@ -96,7 +96,7 @@ module _ {S B : Type 0} (f : S → Text) (g : B → Text) where
 
 -- ---- what they rest on
 
-module _ {S B : Type 0} (said : Bytes → S → Text) (told : Bytes → B → Text) (q : ℕ) where
+module _ {S B : Type 0} (said : Lookup → S → Text) (told : Lookup → B → Text) (q : ℕ) where
   abbrev Text_rests : S → Type 0
   Text_rests x = Rests said q x
 
@@ -111,24 +111,24 @@ module _ {S B : Type 0} (said : Bytes → S → Text) (told : Bytes → B → Te
 
   pub text_rests : (ty subtype : S) (fields : BodyFields S) (lines : ℕ) (ext : BodyExt1Part S) → Text_rests ty → Text_rests subtype → Fields_rest fields → Ext_rests ext
       → Body_rests (body.Text (common_parts ty subtype fields ext) (single_parts fields ext) lines ext.extension)
-  text_rests ty subtype fields lines ext t s f e = record { same = λ m. text_read (said (take q m)) (told (take q m)) ty subtype fields lines ext ∙ rw (t.same m, s.same m, f.same m, e.same m) refl ∙ sym (text_read (said m) (told m) ty subtype fields lines ext) }
+  text_rests ty subtype fields lines ext t s f e = record { same = λ n k alike. text_read (said n) (told n) ty subtype fields lines ext ∙ rw (t.same n k alike, s.same n k alike, f.same n k alike, e.same n k alike) refl ∙ sym (text_read (said k) (told k) ty subtype fields lines ext) }
 
   pub basic_rests : (ty subtype : S) (fields : BodyFields S) (ext : BodyExt1Part S) → Text_rests ty → Text_rests subtype → Fields_rest fields → Ext_rests ext
       → Body_rests (body.Basic (common_parts ty subtype fields ext) (single_parts fields ext) ext.extension)
-  basic_rests ty subtype fields ext t s f e = record { same = λ m. basic_read (said (take q m)) (told (take q m)) ty subtype fields ext ∙ rw (t.same m, s.same m, f.same m, e.same m) refl ∙ sym (basic_read (said m) (told m) ty subtype fields ext) }
+  basic_rests ty subtype fields ext t s f e = record { same = λ n k alike. basic_read (said n) (told n) ty subtype fields ext ∙ rw (t.same n k alike, s.same n k alike, f.same n k alike, e.same n k alike) refl ∙ sym (basic_read (said k) (told k) ty subtype fields ext) }
 
   pub message_rests : (ty subtype : S) (fields : BodyFields S) (envelope : Envelope B) (inner : Box (BodyStructure S B) Global) (lines : ℕ) (ext : BodyExt1Part S)
       → Text_rests ty → Text_rests subtype → Fields_rest fields → Rests (λ n y. envelope_seen (told n) y) q envelope → Body_rests inner.value → Ext_rests ext
       → Body_rests (body.Message (common_parts ty subtype fields ext) (single_parts fields ext) envelope inner lines ext.extension)
-  message_rests ty subtype fields envelope inner lines ext t s f v b e = record { same = λ m. message_read (said (take q m)) (told (take q m)) ty subtype fields envelope inner lines ext ∙ rw (t.same m, s.same m, f.same m, v.same m, b.same m, e.same m) refl ∙ sym (message_read (said m) (told m) ty subtype fields envelope inner lines ext) }
+  message_rests ty subtype fields envelope inner lines ext t s f v b e = record { same = λ n k alike. message_read (said n) (told n) ty subtype fields envelope inner lines ext ∙ rw (t.same n k alike, s.same n k alike, f.same n k alike, v.same n k alike, b.same n k alike, e.same n k alike) refl ∙ sym (message_read (said k) (told k) ty subtype fields envelope inner lines ext) }
 
   pub multipart_rests : (bodies : Vec (BodyStructure S B) Global) (ty subtype : S) (ext : BodyExtMPart S) → Rests (λ n x. map (body_seen (said n) (told n)) x.items) q bodies → Text_rests ty → Text_rests subtype → Rests (λ n y. ext_mpart_seen (said n) y) q ext
       → Body_rests (body.Multipart (multipart_parts ty subtype ext) bodies ext.extension)
-  multipart_rests bodies ty subtype ext b t s e = record { same = λ m. multipart_read (said (take q m)) (told (take q m)) bodies ty subtype ext ∙ rw (b.same m, t.same m, s.same m, e.same m) refl ∙ sym (multipart_read (said m) (told m) bodies ty subtype ext) }
+  multipart_rests bodies ty subtype ext b t s e = record { same = λ n k alike. multipart_read (said n) (told n) bodies ty subtype ext ∙ rw (b.same n k alike, t.same n k alike, s.same n k alike, e.same n k alike) refl ∙ sym (multipart_read (said k) (told k) bodies ty subtype ext) }
 
   -- a boxed body rests on what the body does
   pub boxed_rests : (b : Box (BodyStructure S B) Global) (x : BodyStructure S B) → b.value ≡ x → Body_rests x → Rests (λ n y. boxed_seen (said n) (told n) y) q b
-  boxed_rests b x is h = record { same = λ m. rw is (h.same m) }
+  boxed_rests b x is h = record { same = λ n k alike. rw is (h.same n k alike) }
 
   pub unboxed_rests : (b : Box (BodyStructure S B) Global) → Rests (λ n y. boxed_seen (said n) (told n) y) q b → Body_rests b.value
-  unboxed_rests b h = record { same = λ m. h.same m }
+  unboxed_rests b h = record { same = λ n k alike. h.same n k alike }

@@ -1,14 +1,14 @@
 -- What an extension says, by its kinds, and what it rests on.
-use Rattle.std.proofs.Common.{◌≡◌, ℕ, sym, ap, ◌∙◌, map, take, Vec, Global, Option}
+use Rattle.std.proofs.Common.{◌≡◌, ℕ, sym, ap, ◌∙◌, map, Vec, Global, Option}
 use Rattle.std.specs.Option.{option_map}
-use Rattle.imap_grammar.specs.Text.{Bytes, Text}
-use Rattle.imap_grammar.specs.Positions.{Rests}
+use Rattle.imap_grammar.specs.Text.{Text}
 use Rattle.imap_shapes.specs.declared.shapes.extensions.BodyExtension.{BodyExtension}
 use Rattle.imap_shapes.specs.declared.shapes.extensions.BodyExtension.TheVariants as extension
 use Rattle.imap_shapes.specs.declared.shapes.extensions.BodyExtension.TheOpen as layer
 use Rattle.imap_shapes.specs.declared.shapes.extensions.BodyExtension.TheFolds.{fold-roll-BodyExtension}
 use Rattle.imap_shapes.specs.ExtensionValues.{ExtensionValue, Num, Str, Listed, extensions_of, extension_step, extension_seen}
 use Rattle.imap_shapes.proofs.Trees.{extension_list_seen}
+use Rattle.imap_shapes.specs.Spans.{Lookup, Rests}
 
 pub number_seen : {S : Type 0} (f : S → Text) (n : ℕ) → extension_seen f (extension.Num n) ≡ Num n
 number_seen {S} f n = ap (extension_seen f) (sym (extension.rolls-Num n)) ∙ fold-roll-BodyExtension S ExtensionValue (extension_step f) (layer.Num n)
@@ -16,12 +16,12 @@ number_seen {S} f n = ap (extension_seen f) (sym (extension.rolls-Num n)) ∙ fo
 pub string_seen : {S : Type 0} (f : S → Text) (x : Option S) → extension_seen f (extension.Str x) ≡ Str (option_map f x)
 string_seen {S} f x = ap (extension_seen f) (sym (extension.rolls-Str x)) ∙ fold-roll-BodyExtension S ExtensionValue (extension_step f) (layer.Str x)
 
-module _ {S : Type 0} (said : Bytes → S → Text) (q : ℕ) where
-  pub number_rests : (n : ℕ) → Rests (λ k x. extension_seen (said k) x) q (extension.Num n)
-  number_rests n = record { same = λ m. number_seen (said (take q m)) n ∙ sym (number_seen (said m) n) }
+module _ {S : Type 0} (said : Lookup → S → Text) (q : ℕ) where
+  pub number_rests : (i : ℕ) → Rests (λ k x. extension_seen (said k) x) q (extension.Num i)
+  number_rests i = record { same = λ n k alike. number_seen (said n) i ∙ sym (number_seen (said k) i) }
 
   pub string_rests : (x : Option S) → Rests (λ k y. option_map (said k) y) q x → Rests (λ k y. extension_seen (said k) y) q (extension.Str x)
-  string_rests x h = record { same = λ m. string_seen (said (take q m)) x ∙ ap (λ t. Str t) (h.same m) ∙ sym (string_seen (said m) x) }
+  string_rests x h = record { same = λ n k alike. string_seen (said n) x ∙ ap (λ t. Str t) (h.same n k alike) ∙ sym (string_seen (said k) x) }
 
   pub list_rests : (v : Vec (BodyExtension S) Global) → Rests (λ k x. map (extension_seen (said k)) x.items) q v → Rests (λ k x. extension_seen (said k) x) q (extension.List v)
-  list_rests v h = record { same = λ m. extension_list_seen (said (take q m)) v ∙ ap (λ es. Listed (extensions_of es)) (h.same m) ∙ sym (extension_list_seen (said m) v) }
+  list_rests v h = record { same = λ n k alike. extension_list_seen (said n) v ∙ ap (λ es. Listed (extensions_of es)) (h.same n k alike) ∙ sym (extension_list_seen (said k) v) }

@@ -5,25 +5,25 @@ use Rattle.std.specs.declared.boxed.Box.{Box}
 use Rattle.imap_grammar.specs.declared.answer.Err.{Err as Fault}
 use Rattle.imap_grammar.specs.Text.{Bytes, Text}
 use Rattle.imap_grammar.specs.Answer.{Stops}
-use Rattle.imap_grammar.specs.Positions.{Rests}
+use Rattle.imap_grammar.specs.Positions.{named_in}
 use Rattle.imap_grammar.specs.Step.{Step}
 use Rattle.imap_shapes.specs.declared.shapes.bodies.BodyStructure.{BodyStructure}
 use Rattle.imap_shapes.specs.BodyValues.{BodyValue, body_seen}
+use Rattle.imap_shapes.specs.Spans.{Lookup, Rests}
 
 -- in its box
 abbrev pub boxed_seen : {S B : Type 0} → (S → Text) → (B → Text) → Box (BodyStructure S B) Global → BodyValue
 boxed_seen f g b = body_seen f g b.value
 
--- The new list is the old one and one element more, whose value in m is what the step yields. That value depends only
--- on the bytes before q.
-pub record OneMore {A V : Type 0} (view : Bytes → A → V) (m : Bytes) (old new : List A) (q : ℕ) (s : Step V) : Type 0 where
+-- The new list is the old one and one element more, whose value in m is what the step yields. Its spans lie before q.
+pub record OneMore {A V : Type 0} (view : Lookup → A → V) (m : Bytes) (old new : List A) (q : ℕ) (s : Step V) : Type 0 where
   pub one : A
   pub behind : new ≡ old ++ one ∷ []
-  pub read : s ≡ Ok (drop q m, view m one)
+  pub read : s ≡ Ok (drop q m, view (named_in m) one)
   pub rests : Rests view q one
 
 -- What the step yields was put behind the old ones, unless memory ran out.
-abbrev pub PutsAt : {A V : Type 0} → (Bytes → A → V) → Bytes → List A → List A → Result ℕ Fault → Step V → Type 0
+abbrev pub PutsAt : {A V : Type 0} → (Lookup → A → V) → Bytes → List A → List A → Result ℕ Fault → Step V → Type 0
 PutsAt view m old new (Ok q) s = OneMore view m old new q s
 PutsAt view m old new (Err e) s = Stops e s
 

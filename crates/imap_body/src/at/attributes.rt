@@ -2,10 +2,10 @@
 
 ghost use Rattle.std.specs.Prelude.{◌≡◌, ◌≤◌, ◌<◌, length, drop, position, IfSome};
 ghost use Rattle.imap_grammar.specs.Meaning.{outside};
-ghost use Rattle.imap_grammar.specs.Positions.{ExactlyAt, GivesAt, Ahead, Inside, RestsOn, named_in};
+ghost use Rattle.imap_grammar.specs.Positions.{ExactlyAt, GivesAt, Ahead, Inside, named_in};
 ghost use Rattle.imap_grammar.specs.Rule.{opt, run0, run1};
 ghost use Rattle.imap_grammar.specs.Step.{step};
-ghost use Rattle.imap_items.specs.Spanned.{text_in};
+ghost use Rattle.imap_shapes.specs.Spans.{RestsOn, text_in};
 ghost use Rattle.imap_body.specs.AttributeValues.{parts_said};
 ghost use Rattle.imap_body.specs.Attributes as rules;
 
@@ -14,12 +14,12 @@ use crate::types::attributes::{AttributeKept, AttributeParts};
 use imap_bytes::at::Reached;
 use imap_bytes::at::numbers::{number, number_64};
 use imap_bytes::at::span::Span;
-use imap_bytes::at::strings::{astring_chars, atom, nil, nstring, string};
+use imap_bytes::at::strings::{astring_chars, atom, nil, nstring};
 use imap_bytes::at::tags::{cut0, cut1, maybe_space, tag, word};
 use imap_bytes::strings::as_utf8;
 use imap_bytes::{Err, Needed, first, maybe};
 use imap_envelopes::at::envelopes::envelope;
-use imap_envelopes::at::texts::{byte_string, spaced_byte_string};
+use imap_envelopes::at::texts::{byte_string, spaced_byte_string, string_text};
 use imap_envelopes::kept::kept_bytes;
 use imap_sections::at::sections::section;
 use imap_shapes::made;
@@ -56,7 +56,7 @@ fn section_contents<K: KeepAttribute>(
 ) -> Reached<AttributeKept<K::Text, K::Bytes>>
     requires inside { p ≤ length m.now }
     requires serves { K.serves keep.now m.now }
-    ensures steps { GivesAt (λ x. parts_said K.text_said K.bytes_said m.now x) m.now result (step rules.section_contents (drop p m.now)) }
+    ensures steps { GivesAt (λ x. parts_said K.text_said K.bytes_said (named_in m.now) x) m.now result (step rules.section_contents (drop p m.now)) }
     ensures ahead { Ahead m.now p result }
     ensures rests { RestsOn (λ n x. parts_said K.text_said K.bytes_said n x) result }
 {
@@ -85,7 +85,7 @@ pub(crate) fn msg_att_body_section<K: KeepAttribute>(
 ) -> Reached<AttributeKept<K::Text, K::Bytes>>
     requires inside { p ≤ length m.now }
     requires serves { K.serves keep.now m.now }
-    ensures steps { GivesAt (λ x. parts_said K.text_said K.bytes_said m.now x) m.now result (step rules.msg_att_body_section (drop p m.now)) }
+    ensures steps { GivesAt (λ x. parts_said K.text_said K.bytes_said (named_in m.now) x) m.now result (step rules.msg_att_body_section (drop p m.now)) }
     ensures ahead { Ahead m.now p result }
     ensures rests { RestsOn (λ n x. parts_said K.text_said K.bytes_said n x) result }
 {
@@ -102,7 +102,7 @@ fn structure<K: KeepAttribute>(
 ) -> Reached<AttributeKept<K::Text, K::Bytes>>
     requires inside { p ≤ length m.now }
     requires serves { K.serves keep.now m.now }
-    ensures steps { GivesAt (λ x. parts_said K.text_said K.bytes_said m.now x) m.now result (step rules.structure (drop p m.now)) }
+    ensures steps { GivesAt (λ x. parts_said K.text_said K.bytes_said (named_in m.now) x) m.now result (step rules.structure (drop p m.now)) }
     ensures ahead { Ahead m.now p result }
     ensures rests { RestsOn (λ n x. parts_said K.text_said K.bytes_said n x) result }
 {
@@ -121,7 +121,7 @@ fn body_attribute<K: KeepAttribute>(
 ) -> Reached<AttributeKept<K::Text, K::Bytes>>
     requires inside { p ≤ length m.now }
     requires serves { K.serves keep.now m.now }
-    ensures steps { GivesAt (λ x. parts_said K.text_said K.bytes_said m.now x) m.now result (step rules.body_attribute (drop p m.now)) }
+    ensures steps { GivesAt (λ x. parts_said K.text_said K.bytes_said (named_in m.now) x) m.now result (step rules.body_attribute (drop p m.now)) }
     ensures ahead { Ahead m.now p result }
     ensures rests { RestsOn (λ n x. parts_said K.text_said K.bytes_said n x) result }
 {
@@ -138,7 +138,7 @@ fn whole_message<K: KeepAttribute>(
 ) -> Reached<AttributeKept<K::Text, K::Bytes>>
     requires inside { p ≤ length m.now }
     requires serves { K.serves keep.now m.now }
-    ensures steps { ExactlyAt (λ x. parts_said K.text_said K.bytes_said m.now x) m.now result (step rules.whole_message (drop p m.now)) }
+    ensures steps { ExactlyAt (λ x. parts_said K.text_said K.bytes_said (named_in m.now) x) m.now result (step rules.whole_message (drop p m.now)) }
     ensures ahead { Ahead m.now p result }
     ensures rests { RestsOn (λ n x. parts_said K.text_said K.bytes_said n x) result }
 {
@@ -155,7 +155,7 @@ fn message_header<K: KeepAttribute>(
 ) -> Reached<AttributeKept<K::Text, K::Bytes>>
     requires inside { p ≤ length m.now }
     requires serves { K.serves keep.now m.now }
-    ensures steps { ExactlyAt (λ x. parts_said K.text_said K.bytes_said m.now x) m.now result (step rules.message_header (drop p m.now)) }
+    ensures steps { ExactlyAt (λ x. parts_said K.text_said K.bytes_said (named_in m.now) x) m.now result (step rules.message_header (drop p m.now)) }
     ensures ahead { Ahead m.now p result }
     ensures rests { RestsOn (λ n x. parts_said K.text_said K.bytes_said n x) result }
 {
@@ -168,7 +168,7 @@ fn message_header<K: KeepAttribute>(
 #[tactic(auto, unfolding(crate::specs::Attributes::message_size))]
 fn message_size<K: KeepAttribute>(m: &[u8], p: usize) -> Reached<AttributeKept<K::Text, K::Bytes>>
     requires { p ≤ length m.now }
-    ensures steps { ExactlyAt (λ x. parts_said K.text_said K.bytes_said m.now x) m.now result (step rules.message_size (drop p m.now)) }
+    ensures steps { ExactlyAt (λ x. parts_said K.text_said K.bytes_said (named_in m.now) x) m.now result (step rules.message_size (drop p m.now)) }
     ensures ahead { Ahead m.now p result }
     ensures rests { RestsOn (λ n x. parts_said K.text_said K.bytes_said n x) result }
 {
@@ -185,7 +185,7 @@ fn message_text<K: KeepAttribute>(
 ) -> Reached<AttributeKept<K::Text, K::Bytes>>
     requires inside { p ≤ length m.now }
     requires serves { K.serves keep.now m.now }
-    ensures steps { ExactlyAt (λ x. parts_said K.text_said K.bytes_said m.now x) m.now result (step rules.message_text (drop p m.now)) }
+    ensures steps { ExactlyAt (λ x. parts_said K.text_said K.bytes_said (named_in m.now) x) m.now result (step rules.message_text (drop p m.now)) }
     ensures ahead { Ahead m.now p result }
     ensures rests { RestsOn (λ n x. parts_said K.text_said K.bytes_said n x) result }
 {
@@ -202,7 +202,7 @@ fn message_part<K: KeepAttribute>(
 ) -> Reached<AttributeKept<K::Text, K::Bytes>>
     requires inside { p ≤ length m.now }
     requires serves { K.serves keep.now m.now }
-    ensures steps { ExactlyAt (λ x. parts_said K.text_said K.bytes_said m.now x) m.now result (step rules.message_part (drop p m.now)) }
+    ensures steps { ExactlyAt (λ x. parts_said K.text_said K.bytes_said (named_in m.now) x) m.now result (step rules.message_part (drop p m.now)) }
     ensures ahead { Ahead m.now p result }
     ensures rests { RestsOn (λ n x. parts_said K.text_said K.bytes_said n x) result }
 {
@@ -221,7 +221,7 @@ fn message_attribute<K: KeepAttribute>(
 ) -> Reached<AttributeKept<K::Text, K::Bytes>>
     requires inside { p ≤ length m.now }
     requires serves { K.serves keep.now m.now }
-    ensures steps { ExactlyAt (λ x. parts_said K.text_said K.bytes_said m.now x) m.now result (step rules.message_attribute (drop p m.now)) }
+    ensures steps { ExactlyAt (λ x. parts_said K.text_said K.bytes_said (named_in m.now) x) m.now result (step rules.message_attribute (drop p m.now)) }
     ensures ahead { Ahead m.now p result }
     ensures rests { RestsOn (λ n x. parts_said K.text_said K.bytes_said n x) result }
 {
@@ -240,7 +240,7 @@ fn msg_att_envelope<K: KeepAttribute>(
 ) -> Reached<AttributeKept<K::Text, K::Bytes>>
     requires inside { p ≤ length m.now }
     requires serves { K.serves keep.now m.now }
-    ensures steps { GivesAt (λ x. parts_said K.text_said K.bytes_said m.now x) m.now result (step rules.msg_att_envelope (drop p m.now)) }
+    ensures steps { GivesAt (λ x. parts_said K.text_said K.bytes_said (named_in m.now) x) m.now result (step rules.msg_att_envelope (drop p m.now)) }
     ensures ahead { Ahead m.now p result }
     ensures rests { RestsOn (λ n x. parts_said K.text_said K.bytes_said n x) result }
 {
@@ -249,14 +249,14 @@ fn msg_att_envelope<K: KeepAttribute>(
     Ok((p, AttributeParts::Envelope(Box::new(alloc, envelope)?)))
 }
 
-#[tactic(auto, using(imap_items::proofs::Spanned::text_rests), unfolding(crate::specs::Attributes::date, imap_bytes::specs::Texts::string_utf8))]
-fn date(m: &[u8], p: usize) -> Reached<Span>
+#[tactic(auto, unfolding(crate::specs::Attributes::date))]
+fn date(m: &[u8], p: usize) -> Reached<SpannedText>
     requires { p ≤ length m.now }
-    ensures steps { ExactlyAt (λ x. text_in m.now x) m.now result (step rules.date (drop p m.now)) }
+    ensures steps { ExactlyAt (λ x. text_in (named_in m.now) x) m.now result (step rules.date (drop p m.now)) }
     ensures ahead { Ahead m.now p result }
     ensures rests { RestsOn text_in result }
 {
-    string(m, p)
+    string_text(m, p)
 }
 
 #[tactic(auto, unfolding(crate::specs::Attributes::msg_att_internal_date))]
@@ -267,13 +267,13 @@ fn msg_att_internal_date<K: KeepAttribute>(
 ) -> Reached<AttributeKept<K::Text, K::Bytes>>
     requires inside { p ≤ length m.now }
     requires serves { K.serves keep.now m.now }
-    ensures steps { GivesAt (λ x. parts_said K.text_said K.bytes_said m.now x) m.now result (step rules.msg_att_internal_date (drop p m.now)) }
+    ensures steps { GivesAt (λ x. parts_said K.text_said K.bytes_said (named_in m.now) x) m.now result (step rules.msg_att_internal_date (drop p m.now)) }
     ensures ahead { Ahead m.now p result }
     ensures rests { RestsOn (λ n x. parts_said K.text_said K.bytes_said n x) result }
 {
     let (p, _) = word(b"INTERNALDATE ", m, p)?;
     let (p, date) = date(m, p)?;
-    let date = keep.text(m, SpannedText::Part(date))?;
+    let date = keep.text(m, date)?;
     Ok((p, AttributeParts::InternalDate(date)))
 }
 
@@ -286,7 +286,7 @@ fn msg_att_flags<K: KeepAttribute>(
 ) -> Reached<AttributeKept<K::Text, K::Bytes>>
     requires inside { p ≤ length m.now }
     requires serves { K.serves keep.now m.now }
-    ensures steps { GivesAt (λ x. parts_said K.text_said K.bytes_said m.now x) m.now result (step rules.msg_att_flags (drop p m.now)) }
+    ensures steps { GivesAt (λ x. parts_said K.text_said K.bytes_said (named_in m.now) x) m.now result (step rules.msg_att_flags (drop p m.now)) }
     ensures ahead { Ahead m.now p result }
     ensures rests { RestsOn (λ n x. parts_said K.text_said K.bytes_said n x) result }
 {
@@ -298,7 +298,7 @@ fn msg_att_flags<K: KeepAttribute>(
 #[tactic(auto, unfolding(crate::specs::Attributes::msg_att_uid))]
 fn msg_att_uid<K: KeepAttribute>(m: &[u8], p: usize) -> Reached<AttributeKept<K::Text, K::Bytes>>
     requires { p ≤ length m.now }
-    ensures steps { ExactlyAt (λ x. parts_said K.text_said K.bytes_said m.now x) m.now result (step rules.msg_att_uid (drop p m.now)) }
+    ensures steps { ExactlyAt (λ x. parts_said K.text_said K.bytes_said (named_in m.now) x) m.now result (step rules.msg_att_uid (drop p m.now)) }
     ensures ahead { Ahead m.now p result }
     ensures rests { RestsOn (λ n x. parts_said K.text_said K.bytes_said n x) result }
 {
@@ -313,7 +313,7 @@ fn msg_att_mod_seq<K: KeepAttribute>(
     p: usize,
 ) -> Reached<AttributeKept<K::Text, K::Bytes>>
     requires { p ≤ length m.now }
-    ensures steps { ExactlyAt (λ x. parts_said K.text_said K.bytes_said m.now x) m.now result (step rules.msg_att_mod_seq (drop p m.now)) }
+    ensures steps { ExactlyAt (λ x. parts_said K.text_said K.bytes_said (named_in m.now) x) m.now result (step rules.msg_att_mod_seq (drop p m.now)) }
     ensures ahead { Ahead m.now p result }
     ensures rests { RestsOn (λ n x. parts_said K.text_said K.bytes_said n x) result }
 {
@@ -333,7 +333,7 @@ fn msg_att_gmail_labels<K: KeepAttribute>(
 ) -> Reached<AttributeKept<K::Text, K::Bytes>>
     requires inside { p ≤ length m.now }
     requires serves { K.serves keep.now m.now }
-    ensures steps { GivesAt (λ x. parts_said K.text_said K.bytes_said m.now x) m.now result (step rules.msg_att_gmail_labels (drop p m.now)) }
+    ensures steps { GivesAt (λ x. parts_said K.text_said K.bytes_said (named_in m.now) x) m.now result (step rules.msg_att_gmail_labels (drop p m.now)) }
     ensures ahead { Ahead m.now p result }
     ensures rests { RestsOn (λ n x. parts_said K.text_said K.bytes_said n x) result }
 {
@@ -347,7 +347,7 @@ fn msg_att_gmail_msgid<K: KeepAttribute>(
     p: usize,
 ) -> Reached<AttributeKept<K::Text, K::Bytes>>
     requires { p ≤ length m.now }
-    ensures steps { ExactlyAt (λ x. parts_said K.text_said K.bytes_said m.now x) m.now result (step rules.msg_att_gmail_msgid (drop p m.now)) }
+    ensures steps { ExactlyAt (λ x. parts_said K.text_said K.bytes_said (named_in m.now) x) m.now result (step rules.msg_att_gmail_msgid (drop p m.now)) }
     ensures ahead { Ahead m.now p result }
     ensures rests { RestsOn (λ n x. parts_said K.text_said K.bytes_said n x) result }
 {
@@ -362,7 +362,7 @@ fn msg_att_gmail_thrid<K: KeepAttribute>(
     p: usize,
 ) -> Reached<AttributeKept<K::Text, K::Bytes>>
     requires { p ≤ length m.now }
-    ensures steps { ExactlyAt (λ x. parts_said K.text_said K.bytes_said m.now x) m.now result (step rules.msg_att_gmail_thrid (drop p m.now)) }
+    ensures steps { ExactlyAt (λ x. parts_said K.text_said K.bytes_said (named_in m.now) x) m.now result (step rules.msg_att_gmail_thrid (drop p m.now)) }
     ensures ahead { Ahead m.now p result }
     ensures rests { RestsOn (λ n x. parts_said K.text_said K.bytes_said n x) result }
 {
@@ -382,20 +382,21 @@ fn id_bytes(m: &[u8], p: usize) -> Reached<Span>
     Ok((q, id))
 }
 
-#[tactic(auto, using(crate::proofs::Resting::id_decoded, imap_items::proofs::Spanned::text_rests), unfolding(crate::specs::Attributes::object_id))]
-fn object_id(m: &[u8], p: usize) -> Reached<Span>
+#[tactic(auto, using(crate::proofs::Resting::id_decoded, imap_shapes::proofs::Places::part_rests), unfolding(crate::specs::Attributes::object_id))]
+fn object_id(m: &[u8], p: usize) -> Reached<SpannedText>
     requires { p ≤ length m.now }
-    ensures steps { ExactlyAt (λ x. text_in m.now x) m.now result (step rules.object_id (drop p m.now)) }
+    ensures steps { ExactlyAt (λ x. text_in (named_in m.now) x) m.now result (step rules.object_id (drop p m.now)) }
     ensures ahead { Ahead m.now p result }
     ensures rests { RestsOn text_in result }
 {
-    id_bytes(m, p)
+    let (q, id) = id_bytes(m, p)?;
+    Ok((q, SpannedText::Part(id)))
 }
 
 #[tactic(auto, unfolding(crate::specs::Attributes::bracketed_id))]
-fn bracketed_id(m: &[u8], p: usize) -> Reached<Span>
+fn bracketed_id(m: &[u8], p: usize) -> Reached<SpannedText>
     requires { p ≤ length m.now }
-    ensures steps { ExactlyAt (λ x. text_in m.now x) m.now result (step rules.bracketed_id (drop p m.now)) }
+    ensures steps { ExactlyAt (λ x. text_in (named_in m.now) x) m.now result (step rules.bracketed_id (drop p m.now)) }
     ensures ahead { Ahead m.now p result }
     ensures rests { RestsOn text_in result }
 {
@@ -413,13 +414,13 @@ fn msg_att_email_id<K: KeepAttribute>(
 ) -> Reached<AttributeKept<K::Text, K::Bytes>>
     requires inside { p ≤ length m.now }
     requires serves { K.serves keep.now m.now }
-    ensures steps { GivesAt (λ x. parts_said K.text_said K.bytes_said m.now x) m.now result (step rules.msg_att_email_id (drop p m.now)) }
+    ensures steps { GivesAt (λ x. parts_said K.text_said K.bytes_said (named_in m.now) x) m.now result (step rules.msg_att_email_id (drop p m.now)) }
     ensures ahead { Ahead m.now p result }
     ensures rests { RestsOn (λ n x. parts_said K.text_said K.bytes_said n x) result }
 {
     let (p, _) = word(b"EMAILID ", m, p)?;
     let (p, id) = bracketed_id(m, p)?;
-    let id = keep.text(m, SpannedText::Part(id))?;
+    let id = keep.text(m, id)?;
     Ok((p, AttributeParts::EmailId(id)))
 }
 
@@ -431,14 +432,14 @@ fn msg_att_thread_id<K: KeepAttribute>(
 ) -> Reached<AttributeKept<K::Text, K::Bytes>>
     requires inside { p ≤ length m.now }
     requires serves { K.serves keep.now m.now }
-    ensures steps { GivesAt (λ x. parts_said K.text_said K.bytes_said m.now x) m.now result (step rules.msg_att_thread_id (drop p m.now)) }
+    ensures steps { GivesAt (λ x. parts_said K.text_said K.bytes_said (named_in m.now) x) m.now result (step rules.msg_att_thread_id (drop p m.now)) }
     ensures ahead { Ahead m.now p result }
     ensures rests { RestsOn (λ n x. parts_said K.text_said K.bytes_said n x) result }
 {
     let (p, _) = word(b"THREADID ", m, p)?;
     first!(nil(m, p), _ => AttributeParts::ThreadId(None));
     let (p, id) = bracketed_id(m, p)?;
-    let id = keep.text(m, SpannedText::Part(id))?;
+    let id = keep.text(m, id)?;
     Ok((p, AttributeParts::ThreadId(Some(id))))
 }
 
@@ -532,7 +533,7 @@ fn msg_att_unknown<K: KeepAttribute>(
     p: usize,
 ) -> Reached<AttributeKept<K::Text, K::Bytes>>
     requires { p ≤ length m.now }
-    ensures steps { ExactlyAt (λ x. parts_said K.text_said K.bytes_said m.now x) m.now result (step rules.msg_att_unknown (drop p m.now)) }
+    ensures steps { ExactlyAt (λ x. parts_said K.text_said K.bytes_said (named_in m.now) x) m.now result (step rules.msg_att_unknown (drop p m.now)) }
     ensures ahead { Ahead m.now p result }
     ensures rests { RestsOn (λ n x. parts_said K.text_said K.bytes_said n x) result }
 {
@@ -555,7 +556,7 @@ fn attribute_of_b<K: KeepAttribute>(
 ) -> Reached<AttributeKept<K::Text, K::Bytes>>
     requires inside { p ≤ length m.now }
     requires serves { K.serves keep.now m.now }
-    ensures steps { GivesAt (λ x. parts_said K.text_said K.bytes_said m.now x) m.now result (step rules.attribute_of_b (drop p m.now)) }
+    ensures steps { GivesAt (λ x. parts_said K.text_said K.bytes_said (named_in m.now) x) m.now result (step rules.attribute_of_b (drop p m.now)) }
     ensures ahead { Ahead m.now p result }
     ensures rests { RestsOn (λ n x. parts_said K.text_said K.bytes_said n x) result }
 {
@@ -573,7 +574,7 @@ fn attribute_of_e<K: KeepAttribute>(
 ) -> Reached<AttributeKept<K::Text, K::Bytes>>
     requires inside { p ≤ length m.now }
     requires serves { K.serves keep.now m.now }
-    ensures steps { GivesAt (λ x. parts_said K.text_said K.bytes_said m.now x) m.now result (step rules.attribute_of_e (drop p m.now)) }
+    ensures steps { GivesAt (λ x. parts_said K.text_said K.bytes_said (named_in m.now) x) m.now result (step rules.attribute_of_e (drop p m.now)) }
     ensures ahead { Ahead m.now p result }
     ensures rests { RestsOn (λ n x. parts_said K.text_said K.bytes_said n x) result }
 {
@@ -592,7 +593,7 @@ fn attribute_of_f<K: KeepAttribute>(
 ) -> Reached<AttributeKept<K::Text, K::Bytes>>
     requires inside { p ≤ length m.now }
     requires serves { K.serves keep.now m.now }
-    ensures steps { GivesAt (λ x. parts_said K.text_said K.bytes_said m.now x) m.now result (step rules.attribute_of_f (drop p m.now)) }
+    ensures steps { GivesAt (λ x. parts_said K.text_said K.bytes_said (named_in m.now) x) m.now result (step rules.attribute_of_f (drop p m.now)) }
     ensures ahead { Ahead m.now p result }
     ensures rests { RestsOn (λ n x. parts_said K.text_said K.bytes_said n x) result }
 {
@@ -609,7 +610,7 @@ fn attribute_of_i<K: KeepAttribute>(
 ) -> Reached<AttributeKept<K::Text, K::Bytes>>
     requires inside { p ≤ length m.now }
     requires serves { K.serves keep.now m.now }
-    ensures steps { GivesAt (λ x. parts_said K.text_said K.bytes_said m.now x) m.now result (step rules.attribute_of_i (drop p m.now)) }
+    ensures steps { GivesAt (λ x. parts_said K.text_said K.bytes_said (named_in m.now) x) m.now result (step rules.attribute_of_i (drop p m.now)) }
     ensures ahead { Ahead m.now p result }
     ensures rests { RestsOn (λ n x. parts_said K.text_said K.bytes_said n x) result }
 {
@@ -621,7 +622,7 @@ fn attribute_of_i<K: KeepAttribute>(
 #[inline(never)]
 fn attribute_of_m<K: KeepAttribute>(m: &[u8], p: usize) -> Reached<AttributeKept<K::Text, K::Bytes>>
     requires { p ≤ length m.now }
-    ensures steps { GivesAt (λ x. parts_said K.text_said K.bytes_said m.now x) m.now result (step rules.attribute_of_m (drop p m.now)) }
+    ensures steps { GivesAt (λ x. parts_said K.text_said K.bytes_said (named_in m.now) x) m.now result (step rules.attribute_of_m (drop p m.now)) }
     ensures ahead { Ahead m.now p result }
     ensures rests { RestsOn (λ n x. parts_said K.text_said K.bytes_said n x) result }
 {
@@ -638,7 +639,7 @@ fn attribute_of_r<K: KeepAttribute>(
 ) -> Reached<AttributeKept<K::Text, K::Bytes>>
     requires inside { p ≤ length m.now }
     requires serves { K.serves keep.now m.now }
-    ensures steps { GivesAt (λ x. parts_said K.text_said K.bytes_said m.now x) m.now result (step rules.attribute_of_r (drop p m.now)) }
+    ensures steps { GivesAt (λ x. parts_said K.text_said K.bytes_said (named_in m.now) x) m.now result (step rules.attribute_of_r (drop p m.now)) }
     ensures ahead { Ahead m.now p result }
     ensures rests { RestsOn (λ n x. parts_said K.text_said K.bytes_said n x) result }
 {
@@ -655,7 +656,7 @@ fn attribute_of_t<K: KeepAttribute>(
 ) -> Reached<AttributeKept<K::Text, K::Bytes>>
     requires inside { p ≤ length m.now }
     requires serves { K.serves keep.now m.now }
-    ensures steps { GivesAt (λ x. parts_said K.text_said K.bytes_said m.now x) m.now result (step rules.attribute_of_t (drop p m.now)) }
+    ensures steps { GivesAt (λ x. parts_said K.text_said K.bytes_said (named_in m.now) x) m.now result (step rules.attribute_of_t (drop p m.now)) }
     ensures ahead { Ahead m.now p result }
     ensures rests { RestsOn (λ n x. parts_said K.text_said K.bytes_said n x) result }
 {
@@ -667,7 +668,7 @@ fn attribute_of_t<K: KeepAttribute>(
 #[inline(never)]
 fn attribute_of_u<K: KeepAttribute>(m: &[u8], p: usize) -> Reached<AttributeKept<K::Text, K::Bytes>>
     requires { p ≤ length m.now }
-    ensures steps { GivesAt (λ x. parts_said K.text_said K.bytes_said m.now x) m.now result (step rules.attribute_of_u (drop p m.now)) }
+    ensures steps { GivesAt (λ x. parts_said K.text_said K.bytes_said (named_in m.now) x) m.now result (step rules.attribute_of_u (drop p m.now)) }
     ensures ahead { Ahead m.now p result }
     ensures rests { RestsOn (λ n x. parts_said K.text_said K.bytes_said n x) result }
 {
@@ -685,7 +686,7 @@ fn attribute_of_x<K: KeepAttribute>(
 ) -> Reached<AttributeKept<K::Text, K::Bytes>>
     requires inside { p ≤ length m.now }
     requires serves { K.serves keep.now m.now }
-    ensures steps { GivesAt (λ x. parts_said K.text_said K.bytes_said m.now x) m.now result (step rules.attribute_of_x (drop p m.now)) }
+    ensures steps { GivesAt (λ x. parts_said K.text_said K.bytes_said (named_in m.now) x) m.now result (step rules.attribute_of_x (drop p m.now)) }
     ensures ahead { Ahead m.now p result }
     ensures rests { RestsOn (λ n x. parts_said K.text_said K.bytes_said n x) result }
 {
@@ -709,7 +710,7 @@ pub(crate) fn attribute<K: KeepAttribute>(
 ) -> Reached<AttributeKept<K::Text, K::Bytes>>
     requires inside { p ≤ length m.now }
     requires serves { K.serves keep.now m.now }
-    ensures steps { GivesAt (λ x. parts_said K.text_said K.bytes_said m.now x) m.now result (step rules.attribute (drop p m.now)) }
+    ensures steps { GivesAt (λ x. parts_said K.text_said K.bytes_said (named_in m.now) x) m.now result (step rules.attribute (drop p m.now)) }
     ensures ahead { Ahead m.now p result }
     ensures rests { RestsOn (λ n x. parts_said K.text_said K.bytes_said n x) result }
 {

@@ -1,13 +1,14 @@
 //! Addresses and envelopes at a position, and what is kept of their byte strings.
 
 ghost use Rattle.std.specs.Prelude.{◌≤◌, length, drop, map};
-ghost use Rattle.imap_grammar.specs.Positions.{ExactlyAt, GivesAt, Ahead, RestsOn};
+ghost use Rattle.imap_grammar.specs.Positions.{ExactlyAt, GivesAt, Ahead, named_in};
 ghost use Rattle.imap_grammar.specs.Memory.{NeverFails};
 ghost use Rattle.imap_grammar.specs.Step.{step};
 ghost use Rattle.imap_envelopes.specs.Envelopes as envelopes;
 ghost use Rattle.imap_envelopes.specs.Envelopes.{spaced, last_fields_seen};
 ghost use Rattle.imap_envelopes.specs.Spanned.{address_in};
 ghost use Rattle.imap_shapes.specs.EnvelopeValues.{address_seen, addresses_seen, envelope_seen};
+ghost use Rattle.imap_shapes.specs.Spans.{RestsOn};
 
 use crate::Keep;
 use crate::at::texts::{byte_string, spaced_byte_string};
@@ -35,7 +36,7 @@ struct LastFields<B> {
 #[tactic(auto, unfolding(crate::specs::Envelopes::address))]
 pub fn address(m: &[u8], p: usize) -> Reached<Address<Span>>
     requires { p ≤ length m.now }
-    ensures steps { ExactlyAt (λ x. address_in m.now x) m.now result (step envelopes.address (drop p m.now)) }
+    ensures steps { ExactlyAt (λ x. address_in (named_in m.now) x) m.now result (step envelopes.address (drop p m.now)) }
     ensures ahead { Ahead m.now p result }
     ensures rests { RestsOn address_in result }
     ensures no_failure { NeverFails result }
@@ -61,7 +62,7 @@ pub fn address(m: &[u8], p: usize) -> Reached<Address<Span>>
 #[tactic(auto, unfolding(crate::specs::Envelopes::listed_address))]
 fn listed_address(m: &[u8], p: usize) -> Reached<Address<Span>>
     requires { p ≤ length m.now }
-    ensures steps { ExactlyAt (λ x. address_in m.now x) m.now result (step envelopes.listed_address (drop p m.now)) }
+    ensures steps { ExactlyAt (λ x. address_in (named_in m.now) x) m.now result (step envelopes.listed_address (drop p m.now)) }
     ensures ahead { Ahead m.now p result }
     ensures rests { RestsOn address_in result }
 {
@@ -79,7 +80,7 @@ fn some_addresses<K: Keep>(
 ) -> Reached<Vec<Address<K::Bytes>>>
     requires inside { p ≤ length m.now }
     requires serves { K.serves keep.now m.now }
-    ensures steps { GivesAt (λ x. map (address_seen (K.bytes_said m.now)) x.items) m.now result (step envelopes.some_addresses (drop p m.now)) }
+    ensures steps { GivesAt (λ x. map (address_seen (K.bytes_said (named_in m.now))) x.items) m.now result (step envelopes.some_addresses (drop p m.now)) }
     ensures ahead { Ahead m.now p result }
     ensures rests { RestsOn (λ n x. map (address_seen (K.bytes_said n)) x.items) result }
 {
@@ -106,7 +107,7 @@ fn addresses<K: Keep>(
 ) -> Reached<Option<Vec<Address<K::Bytes>>>>
     requires inside { p ≤ length m.now }
     requires serves { K.serves keep.now m.now }
-    ensures steps { GivesAt (λ x. addresses_seen (K.bytes_said m.now) x) m.now result (step envelopes.addresses (drop p m.now)) }
+    ensures steps { GivesAt (λ x. addresses_seen (K.bytes_said (named_in m.now)) x) m.now result (step envelopes.addresses (drop p m.now)) }
     ensures ahead { Ahead m.now p result }
     ensures rests { RestsOn (λ n x. addresses_seen (K.bytes_said n) x) result }
 {
@@ -125,7 +126,7 @@ fn spaced_addresses<K: Keep>(
 ) -> Reached<Option<Vec<Address<K::Bytes>>>>
     requires inside { p ≤ length m.now }
     requires serves { K.serves keep.now m.now }
-    ensures steps { GivesAt (λ x. addresses_seen (K.bytes_said m.now) x) m.now result (step (spaced envelopes.addresses) (drop p m.now)) }
+    ensures steps { GivesAt (λ x. addresses_seen (K.bytes_said (named_in m.now)) x) m.now result (step (spaced envelopes.addresses) (drop p m.now)) }
     ensures ahead { Ahead m.now p result }
     ensures rests { RestsOn (λ n x. addresses_seen (K.bytes_said n) x) result }
 {
@@ -145,7 +146,7 @@ fn last_fields<K: Keep>(
 ) -> Reached<LastFields<K::Bytes>>
     requires inside { p ≤ length m.now }
     requires serves { K.serves keep.now m.now }
-    ensures steps { GivesAt (λ x. last_fields_seen (K.bytes_said m.now) x) m.now result (step envelopes.last_fields (drop p m.now)) }
+    ensures steps { GivesAt (λ x. last_fields_seen (K.bytes_said (named_in m.now)) x) m.now result (step envelopes.last_fields (drop p m.now)) }
     ensures ahead { Ahead m.now p result }
     ensures rests { RestsOn (λ n x. last_fields_seen (K.bytes_said n) x) result }
 {
@@ -172,7 +173,7 @@ fn last_fields<K: Keep>(
 pub fn envelope<K: Keep>(keep: &K, alloc: Global, m: &[u8], p: usize) -> Reached<Envelope<K::Bytes>>
     requires inside { p ≤ length m.now }
     requires serves { K.serves keep.now m.now }
-    ensures steps { GivesAt (λ x. envelope_seen (K.bytes_said m.now) x) m.now result (step envelopes.envelope (drop p m.now)) }
+    ensures steps { GivesAt (λ x. envelope_seen (K.bytes_said (named_in m.now)) x) m.now result (step envelopes.envelope (drop p m.now)) }
     ensures ahead { Ahead m.now p result }
     ensures rests { RestsOn (λ n x. envelope_seen (K.bytes_said n) x) result }
 {

@@ -1,14 +1,14 @@
 //! Strings at a position, each as a byte string or as a text to be decoded. None takes memory.
 
 ghost use Rattle.std.specs.Prelude.{◌≤◌, length, drop};
-ghost use Rattle.imap_grammar.specs.Positions.{ExactlyAt, Ahead, RestsOn};
+ghost use Rattle.imap_grammar.specs.Positions.{ExactlyAt, Ahead, named_in};
 ghost use Rattle.imap_grammar.specs.Memory.{NeverFails};
 ghost use Rattle.imap_grammar.specs.Step.{step};
 ghost use Rattle.imap_bytes.specs.Numbers as numbers;
 ghost use Rattle.imap_bytes.specs.Texts as texts;
 ghost use Rattle.imap_envelopes.specs.Envelopes as envelopes;
 ghost use Rattle.imap_envelopes.specs.Envelopes.{spaced};
-ghost use Rattle.imap_shapes.specs.Spans.{text_in};
+ghost use Rattle.imap_shapes.specs.Spans.{RestsOn, text_in};
 ghost use Rattle.imap_envelopes.specs.Spanned.{maybe_bytes_in, maybe_text_in};
 
 use imap_bytes::at::Reached;
@@ -22,7 +22,7 @@ use imap_shapes::spans::{Span, SpannedText};
 #[tactic(auto, using(crate::proofs::Naming::bytes_seen), unfolding(crate::specs::Envelopes::byte_string))]
 pub fn byte_string(m: &[u8], p: usize) -> Reached<Option<Span>>
     requires { p ≤ length m.now }
-    ensures steps { ExactlyAt (λ x. maybe_bytes_in m.now x) m.now result (step envelopes.byte_string (drop p m.now)) }
+    ensures steps { ExactlyAt (λ x. maybe_bytes_in (named_in m.now) x) m.now result (step envelopes.byte_string (drop p m.now)) }
     ensures ahead { Ahead m.now p result }
     ensures rests { RestsOn maybe_bytes_in result }
     ensures no_failure { NeverFails result }
@@ -34,7 +34,7 @@ pub fn byte_string(m: &[u8], p: usize) -> Reached<Option<Span>>
 /// A space, then an nstring, its bytes as they stand (RFC 3501, section 9: nstring). No memory.
 pub fn spaced_byte_string(m: &[u8], p: usize) -> Reached<Option<Span>>
     requires { p ≤ length m.now }
-    ensures steps { ExactlyAt (λ x. maybe_bytes_in m.now x) m.now result (step (spaced envelopes.byte_string) (drop p m.now)) }
+    ensures steps { ExactlyAt (λ x. maybe_bytes_in (named_in m.now) x) m.now result (step (spaced envelopes.byte_string) (drop p m.now)) }
     ensures ahead { Ahead m.now p result }
     ensures rests { RestsOn maybe_bytes_in result }
     ensures no_failure { NeverFails result }
@@ -47,7 +47,7 @@ pub fn spaced_byte_string(m: &[u8], p: usize) -> Reached<Option<Span>>
 #[tactic(auto, unfolding(imap_bytes::specs::Texts::string_utf8))]
 pub fn string_text(m: &[u8], p: usize) -> Reached<SpannedText>
     requires { p ≤ length m.now }
-    ensures steps { ExactlyAt (λ x. text_in m.now x) m.now result (step texts.string_utf8 (drop p m.now)) }
+    ensures steps { ExactlyAt (λ x. text_in (named_in m.now) x) m.now result (step texts.string_utf8 (drop p m.now)) }
     ensures ahead { Ahead m.now p result }
     ensures rests { RestsOn text_in result }
     ensures no_failure { NeverFails result }
@@ -59,7 +59,7 @@ pub fn string_text(m: &[u8], p: usize) -> Reached<SpannedText>
 /// A space, then a string, to be decoded (RFC 3501, section 9: string). No memory.
 pub fn spaced_string_text(m: &[u8], p: usize) -> Reached<SpannedText>
     requires { p ≤ length m.now }
-    ensures steps { ExactlyAt (λ x. text_in m.now x) m.now result (step (spaced texts.string_utf8) (drop p m.now)) }
+    ensures steps { ExactlyAt (λ x. text_in (named_in m.now) x) m.now result (step (spaced texts.string_utf8) (drop p m.now)) }
     ensures ahead { Ahead m.now p result }
     ensures rests { RestsOn text_in result }
     ensures no_failure { NeverFails result }
@@ -73,7 +73,7 @@ pub fn spaced_string_text(m: &[u8], p: usize) -> Reached<SpannedText>
 #[tactic(auto, unfolding(imap_bytes::specs::Texts::nstring_utf8))]
 pub fn nstring_text(m: &[u8], p: usize) -> Reached<Option<SpannedText>>
     requires { p ≤ length m.now }
-    ensures steps { ExactlyAt (λ x. maybe_text_in m.now x) m.now result (step texts.nstring_utf8 (drop p m.now)) }
+    ensures steps { ExactlyAt (λ x. maybe_text_in (named_in m.now) x) m.now result (step texts.nstring_utf8 (drop p m.now)) }
     ensures ahead { Ahead m.now p result }
     ensures rests { RestsOn maybe_text_in result }
     ensures no_failure { NeverFails result }
@@ -86,7 +86,7 @@ pub fn nstring_text(m: &[u8], p: usize) -> Reached<Option<SpannedText>>
 /// A space, then an nstring, to be decoded (RFC 3501, section 9: nstring). No memory.
 pub fn spaced_nstring_text(m: &[u8], p: usize) -> Reached<Option<SpannedText>>
     requires { p ≤ length m.now }
-    ensures steps { ExactlyAt (λ x. maybe_text_in m.now x) m.now result (step (spaced texts.nstring_utf8) (drop p m.now)) }
+    ensures steps { ExactlyAt (λ x. maybe_text_in (named_in m.now) x) m.now result (step (spaced texts.nstring_utf8) (drop p m.now)) }
     ensures ahead { Ahead m.now p result }
     ensures rests { RestsOn maybe_text_in result }
     ensures no_failure { NeverFails result }

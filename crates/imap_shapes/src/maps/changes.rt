@@ -1,6 +1,7 @@
 //! The changes of texts: all of them owned, and what spans name in a message.
 
 ghost use Rattle.std.specs.Prelude.{◌≡◌, IfOk, false};
+ghost use Rattle.imap_grammar.specs.Positions.{named_in};
 ghost use Rattle.imap_grammar.specs.Text.{text_of};
 ghost use Rattle.imap_shapes.specs.Spans.{bytes_of, bytes_owned, text_owned, bytes_in, text_in};
 ghost use Rattle.imap_shapes.specs.BodyValues.{body_seen};
@@ -86,7 +87,7 @@ pub struct NamedBytes<'a> {
 impl<'a> Change<Span> for NamedBytes<'a> {
     type To = CowSlice<'a, u8>;
 
-    ghost before = { λ c s. bytes_in c.m.now s };
+    ghost before = { λ c s. bytes_in (named_in c.m.now) s };
 
     ghost after = { bytes_of };
 
@@ -107,7 +108,7 @@ pub struct NamedTexts<'a> {
 impl<'a> Change<SpannedText> for NamedTexts<'a> {
     type To = CowStr<'a>;
 
-    ghost before = { λ c s. text_in c.m.now s };
+    ghost before = { λ c s. text_in (named_in c.m.now) s };
 
     ghost after = { text_of };
 
@@ -119,7 +120,7 @@ impl<'a> Change<SpannedText> for NamedTexts<'a> {
 impl<'a> BodyChange<Box<shapes::bodies::BodyStructure<SpannedText, Span>>> for NamedTexts<'a> {
     type To = BodyStructure<'a>;
 
-    ghost before = { λ c b. body_seen (text_in c.m.now) (bytes_in c.m.now) b.value };
+    ghost before = { λ c b. body_seen (text_in (named_in c.m.now)) (bytes_in (named_in c.m.now)) b.value };
 
     ghost after = { body_seen text_of bytes_of };
 

@@ -1,7 +1,7 @@
 //! Structures of bodies at a position.
 
 ghost use Rattle.std.specs.Prelude.{◌≡◌, ◌≤◌, List, [], ◌∷◌, ◌++◌, IfOk, length, drop, map};
-ghost use Rattle.imap_grammar.specs.Positions.{ExactlyAt, GivesAt, Ahead, RestsOn, named_in};
+ghost use Rattle.imap_grammar.specs.Positions.{ExactlyAt, GivesAt, Ahead, named_in};
 ghost use Rattle.imap_grammar.specs.Step.{step};
 ghost use Rattle.imap_envelopes.specs.Envelopes as envelopes;
 ghost use Rattle.imap_envelopes.specs.Envelopes.{spaced};
@@ -9,6 +9,7 @@ ghost use Rattle.imap_structure.specs.Bodies as bodies;
 ghost use Rattle.imap_structure.specs.Kept.{boxed_seen, PutsAt, Leaves, Reaches};
 ghost use Rattle.imap_shapes.specs.EnvelopeValues.{envelope_seen};
 ghost use Rattle.imap_shapes.specs.BodyValues.{body_seen};
+ghost use Rattle.imap_shapes.specs.Spans.{RestsOn};
 
 use crate::at::extensions::{body_ext_1part, body_ext_mpart};
 use crate::at::fields::spaced_fields;
@@ -154,7 +155,7 @@ fn spaced_envelope<K: Keep>(
 ) -> Reached<Envelope<K::Bytes>>
     requires inside { p ≤ length m.now }
     requires serves { K.serves keep.now m.now }
-    ensures steps { GivesAt (λ x. envelope_seen (K.bytes_said m.now) x) m.now result (step (spaced envelopes.envelope) (drop p m.now)) }
+    ensures steps { GivesAt (λ x. envelope_seen (K.bytes_said (named_in m.now)) x) m.now result (step (spaced envelopes.envelope) (drop p m.now)) }
     ensures ahead { Ahead m.now p result }
     ensures rests { RestsOn (λ n x. envelope_seen (K.bytes_said n) x) result }
 {
@@ -334,7 +335,7 @@ fn spaced_body<K: Keep>(
 ) -> Reached<Boxed<K::Text, K::Bytes>>
     requires inside { p ≤ length m.now }
     requires serves { K.serves keep.now m.now }
-    ensures steps { GivesAt (λ x. boxed_seen (K.text_said m.now) (K.bytes_said m.now) x) m.now result (step (spaced (bodies.body level)) (drop p m.now)) }
+    ensures steps { GivesAt (λ x. boxed_seen (K.text_said (named_in m.now)) (K.bytes_said (named_in m.now)) x) m.now result (step (spaced (bodies.body level)) (drop p m.now)) }
     ensures ahead { Ahead m.now p result }
     ensures rests { RestsOn (λ n x. boxed_seen (K.text_said n) (K.bytes_said n) x) result }
 {
@@ -393,7 +394,7 @@ fn some_bodies<K: Keep>(
 ) -> Reached<Vec<BodyStructure<K::Text, K::Bytes>>>
     requires inside { p ≤ length m.now }
     requires serves { K.serves keep.now m.now }
-    ensures steps { GivesAt (λ x. map (body_seen (K.text_said m.now) (K.bytes_said m.now)) x.items) m.now result (step (bodies.some_bodies (bodies.body level)) (drop p m.now)) }
+    ensures steps { GivesAt (λ x. map (body_seen (K.text_said (named_in m.now)) (K.bytes_said (named_in m.now))) x.items) m.now result (step (bodies.some_bodies (bodies.body level)) (drop p m.now)) }
     ensures ahead { Ahead m.now p result }
     ensures rests { RestsOn (λ n x. map (body_seen (K.text_said n) (K.bytes_said n)) x.items) result }
 {
@@ -423,7 +424,7 @@ fn one_body<K: Keep>(
 ) -> Reached<Boxed<K::Text, K::Bytes>>
     requires inside { p ≤ length m.now }
     requires serves { K.serves keep.now m.now }
-    ensures steps { GivesAt (λ x. boxed_seen (K.text_said m.now) (K.bytes_said m.now) x) m.now result (step (bodies.body level) (drop p m.now)) }
+    ensures steps { GivesAt (λ x. boxed_seen (K.text_said (named_in m.now)) (K.bytes_said (named_in m.now)) x) m.now result (step (bodies.body level) (drop p m.now)) }
     ensures ahead { Ahead m.now p result }
     ensures rests { RestsOn (λ n x. boxed_seen (K.text_said n) (K.bytes_said n) x) result }
 {
@@ -442,7 +443,7 @@ pub fn body_structure<K: Keep>(
 ) -> Reached<Boxed<K::Text, K::Bytes>>
     requires inside { p ≤ length m.now }
     requires serves { K.serves keep.now m.now }
-    ensures steps { GivesAt (λ x. boxed_seen (K.text_said m.now) (K.bytes_said m.now) x) m.now result (step bodies.body_structure (drop p m.now)) }
+    ensures steps { GivesAt (λ x. boxed_seen (K.text_said (named_in m.now)) (K.bytes_said (named_in m.now)) x) m.now result (step bodies.body_structure (drop p m.now)) }
     ensures ahead { Ahead m.now p result }
     ensures rests { RestsOn (λ n x. boxed_seen (K.text_said n) (K.bytes_said n) x) result }
 {

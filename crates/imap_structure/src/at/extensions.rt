@@ -3,7 +3,7 @@
 ghost use Rattle.std.specs.Prelude.{◌≡◌, ◌≤◌, length, drop, map, IfOk};
 ghost use Rattle.imap_grammar.specs.Text.{Text};
 ghost use Rattle.std.specs.Option.{option_map};
-ghost use Rattle.imap_grammar.specs.Positions.{ExactlyAt, GivesAt, Ahead, RestsOn};
+ghost use Rattle.imap_grammar.specs.Positions.{ExactlyAt, GivesAt, Ahead, named_in};
 ghost use Rattle.imap_grammar.specs.Step.{step};
 ghost use Rattle.imap_bytes.specs.Texts as texts;
 ghost use Rattle.imap_envelopes.specs.Envelopes.{spaced};
@@ -13,6 +13,7 @@ ghost use Rattle.imap_structure.specs.Extensions.{maybe_spaced};
 ghost use Rattle.imap_envelopes.specs.Spanned.{maybe_text_in};
 ghost use Rattle.imap_shapes.specs.FieldValues.{params_seen};
 ghost use Rattle.imap_shapes.specs.ExtensionValues.{disposition_seen, languages_seen, extension_seen, ext_1part_seen, ext_mpart_seen};
+ghost use Rattle.imap_shapes.specs.Spans.{RestsOn};
 
 use crate::at::fields::body_fld_param;
 use crate::limits::MAX_EXTENSION_DEPTH;
@@ -43,7 +44,7 @@ fn spaced_params<K: Keep>(
 ) -> Reached<BodyParams<K::Text>>
     requires inside { p ≤ length m.now }
     requires serves { K.serves keep.now m.now }
-    ensures steps { GivesAt (λ x. params_seen (K.text_said m.now) x) m.now result (step (spaced fields.body_fld_param) (drop p m.now)) }
+    ensures steps { GivesAt (λ x. params_seen (K.text_said (named_in m.now)) x) m.now result (step (spaced fields.body_fld_param) (drop p m.now)) }
     ensures ahead { Ahead m.now p result }
     ensures rests { RestsOn (λ n x. params_seen (K.text_said n) x) result }
 {
@@ -61,7 +62,7 @@ fn body_fld_dsp<K: Keep>(
 ) -> Reached<Option<ContentDisposition<K::Text>>>
     requires inside { p ≤ length m.now }
     requires serves { K.serves keep.now m.now }
-    ensures steps { GivesAt (λ x. option_map (disposition_seen (K.text_said m.now)) x) m.now result (step extensions.body_fld_dsp (drop p m.now)) }
+    ensures steps { GivesAt (λ x. option_map (disposition_seen (K.text_said (named_in m.now))) x) m.now result (step extensions.body_fld_dsp (drop p m.now)) }
     ensures ahead { Ahead m.now p result }
     ensures rests { RestsOn (λ n x. option_map (disposition_seen (K.text_said n)) x) result }
 {
@@ -80,7 +81,7 @@ fn body_fld_dsp<K: Keep>(
 fn some_languages<K: Keep>(keep: &K, alloc: Global, m: &[u8], p: usize) -> Reached<Vec<K::Text>>
     requires inside { p ≤ length m.now }
     requires serves { K.serves keep.now m.now }
-    ensures steps { GivesAt (λ x. map (K.text_said m.now) x.items) m.now result (step extensions.some_languages (drop p m.now)) }
+    ensures steps { GivesAt (λ x. map (K.text_said (named_in m.now)) x.items) m.now result (step extensions.some_languages (drop p m.now)) }
     ensures ahead { Ahead m.now p result }
     ensures rests { RestsOn (λ n x. map (K.text_said n) x.items) result }
 {
@@ -103,7 +104,7 @@ fn language_list<K: Keep>(
 ) -> Reached<Option<Vec<K::Text>>>
     requires inside { p ≤ length m.now }
     requires serves { K.serves keep.now m.now }
-    ensures steps { GivesAt (λ x. languages_seen (K.text_said m.now) x) m.now result (step extensions.language_list (drop p m.now)) }
+    ensures steps { GivesAt (λ x. languages_seen (K.text_said (named_in m.now)) x) m.now result (step extensions.language_list (drop p m.now)) }
     ensures ahead { Ahead m.now p result }
     ensures rests { RestsOn (λ n x. languages_seen (K.text_said n) x) result }
 {
@@ -134,7 +135,7 @@ fn body_fld_lang<K: Keep>(
 ) -> Reached<Option<Vec<K::Text>>>
     requires inside { p ≤ length m.now }
     requires serves { K.serves keep.now m.now }
-    ensures steps { GivesAt (λ x. languages_seen (K.text_said m.now) x) m.now result (step extensions.body_fld_lang (drop p m.now)) }
+    ensures steps { GivesAt (λ x. languages_seen (K.text_said (named_in m.now)) x) m.now result (step extensions.body_fld_lang (drop p m.now)) }
     ensures ahead { Ahead m.now p result }
     ensures rests { RestsOn (λ n x. languages_seen (K.text_said n) x) result }
 {
@@ -147,7 +148,7 @@ fn body_fld_lang<K: Keep>(
 #[tactic(auto, using(crate::proofs::Seeing::number_seen, crate::proofs::Seeing::number_rests), unfolding(crate::specs::Extensions::number_extension))]
 fn number_extension<K: Keep>(m: &[u8], p: usize) -> Reached<BodyExtension<K::Text>>
     requires { p ≤ length m.now }
-    ensures steps { ExactlyAt (λ x. extension_seen (K.text_said m.now) x) m.now result (step extensions.number_extension (drop p m.now)) }
+    ensures steps { ExactlyAt (λ x. extension_seen (K.text_said (named_in m.now)) x) m.now result (step extensions.number_extension (drop p m.now)) }
     ensures ahead { Ahead m.now p result }
     ensures rests { RestsOn (λ n x. extension_seen (K.text_said n) x) result }
 {
@@ -159,7 +160,7 @@ fn number_extension<K: Keep>(m: &[u8], p: usize) -> Reached<BodyExtension<K::Tex
 fn string_extension<K: Keep>(keep: &K, m: &[u8], p: usize) -> Reached<BodyExtension<K::Text>>
     requires inside { p ≤ length m.now }
     requires serves { K.serves keep.now m.now }
-    ensures steps { GivesAt (λ x. extension_seen (K.text_said m.now) x) m.now result (step extensions.string_extension (drop p m.now)) }
+    ensures steps { GivesAt (λ x. extension_seen (K.text_said (named_in m.now)) x) m.now result (step extensions.string_extension (drop p m.now)) }
     ensures ahead { Ahead m.now p result }
     ensures rests { RestsOn (λ n x. extension_seen (K.text_said n) x) result }
 {
@@ -182,7 +183,7 @@ pub fn extension<K: Keep>(
 ) -> Reached<BodyExtension<K::Text>>
     requires inside { p ≤ length m.now }
     requires serves { K.serves keep.now m.now }
-    ensures steps { GivesAt (λ x. extension_seen (K.text_said m.now) x) m.now result (step (extensions.extension level) (drop p m.now)) }
+    ensures steps { GivesAt (λ x. extension_seen (K.text_said (named_in m.now)) x) m.now result (step (extensions.extension level) (drop p m.now)) }
     ensures ahead { Ahead m.now p result }
     ensures rests { RestsOn (λ n x. extension_seen (K.text_said n) x) result }
 {
@@ -207,7 +208,7 @@ fn extension_list<K: Keep>(
 ) -> Reached<BodyExtension<K::Text>>
     requires inside { p ≤ length m.now }
     requires serves { K.serves keep.now m.now }
-    ensures steps { GivesAt (λ x. extension_seen (K.text_said m.now) x) m.now result (step (extensions.extension_list level) (drop p m.now)) }
+    ensures steps { GivesAt (λ x. extension_seen (K.text_said (named_in m.now)) x) m.now result (step (extensions.extension_list level) (drop p m.now)) }
     ensures ahead { Ahead m.now p result }
     ensures rests { RestsOn (λ n x. extension_seen (K.text_said n) x) result }
 {
@@ -228,7 +229,7 @@ fn bracketed_extensions<K: Keep>(
 ) -> Reached<BodyExtension<K::Text>>
     requires inside { p ≤ length m.now }
     requires serves { K.serves keep.now m.now }
-    ensures steps { GivesAt (λ x. extension_seen (K.text_said m.now) x) m.now result (step (extensions.bracketed_extensions (extensions.extension_list level)) (drop p m.now)) }
+    ensures steps { GivesAt (λ x. extension_seen (K.text_said (named_in m.now)) x) m.now result (step (extensions.bracketed_extensions (extensions.extension_list level)) (drop p m.now)) }
     ensures ahead { Ahead m.now p result }
     ensures rests { RestsOn (λ n x. extension_seen (K.text_said n) x) result }
 {
@@ -250,7 +251,7 @@ fn some_extensions<K: Keep>(
 ) -> Reached<Vec<BodyExtension<K::Text>>>
     requires inside { p ≤ length m.now }
     requires serves { K.serves keep.now m.now }
-    ensures steps { GivesAt (λ x. map (extension_seen (K.text_said m.now)) x.items) m.now result (step (extensions.some_extensions (extensions.extension_list level)) (drop p m.now)) }
+    ensures steps { GivesAt (λ x. map (extension_seen (K.text_said (named_in m.now))) x.items) m.now result (step (extensions.some_extensions (extensions.extension_list level)) (drop p m.now)) }
     ensures ahead { Ahead m.now p result }
     ensures rests { RestsOn (λ n x. map (extension_seen (K.text_said n)) x.items) result }
 {
@@ -275,7 +276,7 @@ fn spaced_extension<K: Keep>(
 ) -> Reached<BodyExtension<K::Text>>
     requires inside { p ≤ length m.now }
     requires serves { K.serves keep.now m.now }
-    ensures steps { GivesAt (λ x. extension_seen (K.text_said m.now) x) m.now result (step (spaced (extensions.extension level)) (drop p m.now)) }
+    ensures steps { GivesAt (λ x. extension_seen (K.text_said (named_in m.now)) x) m.now result (step (spaced (extensions.extension level)) (drop p m.now)) }
     ensures ahead { Ahead m.now p result }
     ensures rests { RestsOn (λ n x. extension_seen (K.text_said n) x) result }
 {
@@ -294,7 +295,7 @@ pub fn body_extension<K: Keep>(
 ) -> Reached<BodyExtension<K::Text>>
     requires inside { p ≤ length m.now }
     requires serves { K.serves keep.now m.now }
-    ensures steps { GivesAt (λ x. extension_seen (K.text_said m.now) x) m.now result (step extensions.body_extension (drop p m.now)) }
+    ensures steps { GivesAt (λ x. extension_seen (K.text_said (named_in m.now)) x) m.now result (step extensions.body_extension (drop p m.now)) }
     ensures ahead { Ahead m.now p result }
     ensures rests { RestsOn (λ n x. extension_seen (K.text_said n) x) result }
 {
@@ -305,7 +306,7 @@ pub fn body_extension<K: Keep>(
 
 fn maybe_nstring_text(m: &[u8], p: usize) -> Reached<Option<SpannedText>>
     requires { p ≤ length m.now }
-    ensures steps { ExactlyAt (λ x. maybe_text_in m.now x) m.now result (step (maybe_spaced texts.nstring_utf8) (drop p m.now)) }
+    ensures steps { ExactlyAt (λ x. maybe_text_in (named_in m.now) x) m.now result (step (maybe_spaced texts.nstring_utf8) (drop p m.now)) }
     ensures ahead { Ahead m.now p result }
     ensures rests { RestsOn maybe_text_in result }
 {
@@ -321,7 +322,7 @@ fn maybe_params<K: Keep>(
 ) -> Reached<BodyParams<K::Text>>
     requires inside { p ≤ length m.now }
     requires serves { K.serves keep.now m.now }
-    ensures steps { GivesAt (λ x. params_seen (K.text_said m.now) x) m.now result (step (maybe_spaced fields.body_fld_param) (drop p m.now)) }
+    ensures steps { GivesAt (λ x. params_seen (K.text_said (named_in m.now)) x) m.now result (step (maybe_spaced fields.body_fld_param) (drop p m.now)) }
     ensures ahead { Ahead m.now p result }
     ensures rests { RestsOn (λ n x. params_seen (K.text_said n) x) result }
 {
@@ -337,7 +338,7 @@ fn spaced_disposition<K: Keep>(
 ) -> Reached<Option<ContentDisposition<K::Text>>>
     requires inside { p ≤ length m.now }
     requires serves { K.serves keep.now m.now }
-    ensures steps { GivesAt (λ x. option_map (disposition_seen (K.text_said m.now)) x) m.now result (step (spaced extensions.body_fld_dsp) (drop p m.now)) }
+    ensures steps { GivesAt (λ x. option_map (disposition_seen (K.text_said (named_in m.now))) x) m.now result (step (spaced extensions.body_fld_dsp) (drop p m.now)) }
     ensures ahead { Ahead m.now p result }
     ensures rests { RestsOn (λ n x. option_map (disposition_seen (K.text_said n)) x) result }
 {
@@ -354,7 +355,7 @@ fn maybe_disposition<K: Keep>(
 ) -> Reached<Option<ContentDisposition<K::Text>>>
     requires inside { p ≤ length m.now }
     requires serves { K.serves keep.now m.now }
-    ensures steps { GivesAt (λ x. option_map (disposition_seen (K.text_said m.now)) x) m.now result (step (maybe_spaced extensions.body_fld_dsp) (drop p m.now)) }
+    ensures steps { GivesAt (λ x. option_map (disposition_seen (K.text_said (named_in m.now))) x) m.now result (step (maybe_spaced extensions.body_fld_dsp) (drop p m.now)) }
     ensures ahead { Ahead m.now p result }
     ensures rests { RestsOn (λ n x. option_map (disposition_seen (K.text_said n)) x) result }
 {
@@ -370,7 +371,7 @@ fn spaced_languages<K: Keep>(
 ) -> Reached<Option<Vec<K::Text>>>
     requires inside { p ≤ length m.now }
     requires serves { K.serves keep.now m.now }
-    ensures steps { GivesAt (λ x. languages_seen (K.text_said m.now) x) m.now result (step (spaced extensions.body_fld_lang) (drop p m.now)) }
+    ensures steps { GivesAt (λ x. languages_seen (K.text_said (named_in m.now)) x) m.now result (step (spaced extensions.body_fld_lang) (drop p m.now)) }
     ensures ahead { Ahead m.now p result }
     ensures rests { RestsOn (λ n x. languages_seen (K.text_said n) x) result }
 {
@@ -386,7 +387,7 @@ fn maybe_languages<K: Keep>(
 ) -> Reached<Option<Vec<K::Text>>>
     requires inside { p ≤ length m.now }
     requires serves { K.serves keep.now m.now }
-    ensures steps { GivesAt (λ x. languages_seen (K.text_said m.now) x) m.now result (step (maybe_spaced extensions.body_fld_lang) (drop p m.now)) }
+    ensures steps { GivesAt (λ x. languages_seen (K.text_said (named_in m.now)) x) m.now result (step (maybe_spaced extensions.body_fld_lang) (drop p m.now)) }
     ensures ahead { Ahead m.now p result }
     ensures rests { RestsOn (λ n x. languages_seen (K.text_said n) x) result }
 {
@@ -403,7 +404,7 @@ fn last_extension<K: Keep>(
 ) -> Reached<Option<BodyExtension<K::Text>>>
     requires inside { p ≤ length m.now }
     requires serves { K.serves keep.now m.now }
-    ensures steps { GivesAt (λ x. option_map (extension_seen (K.text_said m.now)) x) m.now result (step extensions.last_extension (drop p m.now)) }
+    ensures steps { GivesAt (λ x. option_map (extension_seen (K.text_said (named_in m.now))) x) m.now result (step extensions.last_extension (drop p m.now)) }
     ensures ahead { Ahead m.now p result }
     ensures rests { RestsOn (λ n x. option_map (extension_seen (K.text_said n)) x) result }
 {
@@ -423,7 +424,7 @@ pub fn body_ext_1part<K: Keep>(
 ) -> Reached<BodyExt1Part<K::Text>>
     requires inside { p ≤ length m.now }
     requires serves { K.serves keep.now m.now }
-    ensures steps { GivesAt (λ x. ext_1part_seen (K.text_said m.now) x) m.now result (step extensions.body_ext_1part (drop p m.now)) }
+    ensures steps { GivesAt (λ x. ext_1part_seen (K.text_said (named_in m.now)) x) m.now result (step extensions.body_ext_1part (drop p m.now)) }
     ensures ahead { Ahead m.now p result }
     ensures rests { RestsOn (λ n x. ext_1part_seen (K.text_said n) x) result }
 {
@@ -457,7 +458,7 @@ pub fn body_ext_mpart<K: Keep>(
 ) -> Reached<BodyExtMPart<K::Text>>
     requires inside { p ≤ length m.now }
     requires serves { K.serves keep.now m.now }
-    ensures steps { GivesAt (λ x. ext_mpart_seen (K.text_said m.now) x) m.now result (step extensions.body_ext_mpart (drop p m.now)) }
+    ensures steps { GivesAt (λ x. ext_mpart_seen (K.text_said (named_in m.now)) x) m.now result (step extensions.body_ext_mpart (drop p m.now)) }
     ensures ahead { Ahead m.now p result }
     ensures rests { RestsOn (λ n x. ext_mpart_seen (K.text_said n) x) result }
 {

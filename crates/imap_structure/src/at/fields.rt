@@ -1,13 +1,14 @@
 //! Parameters, encodings and fields of bodies at a position.
 
 ghost use Rattle.std.specs.Prelude.{◌≤◌, length, drop, map};
-ghost use Rattle.imap_grammar.specs.Positions.{ExactlyAt, GivesAt, Ahead, RestsOn};
+ghost use Rattle.imap_grammar.specs.Positions.{ExactlyAt, GivesAt, Ahead, named_in};
 ghost use Rattle.imap_grammar.specs.Memory.{NeverFails};
 ghost use Rattle.imap_grammar.specs.Step.{step};
 ghost use Rattle.imap_envelopes.specs.Envelopes.{spaced};
 ghost use Rattle.imap_structure.specs.Fields as fields;
 ghost use Rattle.imap_structure.specs.Spanned.{pair_in, encoding_in};
 ghost use Rattle.imap_shapes.specs.FieldValues.{pair_seen, params_seen, fields_seen};
+ghost use Rattle.imap_shapes.specs.Spans.{RestsOn};
 
 use imap_bytes::at::Reached;
 use imap_bytes::at::strings::nil;
@@ -27,7 +28,7 @@ use std::alloc::Global;
 #[tactic(auto, unfolding(crate::specs::Fields::body_param))]
 fn param(m: &[u8], p: usize) -> Reached<(SpannedText, SpannedText)>
     requires { p ≤ length m.now }
-    ensures steps { ExactlyAt (λ x. pair_in m.now x) m.now result (step fields.body_param (drop p m.now)) }
+    ensures steps { ExactlyAt (λ x. pair_in (named_in m.now) x) m.now result (step fields.body_param (drop p m.now)) }
     ensures ahead { Ahead m.now p result }
     ensures rests { RestsOn pair_in result }
 {
@@ -38,7 +39,7 @@ fn param(m: &[u8], p: usize) -> Reached<(SpannedText, SpannedText)>
 
 fn spaced_param(m: &[u8], p: usize) -> Reached<(SpannedText, SpannedText)>
     requires { p ≤ length m.now }
-    ensures steps { ExactlyAt (λ x. pair_in m.now x) m.now result (step (spaced fields.body_param) (drop p m.now)) }
+    ensures steps { ExactlyAt (λ x. pair_in (named_in m.now) x) m.now result (step (spaced fields.body_param) (drop p m.now)) }
     ensures ahead { Ahead m.now p result }
     ensures rests { RestsOn pair_in result }
 {
@@ -55,7 +56,7 @@ fn some_params<K: Keep>(
 ) -> Reached<Vec<(K::Text, K::Text)>>
     requires inside { p ≤ length m.now }
     requires serves { K.serves keep.now m.now }
-    ensures steps { GivesAt (λ x. map (pair_seen (K.text_said m.now)) x.items) m.now result (step fields.some_params (drop p m.now)) }
+    ensures steps { GivesAt (λ x. map (pair_seen (K.text_said (named_in m.now))) x.items) m.now result (step fields.some_params (drop p m.now)) }
     ensures ahead { Ahead m.now p result }
     ensures rests { RestsOn (λ n x. map (pair_seen (K.text_said n)) x.items) result }
 {
@@ -81,7 +82,7 @@ pub fn body_fld_param<K: Keep>(
 ) -> Reached<BodyParams<K::Text>>
     requires inside { p ≤ length m.now }
     requires serves { K.serves keep.now m.now }
-    ensures steps { GivesAt (λ x. params_seen (K.text_said m.now) x) m.now result (step fields.body_fld_param (drop p m.now)) }
+    ensures steps { GivesAt (λ x. params_seen (K.text_said (named_in m.now)) x) m.now result (step fields.body_fld_param (drop p m.now)) }
     ensures ahead { Ahead m.now p result }
     ensures rests { RestsOn (λ n x. params_seen (K.text_said n) x) result }
 {
@@ -96,7 +97,7 @@ pub fn body_fld_param<K: Keep>(
 #[tactic(auto, unfolding(crate::specs::Fields::seven_bit))]
 fn seven_bit(m: &[u8], p: usize) -> Reached<ContentEncoding<SpannedText>>
     requires { p ≤ length m.now }
-    ensures steps { ExactlyAt (λ x. encoding_in m.now x) m.now result (step fields.seven_bit (drop p m.now)) }
+    ensures steps { ExactlyAt (λ x. encoding_in (named_in m.now) x) m.now result (step fields.seven_bit (drop p m.now)) }
     ensures ahead { Ahead m.now p result }
     ensures rests { RestsOn encoding_in result }
 {
@@ -107,7 +108,7 @@ fn seven_bit(m: &[u8], p: usize) -> Reached<ContentEncoding<SpannedText>>
 #[tactic(auto, unfolding(crate::specs::Fields::eight_bit))]
 fn eight_bit(m: &[u8], p: usize) -> Reached<ContentEncoding<SpannedText>>
     requires { p ≤ length m.now }
-    ensures steps { ExactlyAt (λ x. encoding_in m.now x) m.now result (step fields.eight_bit (drop p m.now)) }
+    ensures steps { ExactlyAt (λ x. encoding_in (named_in m.now) x) m.now result (step fields.eight_bit (drop p m.now)) }
     ensures ahead { Ahead m.now p result }
     ensures rests { RestsOn encoding_in result }
 {
@@ -118,7 +119,7 @@ fn eight_bit(m: &[u8], p: usize) -> Reached<ContentEncoding<SpannedText>>
 #[tactic(auto, unfolding(crate::specs::Fields::binary_or_base64))]
 fn binary_or_base64(m: &[u8], p: usize) -> Reached<ContentEncoding<SpannedText>>
     requires { p ≤ length m.now }
-    ensures steps { ExactlyAt (λ x. encoding_in m.now x) m.now result (step fields.binary_or_base64 (drop p m.now)) }
+    ensures steps { ExactlyAt (λ x. encoding_in (named_in m.now) x) m.now result (step fields.binary_or_base64 (drop p m.now)) }
     ensures ahead { Ahead m.now p result }
     ensures rests { RestsOn encoding_in result }
 {
@@ -130,7 +131,7 @@ fn binary_or_base64(m: &[u8], p: usize) -> Reached<ContentEncoding<SpannedText>>
 #[tactic(auto, unfolding(crate::specs::Fields::quoted_printable))]
 fn quoted_printable(m: &[u8], p: usize) -> Reached<ContentEncoding<SpannedText>>
     requires { p ≤ length m.now }
-    ensures steps { ExactlyAt (λ x. encoding_in m.now x) m.now result (step fields.quoted_printable (drop p m.now)) }
+    ensures steps { ExactlyAt (λ x. encoding_in (named_in m.now) x) m.now result (step fields.quoted_printable (drop p m.now)) }
     ensures ahead { Ahead m.now p result }
     ensures rests { RestsOn encoding_in result }
 {
@@ -141,7 +142,7 @@ fn quoted_printable(m: &[u8], p: usize) -> Reached<ContentEncoding<SpannedText>>
 #[tactic(auto, using(crate::proofs::FirstBytes::name_none, crate::proofs::FirstBytes::name_is_seven_bit, crate::proofs::FirstBytes::name_is_eight_bit, crate::proofs::FirstBytes::name_is_binary_or_base64, crate::proofs::FirstBytes::name_is_quoted_printable, crate::proofs::FirstBytes::name_other))]
 fn encoding_name(m: &[u8], p: usize) -> Reached<ContentEncoding<SpannedText>>
     requires { p ≤ length m.now }
-    ensures steps { ExactlyAt (λ x. encoding_in m.now x) m.now result (step fields.encoding_name (drop p m.now)) }
+    ensures steps { ExactlyAt (λ x. encoding_in (named_in m.now) x) m.now result (step fields.encoding_name (drop p m.now)) }
     ensures ahead { Ahead m.now p result }
     ensures rests { RestsOn encoding_in result }
 {
@@ -159,7 +160,7 @@ fn encoding_name(m: &[u8], p: usize) -> Reached<ContentEncoding<SpannedText>>
 #[tactic(auto, unfolding(crate::specs::Fields::quoted_encoding))]
 fn quoted_encoding(m: &[u8], p: usize) -> Reached<ContentEncoding<SpannedText>>
     requires { p ≤ length m.now }
-    ensures steps { ExactlyAt (λ x. encoding_in m.now x) m.now result (step fields.quoted_encoding (drop p m.now)) }
+    ensures steps { ExactlyAt (λ x. encoding_in (named_in m.now) x) m.now result (step fields.quoted_encoding (drop p m.now)) }
     ensures ahead { Ahead m.now p result }
     ensures rests { RestsOn encoding_in result }
 {
@@ -172,7 +173,7 @@ fn quoted_encoding(m: &[u8], p: usize) -> Reached<ContentEncoding<SpannedText>>
 #[tactic(auto, unfolding(crate::specs::Fields::nil_encoding))]
 fn nil_encoding(m: &[u8], p: usize) -> Reached<ContentEncoding<SpannedText>>
     requires { p ≤ length m.now }
-    ensures steps { ExactlyAt (λ x. encoding_in m.now x) m.now result (step fields.nil_encoding (drop p m.now)) }
+    ensures steps { ExactlyAt (λ x. encoding_in (named_in m.now) x) m.now result (step fields.nil_encoding (drop p m.now)) }
     ensures ahead { Ahead m.now p result }
     ensures rests { RestsOn encoding_in result }
 {
@@ -183,7 +184,7 @@ fn nil_encoding(m: &[u8], p: usize) -> Reached<ContentEncoding<SpannedText>>
 #[tactic(auto, unfolding(crate::specs::Fields::other_encoding))]
 fn other_encoding(m: &[u8], p: usize) -> Reached<ContentEncoding<SpannedText>>
     requires { p ≤ length m.now }
-    ensures steps { ExactlyAt (λ x. encoding_in m.now x) m.now result (step fields.other_encoding (drop p m.now)) }
+    ensures steps { ExactlyAt (λ x. encoding_in (named_in m.now) x) m.now result (step fields.other_encoding (drop p m.now)) }
     ensures ahead { Ahead m.now p result }
     ensures rests { RestsOn encoding_in result }
 {
@@ -194,7 +195,7 @@ fn other_encoding(m: &[u8], p: usize) -> Reached<ContentEncoding<SpannedText>>
 #[tactic(auto, unfolding(crate::specs::Fields::encoding_in_quotes))]
 fn encoding_in_quotes(m: &[u8], p: usize) -> Reached<ContentEncoding<SpannedText>>
     requires { p ≤ length m.now }
-    ensures steps { ExactlyAt (λ x. encoding_in m.now x) m.now result (step fields.encoding_in_quotes (drop p m.now)) }
+    ensures steps { ExactlyAt (λ x. encoding_in (named_in m.now) x) m.now result (step fields.encoding_in_quotes (drop p m.now)) }
     ensures ahead { Ahead m.now p result }
     ensures rests { RestsOn encoding_in result }
 {
@@ -206,7 +207,7 @@ fn encoding_in_quotes(m: &[u8], p: usize) -> Reached<ContentEncoding<SpannedText
 #[tactic(auto, using(imap_grammar::proofs::Memory::exactly_never_at, crate::proofs::FirstBytes::encoding_none, crate::proofs::FirstBytes::encoding_is_in_quotes, crate::proofs::FirstBytes::encoding_is_literal, crate::proofs::FirstBytes::encoding_is_nil, crate::proofs::FirstBytes::encoding_other))]
 pub fn body_fld_enc(m: &[u8], p: usize) -> Reached<ContentEncoding<SpannedText>>
     requires { p ≤ length m.now }
-    ensures steps { ExactlyAt (λ x. encoding_in m.now x) m.now result (step fields.body_fld_enc (drop p m.now)) }
+    ensures steps { ExactlyAt (λ x. encoding_in (named_in m.now) x) m.now result (step fields.body_fld_enc (drop p m.now)) }
     ensures ahead { Ahead m.now p result }
     ensures rests { RestsOn encoding_in result }
     ensures no_failure { NeverFails result }
@@ -223,7 +224,7 @@ pub fn body_fld_enc(m: &[u8], p: usize) -> Reached<ContentEncoding<SpannedText>>
 
 fn spaced_encoding(m: &[u8], p: usize) -> Reached<ContentEncoding<SpannedText>>
     requires { p ≤ length m.now }
-    ensures steps { ExactlyAt (λ x. encoding_in m.now x) m.now result (step (spaced fields.body_fld_enc) (drop p m.now)) }
+    ensures steps { ExactlyAt (λ x. encoding_in (named_in m.now) x) m.now result (step (spaced fields.body_fld_enc) (drop p m.now)) }
     ensures ahead { Ahead m.now p result }
     ensures rests { RestsOn encoding_in result }
 {
@@ -243,7 +244,7 @@ pub fn body_fields<K: Keep>(
 ) -> Reached<BodyFields<K::Text>>
     requires inside { p ≤ length m.now }
     requires serves { K.serves keep.now m.now }
-    ensures steps { GivesAt (λ x. fields_seen (K.text_said m.now) x) m.now result (step fields.body_fields (drop p m.now)) }
+    ensures steps { GivesAt (λ x. fields_seen (K.text_said (named_in m.now)) x) m.now result (step fields.body_fields (drop p m.now)) }
     ensures ahead { Ahead m.now p result }
     ensures rests { RestsOn (λ n x. fields_seen (K.text_said n) x) result }
 {
@@ -275,7 +276,7 @@ pub fn spaced_fields<K: Keep>(
 ) -> Reached<BodyFields<K::Text>>
     requires inside { p ≤ length m.now }
     requires serves { K.serves keep.now m.now }
-    ensures steps { GivesAt (λ x. fields_seen (K.text_said m.now) x) m.now result (step (spaced fields.body_fields) (drop p m.now)) }
+    ensures steps { GivesAt (λ x. fields_seen (K.text_said (named_in m.now)) x) m.now result (step (spaced fields.body_fields) (drop p m.now)) }
     ensures ahead { Ahead m.now p result }
     ensures rests { RestsOn (λ n x. fields_seen (K.text_said n) x) result }
 {

@@ -1,5 +1,5 @@
 use Rattle.imap_grammar.proofs.Agreement.{answered_at}
-use Rattle.imap_body.proofs.Standing.{kept_named, kept_in_turn, kept_rest}
+use Rattle.imap_body.proofs.Standing.{kept_named, kept_in_turn, kept_in_front}
 use Rattle.imap_body.proofs.spanned.attribute_list_at.Goals as goal
 
 pub returns-clause-steps : goal.returns-clause-steps
@@ -9,7 +9,7 @@ pub returns-clause-answer : goal.returns-clause-answer
 returns-clause-answer c = answered_at _ _ _ _ _ (returns-clause-steps c)
 
 pub returns-clause-rests : goal.returns-clause-rests
-returns-clause-rests c = kept_rest _ _ _ _ c.kept_list.ensures.kept
+returns-clause-rests c = kept_in_front _ _ _ _ c.kept_list.ensures.kept
 
 pub returns-clause-spans : goal.returns-clause-spans
 returns-clause-spans c = kept_in_turn _ _ _ _ c.kept_list.ensures.kept

@@ -1,4 +1,4 @@
-use Rattle.std.proofs.Common.{take}
+use Rattle.imap_shapes.proofs.Places.{parts_rest}
 use Rattle.imap_body.proofs.Placing.{spans_said}
 use Rattle.imap_body.proofs.keeping.PositionsKeepAttribute.flags.Goals as goal
 
@@ -6,4 +6,6 @@ pub returns-clause-steps : goal.returns-clause-steps
 returns-clause-steps c = rw (c.in_ok-texts_of.ensures, spans_said c.args.m.now c.in_ok-q.spans.items) c.in_ok-q.ensures.steps
 
 pub returns-clause-rests : goal.returns-clause-rests
-returns-clause-rests c = record { same = λ n. rw (c.in_ok-texts_of.ensures, spans_said (take c.in_ok-q.q n) c.in_ok-q.spans.items, spans_said n c.in_ok-q.spans.items) (c.in_ok-q.ensures.rests.same n) }
+returns-clause-rests c =
+    let rests = parts_rest _ _ c.in_ok-q.spans.items c.in_ok-q.ensures.inside in
+    record { same = λ n k alike. rw c.in_ok-texts_of.ensures (rests.same n k alike) }

@@ -1,7 +1,7 @@
 use Rattle.std.proofs.Common.{refl, arith, ◌≤◌}
 use Rattle.std.proofs.Math.Nat.{le_trans}
-use Rattle.imap_grammar.proofs.Positions.{rests_more}
 use Rattle.imap_envelopes.specs.Envelopes.{address}
+use Rattle.imap_shapes.proofs.Places.{rests_more}
 use Rattle.imap_envelopes.proofs.at.envelopes.address.Goals as goal
 
 pub returns-clause-rests : goal.returns-clause-rests
@@ -15,7 +15,7 @@ returns-clause-rests c =
     let adl = rests_more q e3 c.in_ok-p-3.ensures.rests in
     let mailbox = rests_more q e4 c.in_ok-p-4.ensures.rests in
     let host = rests_more q e5 c.in_ok-p-5.ensures.rests in
-    record { same = λ m. rw (name.same m, adl.same m, mailbox.same m, host.same m) refl }
+    record { same = λ n k alike. rw (name.same n k alike, adl.same n k alike, mailbox.same n k alike, host.same n k alike) refl }
 
 pub returns-clause-steps : goal.returns-clause-steps
 unfolding address

@@ -3,11 +3,11 @@ use Rattle.std.specs.Prelude.{Option}
 use Rattle.std.proofs.Math.Nat.{le_trans}
 use Rattle.std.proofs.lemmas.Result.{err_from_is_err_and}
 use Rattle.imap_grammar.specs.Text.{Text}
-use Rattle.imap_grammar.proofs.Positions.{rests_more}
 use Rattle.imap_grammar.proofs.Agreement.{stops, stops_with}
 use Rattle.imap_envelopes.proofs.Keeping.{kept_rests}
 use Rattle.imap_envelopes.specs.Envelopes.{Addresses, envelope, envelope_of, last_fields_seen}
 use Rattle.imap_shapes.specs.EnvelopeValues.{envelope_seen}
+use Rattle.imap_shapes.proofs.Places.{rests_more}
 use Rattle.imap_envelopes.proofs.at.envelopes.envelope.Goals as goal
 
 -- What is the same in front of the same last fields is the same envelope.
@@ -30,7 +30,7 @@ returns-clause-rests g c =
     let sender = rests_more q e5 c.in_ok-p-5.ensures.rests in
     let reply_to = rests_more q e6 c.in_ok-p-6.ensures.rests in
     let last = c.in_ok-p-7.ensures.rests in
-    record { same = λ m. rw (date.same m, subject.same m, from.same m, sender.same m, reply_to.same m) (same_behind _ _ _ _ _ (last.same m)) }
+    record { same = λ n k alike. rw (date.same n k alike, subject.same n k alike, from.same n k alike, sender.same n k alike, reply_to.same n k alike) (same_behind _ _ _ _ _ (last.same n k alike)) }
 
 pub returns-clause-steps : goal.returns-clause-steps
 unfolding envelope envelope_seen last_fields_seen

@@ -1,10 +1,10 @@
 use Rattle.std.proofs.Common.{refl, arith, ◌≤◌}
 use Rattle.std.proofs.Math.Nat.{le_trans}
 use Rattle.std.proofs.lemmas.Result.{err_from_is_err_and}
-use Rattle.imap_grammar.proofs.Positions.{rests_more}
 use Rattle.imap_grammar.proofs.Agreement.{stops, stops_with}
 use Rattle.imap_envelopes.proofs.Keeping.{kept_rests}
 use Rattle.imap_envelopes.specs.Envelopes.{last_fields_seen}
+use Rattle.imap_shapes.proofs.Places.{rests_more}
 use Rattle.imap_envelopes.proofs.at.envelopes.last_fields.Goals as goal
 
 pub returns-clause-rests : goal.returns-clause-rests
@@ -21,7 +21,7 @@ returns-clause-rests g c =
     let bcc = rests_more q e3 c.in_ok-p-3.ensures.rests in
     let in_reply_to = kept_rests _ _ _ _ _ _ c.kept_bytes.ensures (rests_more q e4 c.in_ok-p-4.ensures.rests) in
     let message_id = kept_rests _ _ _ _ _ _ c.kept_bytes-2.ensures (rests_more q e5 c.in_ok-p-5.ensures.rests) in
-    record { same = λ m. rw (to.same m, copies.same m, bcc.same m, in_reply_to.same m, message_id.same m) refl }
+    record { same = λ n k alike. rw (to.same n k alike, copies.same n k alike, bcc.same n k alike, in_reply_to.same n k alike, message_id.same n k alike) refl }
 
 pub returns-clause-steps : goal.returns-clause-steps
 unfolding last_fields_seen

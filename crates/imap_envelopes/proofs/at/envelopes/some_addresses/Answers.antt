@@ -7,13 +7,15 @@ use Rattle.imap_envelopes.specs.Envelopes.{address, listed_address, some_address
 use Rattle.imap_shapes.specs.EnvelopeValues.{address_seen}
 use Rattle.imap_envelopes.proofs.Keeping.{kept_rests}
 use Rattle.imap_grammar.proofs.Joins.{tried_some, tried_none, tried_fault}
-use Rattle.imap_envelopes.proofs.Gathering.{next, all, stopped, some_are, not_none, none_there, one_there, onward, together}
+use Rattle.imap_envelopes.proofs.Gathering.{next, all, stopped, some_are, not_none, none_there, one_there, onward}
+use Rattle.imap_grammar.specs.Positions.{named_in}
+use Rattle.imap_shapes.proofs.Places.{together}
 use Rattle.imap_envelopes.proofs.at.envelopes.some_addresses.Goals as goal
 
 pub addresses-init : goal.addresses-init
 addresses-init g c = record {
   gathered = rw c.new-items.ensures.items (record { so_far = onto_nothing _ });
-  rests = rw c.new-items.ensures.items (record { same = λ n. refl });
+  rests = rw c.new-items.ensures.items (record { same = λ n k alike. refl });
   ahead = omega arith;
   within = c.requires.inside;
 }
@@ -34,7 +36,7 @@ addresses-preserved g c =
     let steps = rw is at c.listed_address.ensures.steps in
     let rests = kept_rests _ _ _ _ _ _ kept.ensures (rw is at c.listed_address.ensures.rests) in
     record {
-      gathered = rw c.in_ok-push.ensures.items (next (λ x. address_seen (g.K.Keep.bytes_said c.args.m.now) x) _ listed_address _ _ _ kept.result c.addresses.invariant.gathered (rw kept.ensures.is steps) refl);
+      gathered = rw c.in_ok-push.ensures.items (next (λ x. address_seen (g.K.Keep.bytes_said (named_in c.args.m.now)) x) _ listed_address _ _ _ kept.result c.addresses.invariant.gathered (rw kept.ensures.is steps) refl);
       rests = rw c.in_ok-push.ensures.items (together (λ n x. address_seen (g.K.Keep.bytes_said n) x) _ _ _ _ far.0 c.addresses.invariant.rests rests);
       ahead = le_trans c.addresses.invariant.ahead far.0;
       within = far.1;
@@ -46,7 +48,7 @@ returns-then-is_empty-clause-steps g c =
     let few : length c.addresses.items.items ≡ 0 = search (rules, c.is_empty.ensures, c.if-is_empty.true) in
     let is = tried_none _ _ (sym c.tried.ensures ∙ c.in_ok-after.was) c.in_default.is in
     let read = all _ listed_address _ _ c.addresses.invariant.gathered (rw is at c.listed_address.ensures.steps) in
-    some_are listed_address (drop c.args.p c.args.m.now) refl ∙ none_there (λ x. address_seen (g.K.Keep.bytes_said c.args.m.now) x) _ _ c.addresses.items.items few read
+    some_are listed_address (drop c.args.p c.args.m.now) refl ∙ none_there (λ x. address_seen (g.K.Keep.bytes_said (named_in c.args.m.now)) x) _ _ c.addresses.items.items few read
 
 pub returns-in_err-after-clause-steps : goal.returns-in_err-after-clause-steps
 unfolding some_addresses listed_address address
@@ -62,7 +64,7 @@ returns-clause-steps g c =
     let few : 1 ≤ length c.addresses.items.items = search (rules, c.is_empty.ensures, c.if-is_empty.false) in
     let is = tried_none _ _ (sym c.tried.ensures ∙ c.in_ok-after.was) c.in_default.is in
     let read = all _ listed_address _ _ c.addresses.invariant.gathered (rw is at c.listed_address.ensures.steps) in
-    some_are listed_address (drop c.args.p c.args.m.now) refl ∙ one_there (λ x. address_seen (g.K.Keep.bytes_said c.args.m.now) x) _ _ c.addresses.items.items few read
+    some_are listed_address (drop c.args.p c.args.m.now) refl ∙ one_there (λ x. address_seen (g.K.Keep.bytes_said (named_in c.args.m.now)) x) _ _ c.addresses.items.items few read
 
 pub returns-clause-rests : goal.returns-clause-rests
-returns-clause-rests g c = record { same = λ n. c.addresses.invariant.rests.same n }
+returns-clause-rests g c = record { same = λ n k alike. c.addresses.invariant.rests.same n k alike }

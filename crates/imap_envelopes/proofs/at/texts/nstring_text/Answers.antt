@@ -1,5 +1,5 @@
 use Rattle.imap_shapes.specs.Spans.{text_in}
-use Rattle.imap_envelopes.proofs.Naming.{nothing_rests, something_rests}
+use Rattle.imap_shapes.proofs.Places.{nothing_rests, something_rests}
 use Rattle.imap_envelopes.proofs.at.texts.nstring_text.Goals as goal
 
 pub returns-clause-rests : goal.returns-clause-rests

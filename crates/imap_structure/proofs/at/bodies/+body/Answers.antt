@@ -2,7 +2,6 @@ use Rattle.std.proofs.Common.{refl, sym, drop, arith, rules, ◌≡◌, ◌<◌,
 use Rattle.std.specs.Prelude.{slice_get}
 use Rattle.std.proofs.Math.Nat.{le_trans}
 use Rattle.std.proofs.lemmas.Result.{err_from_is_err_and}
-use Rattle.imap_grammar.proofs.Positions.{rests_more}
 use Rattle.imap_grammar.proofs.Agreement.{stops, stops_with}
 use Rattle.imap_structure.specs.Bodies.{body, bracketed_body, body_type_msg, body_type_mpart, some_bodies}
 use Rattle.imap_shapes.specs.BodyValues.{body_seen}
@@ -10,7 +9,9 @@ use Rattle.imap_envelopes.proofs.Keeping.{kept_rests}
 use Rattle.imap_structure.proofs.Reading.{message_rests, multipart_rests, message_reads, multipart_reads, boxed_rests, unboxed_rests}
 use Rattle.imap_structure.proofs.FirstBytes.{type_none, type_is_quoted, type_is_literal, type_is_mpart}
 use Rattle.imap_structure.proofs.Levels.{body_below, body_takes}
-use Rattle.imap_envelopes.proofs.Gathering.{first, next, all, halted, onward, alone, together}
+use Rattle.imap_envelopes.proofs.Gathering.{first, next, all, halted, onward}
+use Rattle.imap_grammar.specs.Positions.{named_in}
+use Rattle.imap_shapes.proofs.Places.{rests_more, alone, together}
 use Rattle.imap_structure.proofs.at.bodies.+body.Goals as goal
 
 pub body-returns-then-level-eq0-clause-puts : goal.body-returns-then-level-eq0-clause-puts
@@ -83,7 +84,7 @@ body_type_mpart-returns-3-clause-puts g t c =
     let q = c.in-Ok-made-2.field-0.0 in
     let e2 : c.in-Ok-made.field-0.0 ≤ q = c.in-Ok-made-2.ensures.ahead.0 in
     let e1 : c.in_ok-p.p ≤ q = le_trans c.in-Ok-made.ensures.ahead.0 e2 in
-    let ty = kept_rests _ _ _ q _ _ c.in_ok-ty.ensures (record { same = λ n. refl }) in
+    let ty = kept_rests _ _ _ q _ _ c.in_ok-ty.ensures (record { same = λ n k alike. refl }) in
     let subtype = kept_rests _ _ _ q _ _ c.in_ok-subtype.ensures (rests_more q e2 c.in-Ok-made.ensures.rests) in
     record {
       one = _;
@@ -131,14 +132,20 @@ body_type_msg-returns-5-clause-puts g t c =
     let e4 : c.in-Ok-made-2.field-0.0 ≤ q = le_trans c.in-Ok-made-3.ensures.ahead.0 e5 in
     let e3 : c.in-Ok-made.field-0.0 ≤ q = le_trans c.in-Ok-made-2.ensures.ahead.0 e4 in
     let e2 : c.in_ok-p-2.p ≤ q = le_trans c.in-Ok-made.ensures.ahead.0 e3 in
-    let ty = kept_rests _ _ _ q _ _ c.in_ok-ty.ensures (record { same = λ n. refl }) in
-    let subtype = kept_rests _ _ _ q _ _ c.in_ok-subtype.ensures (record { same = λ n. refl }) in
+    let ty = kept_rests _ _ _ q _ _ c.in_ok-ty.ensures (record { same = λ n k alike. refl }) in
+    let subtype = kept_rests _ _ _ q _ _ c.in_ok-subtype.ensures (record { same = λ n k alike. refl }) in
     record {
       one = _;
       behind = rw c.push_reserved.ensures.items (rw c.in_ok-reserve.ensures.items refl);
       read = message_reads _ _ c.args.level _ _ _ _ _ _ _ _ _ _ _ _ c.in-Ok-made-2.field-0.1.value c.in-Ok-made-2.field-0.1 _ _ c.in_ok-ty.ensures.is c.in_ok-subtype.ensures.is refl c.in_ok-p.ensures.steps c.in_ok-p-2.ensures.steps c.in-Ok-made.ensures.steps c.in-Ok-made-2.ensures.steps c.in-Ok-made-3.ensures.steps c.in-Ok-made-4.ensures.steps;
       rests = message_rests _ _ q _ _ _ _ _ _ _ ty subtype (rests_more q e2 c.in_ok-p-2.ensures.rests) (rests_more q e3 c.in-Ok-made.ensures.rests) (unboxed_rests _ _ q _ (rests_more q e4 c.in-Ok-made-2.ensures.rests)) c.in-Ok-made-4.ensures.rests;
     }
+
+pub one_body-returns-2-clause-steps : goal.one_body-returns-2-clause-steps
+one_body-returns-2-clause-steps g t c =
+    let put = c.in-Ok-made.ensures.puts in
+    let same = c.in_ok-boxed_only.ensures put.one (rw put.behind (rw c.in_ok-bodies.ensures.items refl)) in
+    rw same put.read
 
 pub one_body-returns-2-clause-rests : goal.one_body-returns-2-clause-rests
 one_body-returns-2-clause-rests g t c =
@@ -164,7 +171,7 @@ pub some_bodies-bodies-preserved : goal.some_bodies-bodies-preserved
 some_bodies-bodies-preserved g t c =
     let put = c.in-Ok.ensures.puts in
     record {
-      gathered = rw put.behind (next (λ x. body_seen (g.K.Keep.text_said c.args.m.now) (g.K.Keep.bytes_said c.args.m.now) x) _ (body c.args.level) _ _ _ put.one c.bodies.invariant.gathered put.read (body_takes c.args.level));
+      gathered = rw put.behind (next (λ x. body_seen (g.K.Keep.text_said (named_in c.args.m.now)) (g.K.Keep.bytes_said (named_in c.args.m.now)) x) _ (body c.args.level) _ _ _ put.one c.bodies.invariant.gathered put.read (body_takes c.args.level));
       rests = rw put.behind (together (λ n x. body_seen (g.K.Keep.text_said n) (g.K.Keep.bytes_said n) x) _ _ _ _ (c.in-Ok.ensures.ahead.0) c.bodies.invariant.rests put.rests);
       ahead = le_trans c.bodies.invariant.ahead c.in-Ok.ensures.ahead.0;
       within = c.in-Ok.ensures.ahead.1;
@@ -176,7 +183,7 @@ some_bodies-returns-in-Error-clause-steps g t c =
     rw c.in-Err.ensures.leaves (all _ (body c.args.level) _ _ c.bodies.invariant.gathered (rw c.in-Error.is at c.in-Err.ensures.puts))
 
 pub some_bodies-returns-in-Error-clause-rests : goal.some_bodies-returns-in-Error-clause-rests
-some_bodies-returns-in-Error-clause-rests g t c = record { same = λ n. rw c.in-Err.ensures.leaves (c.bodies.invariant.rests.same n) }
+some_bodies-returns-in-Error-clause-rests g t c = record { same = λ n k alike. rw c.in-Err.ensures.leaves (c.bodies.invariant.rests.same n k alike) }
 
 pub some_bodies-returns-in_default : goal.some_bodies-returns-in_default
 unfolding some_bodies

@@ -1,10 +1,11 @@
 use Rattle.std.proofs.Common.{drop, length, map, ◌≤◌, ◌-◌, ◌+◌, ◌*◌}
 use Rattle.imap_grammar.specs.Rule.{some1}
 use Rattle.imap_grammar.specs.Step.{step}
-use Rattle.imap_grammar.specs.Positions.{Rests}
 use Rattle.imap_structure.specs.Bodies.{body}
 use Rattle.imap_shapes.specs.BodyValues.{body_seen}
 use Rattle.imap_envelopes.proofs.Gathering.{Gathered}
+use Rattle.imap_grammar.specs.Positions.{named_in}
+use Rattle.imap_shapes.specs.Spans.{Rests}
 use Rattle.imap_structure.proofs.at.bodies.+body.Given as goal
 
 abbrev pub decreases-body : goal.decreases-body
@@ -36,7 +37,7 @@ decreases-one_body g l = 9 * l.level + 1
 
 abbrev pub invariant-some_bodies-bodies : goal.invariant-some_bodies-bodies
 invariant-some_bodies-bodies g l = record {
-  gathered : Gathered (step (some1 (body l.level)) (drop l.p l.m)) (body l.level) (map (body_seen (g.K.Keep.text_said l.m) (g.K.Keep.bytes_said l.m)) l.items.items) (drop l.q l.m);
+  gathered : Gathered (step (some1 (body l.level)) (drop l.p l.m)) (body l.level) (map (body_seen (g.K.Keep.text_said (named_in l.m)) (g.K.Keep.bytes_said (named_in l.m))) l.items.items) (drop l.q l.m);
   rests : Rests (λ n xs. map (body_seen (g.K.Keep.text_said n) (g.K.Keep.bytes_said n)) xs) l.q l.items.items;
   ahead : l.p ≤ l.q;
   within : l.q ≤ length l.m;

@@ -1,8 +1,8 @@
 use Rattle.std.proofs.Common.{◌≤◌, refl, sym}
 use Rattle.std.proofs.Math.Nat.{le_trans}
-use Rattle.imap_grammar.proofs.Positions.{rests_more}
 use Rattle.imap_envelopes.proofs.Keeping.{kept_rests}
 use Rattle.imap_structure.proofs.Reading.{basic_rests, basic_reads}
+use Rattle.imap_shapes.proofs.Places.{rests_more}
 use Rattle.imap_structure.proofs.at.bodies.body_type_basic.Goals as goal
 
 pub returns-2-clause-puts : goal.returns-2-clause-puts

@@ -1,15 +1,15 @@
 use Rattle.std.proofs.Common.{refl, sym, subst, drop, arith, ◌<◌, ◌∙◌}
 use Rattle.std.proofs.Math.Nat.{le_trans}
 use Rattle.std.proofs.lemmas.Result.{err_from_is_err_and}
-use Rattle.imap_grammar.specs.Positions.{GivesAt}
-use Rattle.imap_grammar.proofs.Positions.{rests_more}
+use Rattle.imap_grammar.specs.Positions.{named_in, GivesAt}
 use Rattle.imap_envelopes.specs.Envelopes.{spaced}
 use Rattle.imap_structure.specs.Extensions.{extension_over, some_extensions, extension_list}
 use Rattle.imap_shapes.specs.ExtensionValues.{extension_seen}
 use Rattle.imap_grammar.proofs.Joins.{tried_some, tried_none, tried_fault}
 use Rattle.imap_structure.proofs.Seeing.{list_rests}
 use Rattle.imap_structure.proofs.Levels.{list_below}
-use Rattle.imap_envelopes.proofs.Gathering.{first, next, all, halted, onward, alone, together}
+use Rattle.imap_envelopes.proofs.Gathering.{first, next, all, halted, onward}
+use Rattle.imap_shapes.proofs.Places.{rests_more, alone, together}
 use Rattle.imap_structure.proofs.at.extensions.+extension.Goals as goal
 
 pub extension_list-returns-then-level-eq0-clause-steps : goal.extension_list-returns-then-level-eq0-clause-steps
@@ -18,7 +18,7 @@ extension_list-returns-then-level-eq0-clause-steps g t c = rw c.if-level-eq0.tru
 
 pub extension_list-returns-clause-steps : goal.extension_list-returns-clause-steps
 extension_list-returns-clause-steps g t c =
-    subst (λ s. GivesAt (λ x. extension_seen (g.K.Keep.text_said c.args.m.now) x) c.args.m.now c.bracketed_extensions.result s) (sym (list_below c.args.level (drop c.args.p c.args.m.now) c.if-level-eq0.false)) c.bracketed_extensions.ensures.steps
+    subst (λ s. GivesAt (λ x. extension_seen (g.K.Keep.text_said (named_in c.args.m.now)) x) c.args.m.now c.bracketed_extensions.result s) (sym (list_below c.args.level (drop c.args.p c.args.m.now) c.if-level-eq0.false)) c.bracketed_extensions.ensures.steps
 
 pub bracketed_extensions-returns-clause-rests : goal.bracketed_extensions-returns-clause-rests
 bracketed_extensions-returns-clause-rests g t c = list_rests _ _ _ (rests_more _ (omega (arith, c.in_ok-p-3.ensures.inside, c.in_ok-p-4.ensures.inside)) c.in_ok-p-2.ensures.rests)
@@ -46,7 +46,7 @@ some_extensions-extensions-preserved g t c =
     let far = rw is at c.spaced_extension.ensures.ahead in
     let more = spaced (extension_over (extension_list c.args.level)) in
     record {
-      gathered = rw c.in_ok-push.ensures.items (next (λ x. extension_seen (g.K.Keep.text_said c.args.m.now) x) _ more _ _ _ _ c.extensions.invariant.gathered (rw is at c.spaced_extension.ensures.steps) refl);
+      gathered = rw c.in_ok-push.ensures.items (next (λ x. extension_seen (g.K.Keep.text_said (named_in c.args.m.now)) x) _ more _ _ _ _ c.extensions.invariant.gathered (rw is at c.spaced_extension.ensures.steps) refl);
       rests = rw c.in_ok-push.ensures.items (together (λ n x. extension_seen (g.K.Keep.text_said n) x) _ _ _ _ far.0 c.extensions.invariant.rests (rw is at c.spaced_extension.ensures.rests));
       ahead = le_trans c.extensions.invariant.ahead far.0;
       within = far.1;
@@ -59,7 +59,7 @@ some_extensions-returns-clause-steps g t c =
     all _ (spaced (extension_over (extension_list c.args.level))) _ _ c.extensions.invariant.gathered (rw is at c.spaced_extension.ensures.steps)
 
 pub some_extensions-returns-clause-rests : goal.some_extensions-returns-clause-rests
-some_extensions-returns-clause-rests g t c = record { same = λ n. c.extensions.invariant.rests.same n }
+some_extensions-returns-clause-rests g t c = record { same = λ n k alike. c.extensions.invariant.rests.same n k alike }
 
 pub some_extensions-returns-in_err-after-clause-steps : goal.some_extensions-returns-in_err-after-clause-steps
 unfolding some_extensions

@@ -2,11 +2,12 @@ use Rattle.std.proofs.Common.{drop, length, map, ◌≤◌, ◌-◌, ◌+◌, �
 use Rattle.imap_grammar.specs.Rule.{list1}
 use Rattle.imap_grammar.specs.Tags.{sp}
 use Rattle.imap_grammar.specs.Step.{step}
-use Rattle.imap_grammar.specs.Positions.{Rests}
 use Rattle.imap_envelopes.specs.Envelopes.{spaced}
 use Rattle.imap_structure.specs.Extensions.{extension_over, extension_list}
 use Rattle.imap_shapes.specs.ExtensionValues.{extension_seen}
 use Rattle.imap_envelopes.proofs.Gathering.{Gathered}
+use Rattle.imap_grammar.specs.Positions.{named_in}
+use Rattle.imap_shapes.specs.Spans.{Rests}
 use Rattle.imap_structure.proofs.at.extensions.+extension.Given as goal
 
 abbrev pub decreases-extension : goal.decreases-extension
@@ -26,7 +27,7 @@ decreases-spaced_extension g l = 5 * l.level + 2
 
 abbrev pub invariant-some_extensions-extensions : goal.invariant-some_extensions-extensions
 invariant-some_extensions-extensions g l = record {
-  gathered : Gathered (step (list1 sp (extension_over (extension_list l.level))) (drop l.p l.m)) (spaced (extension_over (extension_list l.level))) (map (extension_seen (g.K.Keep.text_said l.m)) l.items.items) (drop l.q l.m);
+  gathered : Gathered (step (list1 sp (extension_over (extension_list l.level))) (drop l.p l.m)) (spaced (extension_over (extension_list l.level))) (map (extension_seen (g.K.Keep.text_said (named_in l.m))) l.items.items) (drop l.q l.m);
   rests : Rests (λ n xs. map (extension_seen (g.K.Keep.text_said n)) xs) l.q l.items.items;
   ahead : l.p ≤ l.q;
   within : l.q ≤ length l.m;

@@ -1,9 +1,9 @@
 use Rattle.std.proofs.Common.{refl, ◌≤◌}
 use Rattle.std.proofs.Math.Nat.{le_trans}
-use Rattle.imap_grammar.proofs.Positions.{rests_more}
 use Rattle.imap_envelopes.proofs.Keeping.{kept_rests}
 use Rattle.imap_shapes.specs.ExtensionValues.{ext_1part_seen}
 use Rattle.imap_structure.specs.Extensions.{body_ext_1part}
+use Rattle.imap_shapes.proofs.Places.{rests_more}
 use Rattle.imap_structure.proofs.at.extensions.body_ext_1part.Goals as goal
 
 pub returns-clause-rests : goal.returns-clause-rests
@@ -18,7 +18,7 @@ returns-clause-rests g c =
     let disposition = rests_more q e2 c.in_ok-p-2.ensures.rests in
     let language = rests_more q e3 c.in_ok-p-3.ensures.rests in
     let location = kept_rests _ _ _ _ _ _ c.in_ok-kept_text-2.ensures (rests_more q e4 c.in_ok-p-4.ensures.rests) in
-    record { same = λ m. rw (md5.same m, disposition.same m, language.same m, location.same m, c.in_ok-p-5.ensures.rests.same m) refl }
+    record { same = λ n k alike. rw (md5.same n k alike, disposition.same n k alike, language.same n k alike, location.same n k alike, c.in_ok-p-5.ensures.rests.same n k alike) refl }
 
 pub returns-clause-steps : goal.returns-clause-steps
 unfolding body_ext_1part ext_1part_seen

@@ -1,6 +1,5 @@
 use Rattle.std.proofs.Common.{arith}
-use Rattle.imap_grammar.proofs.Positions.{rests_more}
-use Rattle.imap_envelopes.proofs.Naming.{listed_rest}
+use Rattle.imap_shapes.proofs.Places.{rests_more, listed_rest}
 use Rattle.imap_structure.proofs.at.extensions.language_list.Goals as goal
 
 pub returns-clause-rests : goal.returns-clause-rests

@@ -1,5 +1,5 @@
 use Rattle.imap_shapes.specs.ExtensionValues.{extension_seen}
-use Rattle.imap_envelopes.proofs.Naming.{something_rests}
+use Rattle.imap_shapes.proofs.Places.{something_rests}
 use Rattle.imap_structure.proofs.at.extensions.last_extension.Goals as goal
 
 pub returns-in-Ok-maybe-clause-rests : goal.returns-in-Ok-maybe-clause-rests

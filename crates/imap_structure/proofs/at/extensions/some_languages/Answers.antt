@@ -7,7 +7,9 @@ use Rattle.imap_bytes.specs.Texts.{string_utf8}
 use Rattle.imap_structure.specs.Extensions.{some_languages}
 use Rattle.imap_envelopes.proofs.Keeping.{kept_rests}
 use Rattle.imap_grammar.proofs.Joins.{tried_some, tried_none, tried_fault}
-use Rattle.imap_envelopes.proofs.Gathering.{first, next, all, stopped, onward, alone, together}
+use Rattle.imap_envelopes.proofs.Gathering.{first, next, all, stopped, onward}
+use Rattle.imap_grammar.specs.Positions.{named_in}
+use Rattle.imap_shapes.proofs.Places.{alone, together}
 use Rattle.imap_structure.proofs.at.extensions.some_languages.Goals as goal
 
 pub languages-init : goal.languages-init
@@ -32,7 +34,7 @@ languages-preserved g c =
     let steps = rw is at c.spaced_string_text.ensures.steps in
     let rests = kept_rests _ _ _ _ _ _ kept.ensures (rw is at c.spaced_string_text.ensures.rests) in
     record {
-      gathered = rw c.in_ok-push.ensures.items (next (λ x. g.K.Keep.text_said c.args.m.now x) _ (spaced string_utf8) _ _ _ kept.field-0 c.languages.invariant.gathered (rw kept.ensures.is steps) refl);
+      gathered = rw c.in_ok-push.ensures.items (next (λ x. g.K.Keep.text_said (named_in c.args.m.now) x) _ (spaced string_utf8) _ _ _ kept.field-0 c.languages.invariant.gathered (rw kept.ensures.is steps) refl);
       rests = rw c.in_ok-push.ensures.items (together g.K.Keep.text_said _ _ _ _ far.0 c.languages.invariant.rests rests);
       ahead = le_trans c.languages.invariant.ahead far.0;
       within = far.1;
@@ -45,7 +47,7 @@ returns-clause-steps g c =
     all _ (spaced string_utf8) _ _ c.languages.invariant.gathered (rw is at c.spaced_string_text.ensures.steps)
 
 pub returns-clause-rests : goal.returns-clause-rests
-returns-clause-rests g c = record { same = λ n. c.languages.invariant.rests.same n }
+returns-clause-rests g c = record { same = λ n k alike. c.languages.invariant.rests.same n k alike }
 
 pub returns-in_err-after-clause-steps : goal.returns-in_err-after-clause-steps
 unfolding some_languages

@@ -1,9 +1,9 @@
 use Rattle.std.proofs.Common.{refl, ◌≤◌}
 use Rattle.std.proofs.Math.Nat.{le_trans}
-use Rattle.imap_grammar.proofs.Positions.{rests_more}
 use Rattle.imap_envelopes.proofs.Keeping.{kept_rests}
 use Rattle.imap_shapes.specs.FieldValues.{fields_seen}
 use Rattle.imap_structure.specs.Fields.{body_fields}
+use Rattle.imap_shapes.proofs.Places.{rests_more}
 use Rattle.imap_structure.proofs.at.fields.body_fields.Goals as goal
 
 pub returns-clause-rests : goal.returns-clause-rests
@@ -18,7 +18,7 @@ returns-clause-rests g c =
     let id = kept_rests _ _ _ _ _ _ c.in_ok-kept_text.ensures (rests_more q e2 c.in_ok-p-2.ensures.rests) in
     let description = kept_rests _ _ _ _ _ _ c.in_ok-kept_text-2.ensures (rests_more q e3 c.in_ok-p-3.ensures.rests) in
     let transfer_encoding = kept_rests _ _ _ _ _ _ c.in_ok-kept_encoding.ensures (rests_more q e4 c.in_ok-p-4.ensures.rests) in
-    record { same = λ m. rw (param.same m, id.same m, description.same m, transfer_encoding.same m) refl }
+    record { same = λ n k alike. rw (param.same n k alike, id.same n k alike, description.same n k alike, transfer_encoding.same n k alike) refl }
 
 pub returns-clause-steps : goal.returns-clause-steps
 unfolding body_fields fields_seen

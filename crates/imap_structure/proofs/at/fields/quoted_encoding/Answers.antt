@@ -1,5 +1,5 @@
 use Rattle.std.proofs.Common.{arith}
-use Rattle.imap_grammar.proofs.Positions.{rests_more}
+use Rattle.imap_shapes.proofs.Places.{rests_more}
 use Rattle.imap_structure.proofs.at.fields.quoted_encoding.Goals as goal
 
 pub returns-clause-rests : goal.returns-clause-rests

@@ -3,15 +3,16 @@ use Rattle.imap_grammar.specs.Rule.{list1}
 use Rattle.imap_grammar.specs.Tags.{sp}
 use Rattle.imap_envelopes.specs.Envelopes.{spaced}
 use Rattle.imap_grammar.specs.Step.{step}
-use Rattle.imap_grammar.specs.Positions.{Rests}
 use Rattle.imap_structure.specs.Fields.{body_param}
 use Rattle.imap_shapes.specs.FieldValues.{pair_seen}
 use Rattle.imap_envelopes.proofs.Gathering.{Gathered}
+use Rattle.imap_grammar.specs.Positions.{named_in}
+use Rattle.imap_shapes.specs.Spans.{Rests}
 use Rattle.imap_structure.proofs.at.fields.some_params.Given as goal
 
 abbrev pub invariant-params : goal.invariant-params
 invariant-params g l = record {
-  gathered : Gathered (step (list1 sp body_param) (drop l.p l.m)) (spaced body_param) (map (pair_seen (g.K.Keep.text_said l.m)) l.items.items) (drop l.q l.m);
+  gathered : Gathered (step (list1 sp body_param) (drop l.p l.m)) (spaced body_param) (map (pair_seen (g.K.Keep.text_said (named_in l.m))) l.items.items) (drop l.q l.m);
   rests : Rests (λ n xs. map (pair_seen (g.K.Keep.text_said n)) xs) l.q l.items.items;
   ahead : l.p ≤ l.q;
   within : l.q ≤ length l.m;
