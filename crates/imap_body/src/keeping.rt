@@ -196,9 +196,9 @@ fn spaced_attribute<K: KeepAttribute>(
 ) -> Reached<SpannedAttribute<K::Text, K::Bytes>>
     requires inside { p ≤ length m.now }
     requires serves { K.serves keep.now m.now }
-    ensures steps { GivesAt (λ x. attribute_said K.text_said K.bytes_said (named_in m.now) x) m.now result (step (sp ▹ rules.attribute) (drop p m.now)) }
+    ensures steps { GivesAt (λ x. attribute_said K.text_said K.bytes_said m.now x) m.now result (step (sp ▹ rules.attribute) (drop p m.now)) }
     ensures ahead { Ahead m.now p result }
-    ensures stands { IfOk result (λ x. EndsAt K.text_said K.bytes_said (named_in m.now) (p + 1) x.0 x.1) }
+    ensures stands { IfOk result (λ x. EndsAt K.text_said K.bytes_said m.now (p + 1) x.0 x.1) }
 {
     let (p, _) = tag(b" ", m, p)?;
     spanned_attribute(keep, alloc, m, p)

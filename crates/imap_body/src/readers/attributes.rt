@@ -2,6 +2,7 @@
 
 ghost use Rattle.std.specs.Prelude.{◌≡◌, ◌≤◌, length, drop, map, IfOk, IfErr};
 ghost use Rattle.imap_grammar.specs.Answer.{Answers, Gives};
+ghost use Rattle.imap_grammar.specs.Positions.{named_in};
 ghost use Rattle.imap_grammar.specs.Step.{step};
 ghost use Rattle.imap_grammar.specs.declared.answer.Err.TheVariants.{Failure};
 ghost use Rattle.imap_body.specs.AttributeValues.{attribute_value, parts_in};
@@ -24,7 +25,7 @@ fn named<'a>(
     spans: AttributeSpans,
 ) -> IResult<&'a [u8], AttributeValue<'a>>
     requires { q ≤ length i.now }
-    ensures is { IfOk result (λ x. (x.0.now ≡ drop q i.now) × (attribute_value x.1 ≡ parts_in i.now spans)) }
+    ensures is { IfOk result (λ x. (x.0.now ≡ drop q i.now) × (attribute_value x.1 ≡ parts_in (named_in i.now) spans)) }
     ensures memory { IfErr result (λ e. e ≡ Failure) }
 {
     let value = spans.value(alloc, i);
