@@ -1,5 +1,6 @@
 -- Attributes in a message: what one names, and how those of a list stand one behind another.
-use Rattle.std.proofs.Common.{◌≡◌, ℕ, ◌==◌, ◌+◌, ◌-◌, ◌≤◌, List, [], ◌∷◌, ◌++◌, length, take, drop, map, Ok, Err, IfOk, refl, sym, ap, subst, ◌∙◌, arith}
+use Rattle.std.proofs.Common.{◌≡◌, ℕ, zero, suc, ◌==◌, ◌+◌, ◌≤◌, List, [], ◌∷◌, ◌++◌, length, take, drop, map, Ok, Err, IfOk, refl, sym, ap, subst, ◌∙◌, arith}
+use Rattle.std.specs.Prelude.{All}
 use Rattle.std.proofs.lemmas.List.{drop-drop, length-drop}
 use Rattle.std.specs.Global.{Vec}
 use Rattle.imap_grammar.specs.Rule.{meaning, tag_by}
@@ -16,7 +17,7 @@ use Rattle.imap_shapes.proofs.Places.{front_alike}
 use Rattle.imap_body.specs.declared.spanned.SpannedAttribute.{SpannedAttribute}
 use Rattle.imap_body.specs.AttributeValues.{AttributeKept, AttributeValue, parts_in, parts_said}
 use Rattle.imap_body.specs.Attributes.{attribute}
-use Rattle.imap_body.specs.SpannedAttributes.{attribute_in, attribute_said, StandsAt, EndsAt, TurnsAt, InTurn, Stands, InFront, KeepsAt}
+use Rattle.imap_body.specs.SpannedAttributes.{attribute_in, attribute_said, Within, StandsAt, EndsAt, TurnsAt, InTurn, WithinItsSpan, Stands, InFront, KeepsAt}
 
 -- ---- one attribute
 
@@ -38,7 +39,7 @@ attribute_stands : (s : SpannedAttribute SpannedText Span) (q : ℕ) → s.span.
 attribute_stands s q ordered le = record { same = λ m. ap (λ n. parts_in (named_in n) s.parts) (named_in_front m s.span q ordered le) }
 
 -- one that was read at k up to q stands there
-pub ends_there : {S B : Type 0} (text : Lookup → S → Text) (bytes : Lookup → B → Text) (m : Bytes) (k q : ℕ) (s : SpannedAttribute S B) → step attribute (drop k m) ≡ Ok (drop q m, attribute_said text bytes m s) → Rests (λ n x. parts_said text bytes n x) (s.span.end - s.span.start) s.parts → k ≤ q → s.span.start ≡ k → s.span.end ≡ q → EndsAt text bytes m k q s
+pub ends_there : {S B : Type 0} (text : Lookup → S → Text) (bytes : Lookup → B → Text) (m : Bytes) (k q : ℕ) (s : SpannedAttribute S B) → step attribute (drop k m) ≡ Ok (drop q m, attribute_said text bytes m s) → Within text bytes s → k ≤ q → s.span.start ≡ k → s.span.end ≡ q → EndsAt text bytes m k q s
 ends_there text bytes m k q s steps inside ahead start end =
     let there = (agrees attribute (drop k m)).yielded (attribute_said text bytes m s) (drop q m) steps in
     (record { start = start; ordered = omega (arith, ahead, end); within = omega (arith, end); inside = inside; is = subst (λ n. (meaning attribute).yields (drop k m) (attribute_said text bytes m s) (drop n m)) (sym end) there }, end)
@@ -100,6 +101,12 @@ all_stand m p q (s ∷ read) h =
     let more = all_stand m (s.span.end + 1) q read h.1 in
     record { same = λ n. ap (λ x. x ∷ map (attribute_in (take q n)) read) (one.same n) ∙ ap (λ xs. attribute_in n s ∷ xs) (more.same n) }
 
+-- the positions of each lie in its span
+all_within : (m : Bytes) (p q : ℕ) (read : List (SpannedAttribute SpannedText Span)) → InTurn m p q read → All WithinItsSpan read
+all_within m p q [] h i d lt = absurd (omega (arith, lt))
+all_within m p q (s ∷ read) h zero d lt = h.0.inside
+all_within m p q (s ∷ read) h (suc i) d lt = all_within m (s.span.end + 1) q read h.1 i d (omega (arith, lt))
+
 -- ---- what is kept of them
 
 -- where the attributes themselves are kept
@@ -117,3 +124,7 @@ kept_in_turn m p (Err e) s h = tt
 pub kept_in_front : (m : Bytes) (p : ℕ) (result : Reached (Vec (SpannedAttribute SpannedText Span))) (s : Step (List AttributeValue)) → KeptAt m p result s → InFront (λ n x. map (attribute_in n) x.items) result
 kept_in_front m p (Ok x) s h = record { same = λ n. (all_stand m p x.0 x.1.items (kept_in_turn m p (Ok x) s h)).same n }
 kept_in_front m p (Err e) s h = tt
+
+pub kept_within : (m : Bytes) (p : ℕ) (result : Reached (Vec (SpannedAttribute SpannedText Span))) (s : Step (List AttributeValue)) → KeptAt m p result s → IfOk result (λ x. All WithinItsSpan x.1.items)
+kept_within m p (Ok x) s h = all_within m p x.0 x.1.items (kept_in_turn m p (Ok x) s h)
+kept_within m p (Err e) s h = tt

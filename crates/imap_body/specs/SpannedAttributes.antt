@@ -26,13 +26,20 @@ attribute_said text bytes m s = parts_said text bytes (named_in (named_in m s.sp
 abbrev pub attribute_in : Bytes → SpannedAttribute SpannedText Span → AttributeValue
 attribute_in m s = attribute_said text_in bytes_in m s
 
+-- All positions of the attribute lie in its span: counted from where that starts, none is behind its end.
+abbrev pub Within : {S B : Type 0} → (Lookup → S → Text) → (Lookup → B → Text) → SpannedAttribute S B → Type 0
+Within text bytes s = Rests (λ n x. parts_said text bytes n x) (s.span.end - s.span.start) s.parts
+
+abbrev pub WithinItsSpan : SpannedAttribute SpannedText Span → Type 0
+WithinItsSpan s = Within text_in bytes_in s
+
 -- The attribute stands in m at p, and ends at q or before: the rule yields its value at p, and the rest begins where
--- its span ends. All its positions lie in its span (`inside`): counted from where that starts, none is behind its end.
+-- its span ends. Its positions lie in its span.
 pub record StandsAt {S B : Type 0} (text : Lookup → S → Text) (bytes : Lookup → B → Text) (m : Bytes) (p q : ℕ) (s : SpannedAttribute S B) : Type 0 where
   pub start : s.span.start ≡ p
   pub ordered : p ≤ s.span.end
   pub within : s.span.end ≤ q
-  pub inside : Rests (λ n x. parts_said text bytes n x) (s.span.end - s.span.start) s.parts
+  pub inside : Within text bytes s
   pub is : (meaning attribute).yields (drop p m) (attribute_said text bytes m s) (drop s.span.end m)
 
 -- They stand one behind another with a byte between, the first from p on, and end by q.

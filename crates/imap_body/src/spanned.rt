@@ -1,10 +1,10 @@
 //! Attributes of a message as positions in it: they keep no bytes, and tell their values of any message that has bytes in these places.
 
-ghost use Rattle.std.specs.Prelude.{◌≡◌, ◌≤◌, ◌+◌, ◌++◌, ◌∷◌, [], length, drop, map, IfOk, OnOk};
+ghost use Rattle.std.specs.Prelude.{◌≡◌, ◌≤◌, ◌+◌, ◌++◌, ◌∷◌, [], length, drop, map, All, IfOk, OnOk};
 ghost use Rattle.imap_grammar.specs.Positions.{AnswersAt, GivesAt, Ahead, named_in};
 ghost use Rattle.imap_grammar.specs.Step.{step};
 ghost use Rattle.imap_body.specs.AttributeValues.{attribute_value, kept_value, parts_in};
-ghost use Rattle.imap_body.specs.SpannedAttributes.{attribute_in, attribute_said, EndsAt, InFront, InTurn};
+ghost use Rattle.imap_body.specs.SpannedAttributes.{attribute_in, attribute_said, EndsAt, InFront, InTurn, WithinItsSpan};
 ghost use Rattle.imap_body.specs.Attributes as rules;
 
 use crate::at::attributes::attribute;
@@ -23,7 +23,7 @@ use std::borrow::{CowSlice, CowStr};
 #[derive(Debug, Drop, PartialEq, Eq)]
 pub struct SpannedAttribute<S = SpannedText, B = Span> {
     span: Span,
-    // Its positions count from where the span starts.
+    // Its positions count from where the span starts, and lie in it.
     parts: AttributeKept<S, B>,
 }
 
@@ -96,7 +96,8 @@ pub(crate) fn spanned_attribute<K: KeepAttribute>(
     Ok((q, SpannedAttribute { span, parts }))
 }
 
-/// The attributes of a message in parentheses (RFC 3501, section 9: msg-att), each as its positions in m.
+/// The attributes of a message in parentheses (RFC 3501, section 9: msg-att), each as its positions in m. All positions
+/// of an attribute lie in its span.
 ///
 /// It takes memory for the list, and for the lists, envelopes and body structures in it; for no text.
 pub fn attribute_list_at(alloc: Global, m: &[u8], p: usize) -> Reached<Vec<SpannedAttribute>>
@@ -106,6 +107,7 @@ pub fn attribute_list_at(alloc: Global, m: &[u8], p: usize) -> Reached<Vec<Spann
     ensures ahead { Ahead m.now p result }
     ensures rests { InFront (λ n x. map (attribute_in n) x.items) result }
     ensures spans { IfOk result (λ x. InTurn m.now (p + 1) x.0 x.1.items) }
+    ensures inside { IfOk result (λ x. All WithinItsSpan x.1.items) }
 {
     kept_list(&Positions, alloc, m, p)
 }
