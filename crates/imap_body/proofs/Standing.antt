@@ -42,11 +42,11 @@ attribute_stands s q ordered le = record { same = λ m. ap (λ n. parts_in (name
 pub ends_there : {S B : Type 0} (text : Lookup → S → Text) (bytes : Lookup → B → Text) (m : Bytes) (k q : ℕ) (s : SpannedAttribute S B) → step attribute (drop k m) ≡ Ok (drop q m, attribute_said text bytes m s) → Within text bytes s → k ≤ q → s.span.start ≡ k → s.span.end ≡ q → EndsAt text bytes m k q s
 ends_there text bytes m k q s steps inside ahead start end =
     let there = (agrees attribute (drop k m)).yielded (attribute_said text bytes m s) (drop q m) steps in
-    (record { start = start; ordered = omega (arith, ahead, end); within = omega (arith, end); inside = inside; is = subst (λ n. (meaning attribute).yields (drop k m) (attribute_said text bytes m s) (drop n m)) (sym end) there }, end)
+    (record { start = start; ordered = omega (arith, ahead, end); ends = omega (arith, end); inside = inside; is = subst (λ n. (meaning attribute).yields (drop k m) (attribute_said text bytes m s) (drop n m)) (sym end) there }, end)
 
 -- a place further on allows as much
 ends_later : {S B : Type 0} (text : Lookup → S → Text) (bytes : Lookup → B → Text) (m : Bytes) (p q r : ℕ) (s : SpannedAttribute S B) → StandsAt text bytes m p q s → q ≤ r → StandsAt text bytes m p r s
-ends_later text bytes m p q r s h le = record { start = h.start; ordered = h.ordered; within = omega (arith, h.within, le); inside = h.inside; is = h.is }
+ends_later text bytes m p q r s h le = record { start = h.start; ordered = h.ordered; ends = omega (arith, h.ends, le); inside = h.inside; is = h.is }
 
 -- ---- a byte in front
 
@@ -97,7 +97,7 @@ in_turn_later text bytes m p q r (s ∷ read) h le = (ends_later text bytes m p 
 pub all_stand : (m : Bytes) (p q : ℕ) (read : List (SpannedAttribute SpannedText Span)) → InTurn m p q read → Stands (λ n xs. map (attribute_in n) xs) q read
 all_stand m p q [] h = record { same = λ n. refl }
 all_stand m p q (s ∷ read) h =
-    let one = attribute_stands s q (omega (arith, h.0.start, h.0.ordered)) h.0.within in
+    let one = attribute_stands s q (omega (arith, h.0.start, h.0.ordered)) h.0.ends in
     let more = all_stand m (s.span.end + 1) q read h.1 in
     record { same = λ n. ap (λ x. x ∷ map (attribute_in (take q n)) read) (one.same n) ∙ ap (λ xs. attribute_in n s ∷ xs) (more.same n) }
 

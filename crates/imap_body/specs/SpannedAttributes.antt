@@ -38,7 +38,7 @@ WithinItsSpan s = Within text_in bytes_in s
 pub record StandsAt {S B : Type 0} (text : Lookup → S → Text) (bytes : Lookup → B → Text) (m : Bytes) (p q : ℕ) (s : SpannedAttribute S B) : Type 0 where
   pub start : s.span.start ≡ p
   pub ordered : p ≤ s.span.end
-  pub within : s.span.end ≤ q
+  pub ends : s.span.end ≤ q
   pub inside : Within text bytes s
   pub is : (meaning attribute).yields (drop p m) (attribute_said text bytes m s) (drop s.span.end m)
 

@@ -4,15 +4,10 @@ use Rattle.std.specs.Option.{option_map}
 use Rattle.imap_grammar.specs.declared.at.span.Span.{Span}
 use Rattle.imap_grammar.specs.Text.{Text}
 use Rattle.imap_shapes.specs.declared.spans.SpannedText.{SpannedText}
-use Rattle.imap_shapes.specs.declared.shapes.envelopes.Address.{Address}
 use Rattle.imap_shapes.specs.Spans.{Lookup, bytes_in, text_in}
-use Rattle.imap_shapes.specs.EnvelopeValues.{AddressValue, address_seen}
 
 abbrev pub maybe_bytes_in : Lookup → Option Span → Option Text
 maybe_bytes_in n x = option_map (bytes_in n) x
 
 abbrev pub maybe_text_in : Lookup → Option SpannedText → Option Text
 maybe_text_in n x = option_map (text_in n) x
-
-abbrev pub address_in : Lookup → Address Span → AddressValue
-address_in n x = address_seen (bytes_in n) x

@@ -3,12 +3,10 @@
 ghost use Rattle.std.specs.Prelude.{IfOk};
 ghost use Rattle.std.specs.Option.{option_map};
 ghost use Rattle.imap_shapes.specs.Spans.{bytes_in, text_in};
-ghost use Rattle.imap_shapes.specs.EnvelopeValues.{address_seen};
 ghost use Rattle.imap_shapes.specs.FieldValues.{pair_seen, encoding_seen};
 ghost use Rattle.imap_envelopes.specs.Keeping.{Says};
 
 use crate::keep::Keep;
-use imap_shapes::shapes::envelopes::Address;
 use imap_shapes::shapes::fields::ContentEncoding;
 use imap_shapes::spans::{Span, SpannedText};
 use std::alloc::AllocError;
@@ -21,19 +19,6 @@ pub fn kept_bytes<K: Keep>(keep: &K, m: &[u8], bytes: Option<Span>) -> Option<K:
     match bytes {
         None => None,
         Some(span) => Some(keep.bytes(m, span)),
-    }
-}
-
-/// Keeps an address. No memory.
-pub fn kept_address<K: Keep>(keep: &K, m: &[u8], address: Address<Span>) -> Address<K::Bytes>
-    requires { K.serves keep.now m.now }
-    ensures { Says (λ n x. address_seen (bytes_in n) x) (λ n x. address_seen (K.bytes_said n) x) m.now address result }
-{
-    Address {
-        name: kept_bytes(keep, m, address.name),
-        adl: kept_bytes(keep, m, address.adl),
-        mailbox: kept_bytes(keep, m, address.mailbox),
-        host: kept_bytes(keep, m, address.host),
     }
 }
 

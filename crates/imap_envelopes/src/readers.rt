@@ -7,7 +7,7 @@ ghost use Rattle.imap_envelopes.specs.Envelopes as envelopes;
 ghost use Rattle.imap_shapes.specs.EnvelopeValues.{address_seen, envelope_seen};
 ghost use Rattle.imap_shapes.specs.Spans.{bytes_of};
 
-use crate::{Named, at};
+use crate::{Named, Positions, at};
 use imap_bytes::IResult;
 use imap_bytes::at::span::rest;
 use imap_shapes::{Address, Envelope};
@@ -20,7 +20,7 @@ pub fn address(i: &[u8]) -> IResult<&[u8], Address<'_>>
     ensures answer { Answers envelopes.address (λ x. address_seen bytes_of x) i.now result }
     ensures no_failure { NeverFails result }
 {
-    let (q, spans) = at::envelopes::address(i, 0)?;
+    let (q, spans) = at::envelopes::address(&Positions, i, 0)?;
     Ok((rest(i, q), spans.value(i)))
 }
 

@@ -40,7 +40,7 @@ pub at_all : (class : ℕ → Bool) (v : List ℕ) → ((k : ℕ) → k < length
 at_all class [] h = refl
 at_all class (b ∷ v) h = and_from _ _ (h 0 (omega arith)) (at_all class v (λ k lt. h (suc k) (omega arith)))
 
-begins_at : (p : ℕ → Bool) (rest : List ℕ) → 0 < length rest → p (slice_index rest 0) ≡ true → begins p rest ≡ true
+pub begins_at : (p : ℕ → Bool) (rest : List ℕ) → 0 < length rest → p (slice_index rest 0) ≡ true → begins p rest ≡ true
 begins_at p [] some h = absurd (omega arith)
 begins_at p (b ∷ rest) some h = h
 

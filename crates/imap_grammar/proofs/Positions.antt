@@ -1,8 +1,9 @@
 -- Positions: what is left of m behind them.
-use Rattle.std.proofs.Common.{◌≡◌, ◌≢◌, ℕ, ◌+◌, ◌-◌, ◌≤◌, ◌<◌, Bool, true, false, List, [], ◌∷◌, length, take, drop, min, Some, None, Ok, refl, sym, ap, ◌∙◌, arith}
+use Rattle.std.proofs.Common.{◌≡◌, ◌≢◌, ℕ, ◌+◌, ◌-◌, ◌≤◌, ◌<◌, Bool, true, false, List, [], ◌∷◌, length, take, drop, min, Some, None, Ok, refl, sym, ap, ◌∙◌, inl, inr, arith}
 use Rattle.std.specs.Prelude.{position, slice_get}
 use Rattle.std.specs.List.{zip}
-use Rattle.std.proofs.lemmas.List.{drop-drop, length-drop, drop_min, take_min, drop-take, take-take}
+use Rattle.std.proofs.lemmas.Bool.{cases_lt}
+use Rattle.std.proofs.lemmas.List.{drop-drop, drop_all, length-drop, length-take, drop_min, take_min, drop-take, take-take}
 use Rattle.imap_grammar.specs.Meaning.{outside, begins}
 use Rattle.imap_grammar.specs.Rule.{Rule, run1, opt, only, many, raw}
 use Rattle.imap_grammar.specs.Step.{Step, step}
@@ -36,9 +37,18 @@ raw_at a m p q r le within so_far here =
     let e : length (drop p m) - length (drop q m) ≡ q - p = omega (arith, length-drop p m, length-drop q m) in
     after_raw a (drop p m) (drop q m) (drop r m) so_far here ∙ ap (λ k. cut (drop q m) (take k (drop p m))) e
 
+-- the bytes before `end`, and of these the ones from `start` on
+front_dropped : (m : List ℕ) (start end : ℕ) → drop start (take end m) ≡ between m start end
+front_dropped m start end = elim (cases_lt end start) [
+  | inl lt ↦ (let none : end - start ≡ 0 = omega (arith, lt) in drop_all start (take end m) (omega (arith, lt, length-take end m)) ∙ ap (λ k. take k (drop start m)) (sym none))
+  | inr le ↦ (let e : end ≡ start + (end - start) = omega (arith, le) in ap (λ k. drop start (take k m)) e ∙ drop-take start (end - start) m)
+]
+
 -- cut to what m has
-pub as_far : (m from : List ℕ) (start end : ℕ) → from ≡ drop (min start (length m)) m → take (min (end - start) (length from)) from ≡ between m start end
-as_far m from start end e = let is = e ∙ drop_min start m in take_min (end - start) from ∙ ap (take (end - start)) is
+pub as_far : (m front : List ℕ) (start end : ℕ) → front ≡ take (min end (length m)) m → drop (min start (min end (length m))) front ≡ between m start end
+as_far m front start end e =
+    let long : min end (length m) ≡ length front = omega (arith, ap length e, length-take (min end (length m)) m) in
+    ap (λ k. drop (min start k) front) long ∙ drop_min start front ∙ ap (drop start) (e ∙ take_min end m) ∙ front_dropped m start end
 
 -- ---- what a span names
 

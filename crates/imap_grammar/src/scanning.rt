@@ -1,10 +1,11 @@
 //! Where a run of bytes of one class ends (RFC 3501, section 9: each `1*` of a class).
 
-ghost use Rattle.std.specs.Prelude.{◌≡◌, ◌<◌, ◌≤◌, ◌==◌, if◌then◌else◌, ℕ, Bool, length, take, position, IfSome};
+ghost use Rattle.std.specs.Prelude.{◌≡◌, ◌<◌, ◌≤◌, ◌==◌, ◌||◌, if◌then◌else◌, ℕ, Bool, true, Some, nat_le, length, take, drop, position, IfSome};
 ghost use Rattle.std.specs.Int.{w64, trailing_zeros};
 ghost use Rattle.std.specs.List.{position_or_len};
+ghost use Rattle.imap_grammar.specs.Ascii.{carriage_return, quote};
 ghost use Rattle.imap_grammar.specs.Classes as classes;
-ghost use Rattle.imap_grammar.specs.Meaning.{outside};
+ghost use Rattle.imap_grammar.specs.Meaning.{begins, outside};
 
 use crate::classes::{is_astring_char, is_atom_char, is_quoted_char, is_text_char};
 use std::simd::prelude::*;
@@ -168,5 +169,39 @@ pub fn long_run_end<C: LongRuns>(i: &[u8]) -> Option<usize>
     match run_end::<C>(left) {
         Some(k) => Some(n + k),
         None => None,
+    }
+}
+
+// Which of the first sixteen bytes is the first that is a quoted-special or a control up to CR; 16 where none is.
+#[inline(always)]
+fn sixteen_stop(i: &[u8]) -> usize
+    requires { 16 ≤ length i.now }
+    ensures { result ≡ position_or_len (λ b. nat_le b carriage_return || classes.is_quoted_specials b) (take 16 i.now) }
+{
+    let bytes = u8x16::from_slice(i);
+    let specials = bytes.simd_eq(u8x16::splat(b'\\')) | bytes.simd_eq(u8x16::splat(b'"'));
+    let controls = bytes.simd_le(u8x16::splat(b'\r'));
+    lowest_set((specials | controls).to_bitmask())
+}
+
+/// Where a quote stands behind fewer than sixteen quoted-chars, none of them a control up to CR; `None` where it is
+/// otherwise, or where fewer than sixteen bytes are there. No memory.
+///
+/// Most quoted strings are read by this one look at sixteen bytes. Some controls up to CR are quoted-chars, too, but to
+/// tell these from the others takes two comparisons more.
+#[inline(always)]
+pub fn near_quote(i: &[u8]) -> Option<usize>
+    ensures at { IfSome result (λ n. position (outside classes.is_quoted_char) i.now ≡ Some n) }
+    ensures closed { IfSome result (λ n. begins (λ b. b == quote) (drop n i.now) ≡ true) }
+    ensures within { IfSome result (λ n. n < length i.now) }
+{
+    if i.len() < 16 {
+        return None;
+    }
+    let n = sixteen_stop(i);
+    if n < 16 && i[n] == b'"' {
+        Some(n)
+    } else {
+        None
     }
 }

@@ -1,7 +1,7 @@
 //! Strings at a position, as spans of their content. None takes memory.
 
-ghost use Rattle.std.specs.Prelude.{◌≡◌, ◌==◌, ◌||◌, ◌≤◌, length, drop, IfOk};
-ghost use Rattle.imap_grammar.specs.Positions.{AnswersAt, ExactlyAt, Ahead, Inside, MaybeInside, Lies, maybe_in, named_in};
+ghost use Rattle.std.specs.Prelude.{◌≡◌, ◌==◌, ◌||◌, ◌≤◌, ◌<◌, ◌+◌, length, drop, IfOk, IfSome, Ok};
+ghost use Rattle.imap_grammar.specs.Positions.{AnswersAt, ExactlyAt, Ahead, Inside, MaybeInside, Lies, between, maybe_in, named_in};
 ghost use Rattle.imap_grammar.specs.Memory.{NeverFails};
 ghost use Rattle.imap_grammar.specs.Step.{step, take_step};
 ghost use Rattle.imap_grammar.specs.Meaning.{begins};
@@ -15,7 +15,9 @@ use crate::strings::as_utf8;
 use imap_grammar::at::Reached;
 use imap_grammar::at::span::Span;
 use imap_grammar::at::tags::{cut0, cut1, tag, word};
-use imap_grammar::scanning::{AstringChar, AtomChar, QuotedChar, long_run_end, run_end};
+use imap_grammar::scanning::{
+    AstringChar, AtomChar, QuotedChar, long_run_end, near_quote, run_end,
+};
 use imap_grammar::{Err, Needed, first, maybe};
 
 #[inline(always)]
@@ -123,6 +125,7 @@ fn counted(count: usize, m: &[u8], p: usize) -> Reached<Span>
 ///
 /// Where fewer follow, `Needed::Size` is how many are missing. A count above 4,294,967,295 is `Error`.
 #[tactic(auto, using(imap_grammar::proofs::Agreement::exact_answered_at), unfolding(crate::specs::Strings::literal))]
+#[inline(never)]
 pub fn literal(m: &[u8], p: usize) -> Reached<Span>
     requires { p ≤ length m.now }
     ensures steps { ExactlyAt (λ x. named_in m.now x) m.now result (step strings.literal (drop p m.now)) }
@@ -144,8 +147,38 @@ fn quote_follows(m: &[u8], p: usize) -> bool
     matches!(i.first(), Some(b'"'))
 }
 
+// Where the content of a quoted string ends that is read in one look, as most are; `None` where it is another.
+#[inline(always)]
+fn short_content_end(m: &[u8], p: usize) -> Option<usize>
+    requires { p ≤ length m.now }
+    ensures steps { IfSome result (λ q. step strings.string (drop p m.now) ≡ Ok (drop (q + 1) m.now, between m.now (p + 1) q)) }
+    ensures inside { IfSome result (λ q. (p + 1 ≤ q) × (q < length m.now)) }
+{
+    if !quote_follows(m, p) {
+        return None;
+    }
+    let (_, i) = m.split_at(p + 1);
+    let n = near_quote(i)?;
+    Some(p + 1 + n)
+}
+
+// The same as `string`, for strings of all kinds. Never inlined, so that `string`, which is, stays short.
+#[inline(never)]
+fn any_string(m: &[u8], p: usize) -> Reached<Span>
+    requires { p ≤ length m.now }
+    ensures steps { ExactlyAt (λ x. named_in m.now x) m.now result (step strings.string (drop p m.now)) }
+    ensures inside { Inside m.now p result }
+    ensures no_failure { NeverFails result }
+{
+    if quote_follows(m, p) {
+        quoted(m, p)
+    } else {
+        literal(m, p)
+    }
+}
+
 /// A string: quoted, or a literal (RFC 3501, section 9: string). No memory.
-#[tactic(auto, using(imap_grammar::proofs::Agreement::exact_answered_at), unfolding(crate::specs::Strings::string))]
+#[tactic(auto, using(imap_grammar::proofs::Agreement::exact_answered_at))]
 #[inline(always)]
 pub fn string(m: &[u8], p: usize) -> Reached<Span>
     requires { p ≤ length m.now }
@@ -154,10 +187,15 @@ pub fn string(m: &[u8], p: usize) -> Reached<Span>
     ensures inside { Inside m.now p result }
     ensures no_failure { NeverFails result }
 {
-    if quote_follows(m, p) {
-        quoted(m, p)
-    } else {
-        literal(m, p)
+    match short_content_end(m, p) {
+        Some(q) => Ok((
+            q + 1,
+            Span {
+                start: p + 1,
+                end: q,
+            },
+        )),
+        None => any_string(m, p),
     }
 }
 
@@ -208,6 +246,7 @@ fn opens_string(m: &[u8], p: usize) -> bool
 
 /// `NIL`, or a string (RFC 3501, section 9: nstring). No memory.
 #[tactic(auto, using(imap_grammar::proofs::Agreement::exact_answered_at), unfolding(crate::specs::Strings::nstring))]
+#[inline(always)]
 pub fn nstring(m: &[u8], p: usize) -> Reached<Option<Span>>
     requires { p ≤ length m.now }
     ensures steps { ExactlyAt (λ x. maybe_in m.now x) m.now result (step strings.nstring (drop p m.now)) }

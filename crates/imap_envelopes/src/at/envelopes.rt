@@ -1,25 +1,24 @@
 //! Addresses and envelopes at a position, and what is kept of their byte strings.
 
 ghost use Rattle.std.specs.Prelude.{◌≤◌, length, drop, map};
+ghost use Rattle.std.specs.Option.{option_map};
 ghost use Rattle.imap_grammar.specs.Positions.{ExactlyAt, GivesAt, Ahead, named_in};
 ghost use Rattle.imap_grammar.specs.Memory.{NeverFails};
 ghost use Rattle.imap_grammar.specs.Step.{step};
 ghost use Rattle.imap_envelopes.specs.Envelopes as envelopes;
 ghost use Rattle.imap_envelopes.specs.Envelopes.{spaced, last_fields_seen};
-ghost use Rattle.imap_envelopes.specs.Spanned.{address_in};
 ghost use Rattle.imap_shapes.specs.EnvelopeValues.{address_seen, addresses_seen, envelope_seen};
 ghost use Rattle.imap_shapes.specs.Spans.{RestsOn};
 
 use crate::Keep;
-use crate::at::texts::{byte_string, spaced_byte_string};
-use crate::kept::{kept_address, kept_bytes};
+use crate::at::texts::byte_string;
+use crate::kept::kept_bytes;
 use imap_bytes::at::Reached;
 use imap_bytes::at::strings::nil;
 use imap_bytes::at::tags::tag;
 use imap_bytes::lists::tried;
 use imap_bytes::{Err, first};
 use imap_shapes::shapes::envelopes::{Address, Envelope};
-use imap_shapes::spans::Span;
 use std::alloc::Global;
 
 // The last fields of an envelope, as they are kept.
@@ -32,20 +31,52 @@ struct LastFields<B> {
     message_id: Option<B>,
 }
 
+// How many addresses a list gets room for.
+const ROOM: usize = 4;
+
+// A byte string, if there is one, as it is kept.
+#[inline(always)]
+fn kept_string<K: Keep>(keep: &K, m: &[u8], p: usize) -> Reached<Option<K::Bytes>>
+    requires inside { p ≤ length m.now }
+    requires serves { K.serves keep.now m.now }
+    ensures steps { ExactlyAt (λ x. option_map (K.bytes_said (named_in m.now)) x) m.now result (step envelopes.byte_string (drop p m.now)) }
+    ensures ahead { Ahead m.now p result }
+    ensures rests { RestsOn (λ n x. option_map (K.bytes_said n) x) result }
+    ensures no_failure { NeverFails result }
+{
+    let (q, bytes) = byte_string(m, p)?;
+    Ok((q, kept_bytes(keep, m, bytes)))
+}
+
+// A space, then the same.
+#[inline(always)]
+fn spaced_string<K: Keep>(keep: &K, m: &[u8], p: usize) -> Reached<Option<K::Bytes>>
+    requires inside { p ≤ length m.now }
+    requires serves { K.serves keep.now m.now }
+    ensures steps { ExactlyAt (λ x. option_map (K.bytes_said (named_in m.now)) x) m.now result (step (spaced envelopes.byte_string) (drop p m.now)) }
+    ensures ahead { Ahead m.now p result }
+    ensures rests { RestsOn (λ n x. option_map (K.bytes_said n) x) result }
+    ensures no_failure { NeverFails result }
+{
+    let (p, _) = tag(b" ", m, p)?;
+    kept_string(keep, m, p)
+}
+
 /// An address (RFC 3501, section 9: address). No memory.
 #[tactic(auto, unfolding(crate::specs::Envelopes::address))]
-pub fn address(m: &[u8], p: usize) -> Reached<Address<Span>>
-    requires { p ≤ length m.now }
-    ensures steps { ExactlyAt (λ x. address_in (named_in m.now) x) m.now result (step envelopes.address (drop p m.now)) }
+pub fn address<K: Keep>(keep: &K, m: &[u8], p: usize) -> Reached<Address<K::Bytes>>
+    requires inside { p ≤ length m.now }
+    requires serves { K.serves keep.now m.now }
+    ensures steps { ExactlyAt (λ x. address_seen (K.bytes_said (named_in m.now)) x) m.now result (step envelopes.address (drop p m.now)) }
     ensures ahead { Ahead m.now p result }
-    ensures rests { RestsOn address_in result }
+    ensures rests { RestsOn (λ n x. address_seen (K.bytes_said n) x) result }
     ensures no_failure { NeverFails result }
 {
     let (p, _) = tag(b"(", m, p)?;
-    let (p, name) = byte_string(m, p)?;
-    let (p, adl) = spaced_byte_string(m, p)?;
-    let (p, mailbox) = spaced_byte_string(m, p)?;
-    let (p, host) = spaced_byte_string(m, p)?;
+    let (p, name) = kept_string(keep, m, p)?;
+    let (p, adl) = spaced_string(keep, m, p)?;
+    let (p, mailbox) = spaced_string(keep, m, p)?;
+    let (p, host) = spaced_string(keep, m, p)?;
     let (p, _) = tag(b")", m, p)?;
     Ok((
         p,
@@ -60,13 +91,14 @@ pub fn address(m: &[u8], p: usize) -> Reached<Address<Span>>
 
 // An address, and maybe a space.
 #[tactic(auto, unfolding(crate::specs::Envelopes::listed_address))]
-fn listed_address(m: &[u8], p: usize) -> Reached<Address<Span>>
-    requires { p ≤ length m.now }
-    ensures steps { ExactlyAt (λ x. address_in (named_in m.now) x) m.now result (step envelopes.listed_address (drop p m.now)) }
+fn listed_address<K: Keep>(keep: &K, m: &[u8], p: usize) -> Reached<Address<K::Bytes>>
+    requires inside { p ≤ length m.now }
+    requires serves { K.serves keep.now m.now }
+    ensures steps { ExactlyAt (λ x. address_seen (K.bytes_said (named_in m.now)) x) m.now result (step envelopes.listed_address (drop p m.now)) }
     ensures ahead { Ahead m.now p result }
-    ensures rests { RestsOn address_in result }
+    ensures rests { RestsOn (λ n x. address_seen (K.bytes_said n) x) result }
 {
-    let (q, address) = address(m, p)?;
+    let (q, address) = address(keep, m, p)?;
     first!(tag(b" ", m, q), _ => address);
     Ok((q, address))
 }
@@ -85,10 +117,10 @@ fn some_addresses<K: Keep>(
     ensures rests { RestsOn (λ n x. map (address_seen (K.bytes_said n)) x.items) result }
 {
     // The first is read in the loop, too, so that an address is read in one place, whose calls the compiler takes in.
-    let mut items = Vec::new(alloc);
+    let mut items = Vec::with_capacity(alloc, ROOM)?;
     let mut q = p;
-    'addresses: while let Some((after, address)) = tried(listed_address(m, q))? {
-        items.push(kept_address(keep, m, address))?;
+    'addresses: while let Some((after, address)) = tried(listed_address(keep, m, q))? {
+        items.push(address)?;
         q = after;
     }
     if items.is_empty() {
@@ -153,8 +185,8 @@ fn last_fields<K: Keep>(
     let (p, to) = spaced_addresses(keep, alloc, m, p)?;
     let (p, cc) = spaced_addresses(keep, alloc, m, p)?;
     let (p, bcc) = spaced_addresses(keep, alloc, m, p)?;
-    let (p, in_reply_to) = spaced_byte_string(m, p)?;
-    let (p, message_id) = spaced_byte_string(m, p)?;
+    let (p, in_reply_to) = spaced_string(keep, m, p)?;
+    let (p, message_id) = spaced_string(keep, m, p)?;
     let (p, _) = tag(b")", m, p)?;
     Ok((
         p,
@@ -162,8 +194,8 @@ fn last_fields<K: Keep>(
             to,
             cc,
             bcc,
-            in_reply_to: kept_bytes(keep, m, in_reply_to),
-            message_id: kept_bytes(keep, m, message_id),
+            in_reply_to,
+            message_id,
         },
     ))
 }
@@ -178,8 +210,8 @@ pub fn envelope<K: Keep>(keep: &K, alloc: Global, m: &[u8], p: usize) -> Reached
     ensures rests { RestsOn (λ n x. envelope_seen (K.bytes_said n) x) result }
 {
     let (p, _) = tag(b"(", m, p)?;
-    let (p, date) = byte_string(m, p)?;
-    let (p, subject) = spaced_byte_string(m, p)?;
+    let (p, date) = kept_string(keep, m, p)?;
+    let (p, subject) = spaced_string(keep, m, p)?;
     let (p, from) = spaced_addresses(keep, alloc, m, p)?;
     let (p, sender) = spaced_addresses(keep, alloc, m, p)?;
     let (p, reply_to) = spaced_addresses(keep, alloc, m, p)?;
@@ -187,8 +219,8 @@ pub fn envelope<K: Keep>(keep: &K, alloc: Global, m: &[u8], p: usize) -> Reached
     Ok((
         p,
         Envelope {
-            date: kept_bytes(keep, m, date),
-            subject: kept_bytes(keep, m, subject),
+            date,
+            subject,
             from,
             sender,
             reply_to,

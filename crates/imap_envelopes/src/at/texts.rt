@@ -20,6 +20,7 @@ use imap_shapes::spans::{Span, SpannedText};
 
 /// An nstring, its bytes as they stand (RFC 3501, section 9: nstring). No memory.
 #[tactic(auto, using(crate::proofs::Naming::bytes_seen), unfolding(crate::specs::Envelopes::byte_string))]
+#[inline(always)]
 pub fn byte_string(m: &[u8], p: usize) -> Reached<Option<Span>>
     requires { p ≤ length m.now }
     ensures steps { ExactlyAt (λ x. maybe_bytes_in (named_in m.now) x) m.now result (step envelopes.byte_string (drop p m.now)) }
@@ -32,6 +33,7 @@ pub fn byte_string(m: &[u8], p: usize) -> Reached<Option<Span>>
 }
 
 /// A space, then an nstring, its bytes as they stand (RFC 3501, section 9: nstring). No memory.
+#[inline(always)]
 pub fn spaced_byte_string(m: &[u8], p: usize) -> Reached<Option<Span>>
     requires { p ≤ length m.now }
     ensures steps { ExactlyAt (λ x. maybe_bytes_in (named_in m.now) x) m.now result (step (spaced envelopes.byte_string) (drop p m.now)) }
@@ -45,6 +47,7 @@ pub fn spaced_byte_string(m: &[u8], p: usize) -> Reached<Option<Span>>
 
 /// A string, to be decoded (RFC 3501, section 9: string). No memory.
 #[tactic(auto, unfolding(imap_bytes::specs::Texts::string_utf8))]
+#[inline(always)]
 pub fn string_text(m: &[u8], p: usize) -> Reached<SpannedText>
     requires { p ≤ length m.now }
     ensures steps { ExactlyAt (λ x. text_in (named_in m.now) x) m.now result (step texts.string_utf8 (drop p m.now)) }
@@ -57,6 +60,7 @@ pub fn string_text(m: &[u8], p: usize) -> Reached<SpannedText>
 }
 
 /// A space, then a string, to be decoded (RFC 3501, section 9: string). No memory.
+#[inline(always)]
 pub fn spaced_string_text(m: &[u8], p: usize) -> Reached<SpannedText>
     requires { p ≤ length m.now }
     ensures steps { ExactlyAt (λ x. text_in (named_in m.now) x) m.now result (step (spaced texts.string_utf8) (drop p m.now)) }
@@ -84,6 +88,7 @@ pub fn nstring_text(m: &[u8], p: usize) -> Reached<Option<SpannedText>>
 }
 
 /// A space, then an nstring, to be decoded (RFC 3501, section 9: nstring). No memory.
+#[inline(always)]
 pub fn spaced_nstring_text(m: &[u8], p: usize) -> Reached<Option<SpannedText>>
     requires { p ≤ length m.now }
     ensures steps { ExactlyAt (λ x. maybe_text_in (named_in m.now) x) m.now result (step (spaced texts.nstring_utf8) (drop p m.now)) }
@@ -96,6 +101,7 @@ pub fn spaced_nstring_text(m: &[u8], p: usize) -> Reached<Option<SpannedText>>
 }
 
 /// A space, then a number (RFC 3501, section 9: number). No memory.
+#[inline(always)]
 pub fn spaced_number(m: &[u8], p: usize) -> Reached<u32>
     requires { p ≤ length m.now }
     ensures steps { ExactlyAt (λ x. x) m.now result (step (spaced numbers.number) (drop p m.now)) }

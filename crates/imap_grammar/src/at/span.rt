@@ -40,8 +40,9 @@ impl Span {
     pub fn part<'a>(&self, m: &'a [u8]) -> &'a [u8]
         ensures { result.now ≡ named_in m.now self.now }
     {
-        let (_, from) = m.split_at(min(self.start, m.len()));
-        let (content, _) = from.split_at(min(self.end.saturating_sub(self.start), from.len()));
+        let end = min(self.end, m.len());
+        let (front, _) = m.split_at(end);
+        let (_, content) = front.split_at(min(self.start, end));
         content
     }
 

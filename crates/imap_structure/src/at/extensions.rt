@@ -267,6 +267,7 @@ fn some_extensions<K: Keep>(
 }
 
 #[cycle(extension)]
+#[inline(always)]
 fn spaced_extension<K: Keep>(
     keep: &K,
     alloc: Global,
@@ -304,6 +305,7 @@ pub fn body_extension<K: Keep>(
 
 // ---- fields behind a space, each skipped with its space where it is denied
 
+#[inline(always)]
 fn maybe_nstring_text(m: &[u8], p: usize) -> Reached<Option<SpannedText>>
     requires { p ≤ length m.now }
     ensures steps { ExactlyAt (λ x. maybe_text_in (named_in m.now) x) m.now result (step (maybe_spaced texts.nstring_utf8) (drop p m.now)) }
@@ -379,6 +381,7 @@ fn spaced_languages<K: Keep>(
     body_fld_lang(keep, alloc, m, p)
 }
 
+#[inline(always)]
 fn maybe_languages<K: Keep>(
     keep: &K,
     alloc: Global,
@@ -396,6 +399,7 @@ fn maybe_languages<K: Keep>(
 }
 
 #[tactic(auto, unfolding(crate::specs::Extensions::last_extension, crate::specs::Extensions::body_extension))]
+#[inline(always)]
 fn last_extension<K: Keep>(
     keep: &K,
     alloc: Global,

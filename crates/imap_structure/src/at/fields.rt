@@ -26,6 +26,7 @@ use imap_shapes::spans::SpannedText;
 use std::alloc::Global;
 
 #[tactic(auto, unfolding(crate::specs::Fields::body_param))]
+#[inline(always)]
 fn param(m: &[u8], p: usize) -> Reached<(SpannedText, SpannedText)>
     requires { p ≤ length m.now }
     ensures steps { ExactlyAt (λ x. pair_in (named_in m.now) x) m.now result (step fields.body_param (drop p m.now)) }
@@ -37,6 +38,7 @@ fn param(m: &[u8], p: usize) -> Reached<(SpannedText, SpannedText)>
     Ok((p, (key, value)))
 }
 
+#[inline(always)]
 fn spaced_param(m: &[u8], p: usize) -> Reached<(SpannedText, SpannedText)>
     requires { p ≤ length m.now }
     ensures steps { ExactlyAt (λ x. pair_in (named_in m.now) x) m.now result (step (spaced fields.body_param) (drop p m.now)) }

@@ -5,7 +5,7 @@ use Rattle.imap_shapes.proofs.Places.{rests_more}
 use Rattle.imap_envelopes.proofs.at.envelopes.address.Goals as goal
 
 pub returns-clause-rests : goal.returns-clause-rests
-returns-clause-rests c =
+returns-clause-rests g c =
     let q = c.in_ok-p-6.p in
     let e5 : c.in_ok-p-5.p ≤ q = omega (arith, c.in_ok-p-6.ensures.inside) in
     let e4 : c.in_ok-p-4.p ≤ q = le_trans c.in_ok-p-5.ensures.ahead.0 e5 in
@@ -19,5 +19,5 @@ returns-clause-rests c =
 
 pub returns-clause-steps : goal.returns-clause-steps
 unfolding address
-returns-clause-steps c =
+returns-clause-steps g c =
     rw (c.in_ok-p.ensures.steps, c.in_ok-p-2.ensures.steps, c.in_ok-p-3.ensures.steps, c.in_ok-p-4.ensures.steps, c.in_ok-p-5.ensures.steps, c.in_ok-p-6.ensures.steps) refl

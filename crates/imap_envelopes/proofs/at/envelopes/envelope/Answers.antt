@@ -4,7 +4,6 @@ use Rattle.std.proofs.Math.Nat.{le_trans}
 use Rattle.std.proofs.lemmas.Result.{err_from_is_err_and}
 use Rattle.imap_grammar.specs.Text.{Text}
 use Rattle.imap_grammar.proofs.Agreement.{stops, stops_with}
-use Rattle.imap_envelopes.proofs.Keeping.{kept_rests}
 use Rattle.imap_envelopes.specs.Envelopes.{Addresses, envelope, envelope_of, last_fields_seen}
 use Rattle.imap_shapes.specs.EnvelopeValues.{envelope_seen}
 use Rattle.imap_shapes.proofs.Places.{rests_more}
@@ -24,8 +23,8 @@ returns-clause-rests g c =
     let e4 : c.in_ok-p-4.p ≤ q = le_trans c.in_ok-p-5.ensures.ahead.0 e5 in
     let e3 : c.in_ok-p-3.p ≤ q = le_trans c.in_ok-p-4.ensures.ahead.0 e4 in
     let e2 : c.in_ok-p-2.p ≤ q = le_trans c.in_ok-p-3.ensures.ahead.0 e3 in
-    let date = kept_rests _ _ _ _ _ _ c.kept_bytes.ensures (rests_more q e2 c.in_ok-p-2.ensures.rests) in
-    let subject = kept_rests _ _ _ _ _ _ c.kept_bytes-2.ensures (rests_more q e3 c.in_ok-p-3.ensures.rests) in
+    let date = rests_more q e2 c.in_ok-p-2.ensures.rests in
+    let subject = rests_more q e3 c.in_ok-p-3.ensures.rests in
     let from = rests_more q e4 c.in_ok-p-4.ensures.rests in
     let sender = rests_more q e5 c.in_ok-p-5.ensures.rests in
     let reply_to = rests_more q e6 c.in_ok-p-6.ensures.rests in
@@ -35,7 +34,7 @@ returns-clause-rests g c =
 pub returns-clause-steps : goal.returns-clause-steps
 unfolding envelope envelope_seen last_fields_seen
 returns-clause-steps g c =
-    rw (c.in_ok-p.ensures.steps, c.in_ok-p-2.ensures.steps, c.in_ok-p-3.ensures.steps, c.in_ok-p-4.ensures.steps, c.in_ok-p-5.ensures.steps, c.in_ok-p-6.ensures.steps, c.in_ok-p-7.ensures.steps, c.kept_bytes.ensures.is, c.kept_bytes-2.ensures.is) refl
+    rw (c.in_ok-p.ensures.steps, c.in_ok-p-2.ensures.steps, c.in_ok-p-3.ensures.steps, c.in_ok-p-4.ensures.steps, c.in_ok-p-5.ensures.steps, c.in_ok-p-6.ensures.steps, c.in_ok-p-7.ensures.steps) refl
 
 pub returns-in_err-p-clause-steps : goal.returns-in_err-p-clause-steps
 unfolding envelope

@@ -2,7 +2,6 @@ use Rattle.std.proofs.Common.{refl, arith, ◌≤◌}
 use Rattle.std.proofs.Math.Nat.{le_trans}
 use Rattle.std.proofs.lemmas.Result.{err_from_is_err_and}
 use Rattle.imap_grammar.proofs.Agreement.{stops, stops_with}
-use Rattle.imap_envelopes.proofs.Keeping.{kept_rests}
 use Rattle.imap_envelopes.specs.Envelopes.{last_fields_seen}
 use Rattle.imap_shapes.proofs.Places.{rests_more}
 use Rattle.imap_envelopes.proofs.at.envelopes.last_fields.Goals as goal
@@ -19,14 +18,14 @@ returns-clause-rests g c =
     let to = rests_more q e1 c.in_ok-p.ensures.rests in
     let copies = rests_more q e2 c.in_ok-p-2.ensures.rests in
     let bcc = rests_more q e3 c.in_ok-p-3.ensures.rests in
-    let in_reply_to = kept_rests _ _ _ _ _ _ c.kept_bytes.ensures (rests_more q e4 c.in_ok-p-4.ensures.rests) in
-    let message_id = kept_rests _ _ _ _ _ _ c.kept_bytes-2.ensures (rests_more q e5 c.in_ok-p-5.ensures.rests) in
+    let in_reply_to = rests_more q e4 c.in_ok-p-4.ensures.rests in
+    let message_id = rests_more q e5 c.in_ok-p-5.ensures.rests in
     record { same = λ n k alike. rw (to.same n k alike, copies.same n k alike, bcc.same n k alike, in_reply_to.same n k alike, message_id.same n k alike) refl }
 
 pub returns-clause-steps : goal.returns-clause-steps
 unfolding last_fields_seen
 returns-clause-steps g c =
-    rw (c.in_ok-p.ensures.steps, c.in_ok-p-2.ensures.steps, c.in_ok-p-3.ensures.steps, c.in_ok-p-4.ensures.steps, c.in_ok-p-5.ensures.steps, c.in_ok-p-6.ensures.steps, c.kept_bytes.ensures.is, c.kept_bytes-2.ensures.is) refl
+    rw (c.in_ok-p.ensures.steps, c.in_ok-p-2.ensures.steps, c.in_ok-p-3.ensures.steps, c.in_ok-p-4.ensures.steps, c.in_ok-p-5.ensures.steps, c.in_ok-p-6.ensures.steps) refl
 
 pub returns-in_err-p-clause-steps : goal.returns-in_err-p-clause-steps
 returns-in_err-p-clause-steps g c =

@@ -5,7 +5,6 @@ use Rattle.imap_grammar.proofs.Agreement.{stops}
 use Rattle.imap_grammar.proofs.Loops.{onto_nothing}
 use Rattle.imap_envelopes.specs.Envelopes.{address, listed_address, some_addresses}
 use Rattle.imap_shapes.specs.EnvelopeValues.{address_seen}
-use Rattle.imap_envelopes.proofs.Keeping.{kept_rests}
 use Rattle.imap_grammar.proofs.Joins.{tried_some, tried_none, tried_fault}
 use Rattle.imap_envelopes.proofs.Gathering.{next, all, stopped, some_are, not_none, none_there, one_there, onward}
 use Rattle.imap_grammar.specs.Positions.{named_in}
@@ -14,8 +13,8 @@ use Rattle.imap_envelopes.proofs.at.envelopes.some_addresses.Goals as goal
 
 pub addresses-init : goal.addresses-init
 addresses-init g c = record {
-  gathered = rw c.new-items.ensures.items (record { so_far = onto_nothing _ });
-  rests = rw c.new-items.ensures.items (record { same = λ n k alike. refl });
+  gathered = rw c.in_ok-items.ensures.items (record { so_far = onto_nothing _ });
+  rests = rw c.in_ok-items.ensures.items (record { same = λ n k alike. refl });
   ahead = omega arith;
   within = c.requires.inside;
 }
@@ -32,11 +31,10 @@ unfolding listed_address address
 addresses-preserved g c =
     let is = tried_some _ _ _ (sym c.tried.ensures ∙ c.in_ok-after.was) c.in-Some.is in
     let far = rw is at c.listed_address.ensures.ahead in
-    let kept = c.kept_address in
     let steps = rw is at c.listed_address.ensures.steps in
-    let rests = kept_rests _ _ _ _ _ _ kept.ensures (rw is at c.listed_address.ensures.rests) in
+    let rests = rw is at c.listed_address.ensures.rests in
     record {
-      gathered = rw c.in_ok-push.ensures.items (next (λ x. address_seen (g.K.Keep.bytes_said (named_in c.args.m.now)) x) _ listed_address _ _ _ kept.result c.addresses.invariant.gathered (rw kept.ensures.is steps) refl);
+      gathered = rw c.in_ok-push.ensures.items (next (λ x. address_seen (g.K.Keep.bytes_said (named_in c.args.m.now)) x) _ listed_address _ _ _ c.in-Some.address c.addresses.invariant.gathered steps refl);
       rests = rw c.in_ok-push.ensures.items (together (λ n x. address_seen (g.K.Keep.bytes_said n) x) _ _ _ _ far.0 c.addresses.invariant.rests rests);
       ahead = le_trans c.addresses.invariant.ahead far.0;
       within = far.1;
@@ -53,7 +51,7 @@ returns-then-is_empty-clause-steps g c =
 pub returns-in_err-after-clause-steps : goal.returns-in_err-after-clause-steps
 unfolding some_addresses listed_address address
 returns-in_err-after-clause-steps g c =
-    let p = err_from_is_err_and c.from_residual.result c.from_residual.ensures.1 in
+    let p = err_from_is_err_and c.from_residual-in_err-after.result c.from_residual-in_err-after.ensures.1 in
     let q = tried_fault _ _ (sym c.tried.ensures ∙ c.in_err-after.was) in
     let read = stopped _ listed_address _ _ c.in_err-after.field-0.0 c.addresses.invariant.gathered q.1 (rw q.0 at c.listed_address.ensures.steps) in
     rw (p.1, p.2) (stops _ _ (some_are listed_address (drop c.args.p c.args.m.now) refl ∙ ap not_none read))

@@ -1,6 +1,7 @@
 use Rattle.std.proofs.Common.{take, refl, ◌∙◌}
 use Rattle.std.proofs.lemmas.Simd.{zip2_splat, zip2_of_maps, length-chunk}
 use Rattle.imap_grammar.specs.Classes.{is_quoted_char}
+use Rattle.imap_grammar.specs.Meaning.{outside}
 use Rattle.imap_grammar.proofs.Lanes.{end_of_lanes}
 use Rattle.imap_grammar.proofs.scanning.QuotedCharLongRuns.sixteen_end.Goals as goal
 
@@ -9,6 +10,6 @@ returns c =
     let v = take 16 c.args.i.now in
     let long = length-chunk 0 16 c.args.i.now c.requires in
     c.lowest_set.ensures
-    ∙ end_of_lanes is_quoted_char c.args.i.now _ _ c.requires c.type_inv.i
+    ∙ end_of_lanes (outside is_quoted_char) c.args.i.now _ _ c.requires c.type_inv.i
     (zip2_of_maps _ _ _ v (zip2_of_maps _ _ _ v (zip2_of_maps _ _ _ v (zip2_of_maps _ _ _ v (zip2_splat _ v 16 _ long) (zip2_splat _ v 16 _ long)) (zip2_splat _ v 16 _ long)) (zip2_splat _ v 16 _ long)) (zip2_splat _ v 16 _ long))
     refl

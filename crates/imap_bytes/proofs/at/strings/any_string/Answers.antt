@@ -1,16 +1,9 @@
 use Rattle.std.proofs.Common.{drop, sym, ◌∙◌}
-use Rattle.imap_grammar.proofs.Agreement.{exact_answered_at}
 use Rattle.imap_bytes.proofs.StringStarts.{string_quoted, string_literal}
-use Rattle.imap_bytes.proofs.at.strings.string.Goals as goal
+use Rattle.imap_bytes.proofs.at.strings.any_string.Goals as goal
 
 pub returns-then-quote_follows-clause-steps : goal.returns-then-quote_follows-clause-steps
 returns-then-quote_follows-clause-steps c = rw (string_quoted (drop c.args.p c.args.m.now) (sym c.quote_follows.ensures ∙ c.if-quote_follows.true)) c.quoted.ensures.steps
 
-pub returns-then-quote_follows-clause-answer : goal.returns-then-quote_follows-clause-answer
-returns-then-quote_follows-clause-answer c = exact_answered_at _ _ _ _ _ (returns-then-quote_follows-clause-steps c)
-
 pub returns-else-quote_follows-clause-steps : goal.returns-else-quote_follows-clause-steps
 returns-else-quote_follows-clause-steps c = rw (string_literal (drop c.args.p c.args.m.now) (sym c.quote_follows.ensures ∙ c.if-quote_follows.false)) c.literal.ensures.steps
-
-pub returns-else-quote_follows-clause-answer : goal.returns-else-quote_follows-clause-answer
-returns-else-quote_follows-clause-answer c = exact_answered_at _ _ _ _ _ (returns-else-quote_follows-clause-steps c)
