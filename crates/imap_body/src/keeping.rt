@@ -29,9 +29,6 @@ use imap_shapes::spans::{Span, SpannedText};
 use std::alloc::{AllocError, Global};
 use std::borrow::{CowSlice, CowStr};
 
-// How many attributes a list of values gets room for: their values are large, and most lists have one or two.
-const ROOM: usize = 2;
-
 // How many attributes a list of positions gets room for: positions are small.
 const ROOM_FOR_POSITIONS: usize = 4;
 
@@ -65,7 +62,7 @@ pub(crate) trait KeepAttribute: Keep + Drop {
         ensures ahead { Ahead m.now p result }
         ensures rests { RestsOn (λ n x. map (Self.text_said n) x.items) result };
 
-    /// A list with room for what is kept of a few. It takes memory; `Err`: memory ran out.
+    /// An empty list. It may take memory, for what is kept of a few; `Err`: memory ran out.
     fn start(&self, alloc: Global) -> Result<Vec<Self::Attribute>, AllocError>
         ensures { IfOk result (λ kept. keeps self.now [] kept.items) };
 
@@ -162,7 +159,7 @@ impl<'a> KeepAttribute for Named<'a> {
     }
 
     fn start(&self, alloc: Global) -> Result<Vec<AttributeValue<'a>>, AllocError> {
-        Vec::with_capacity(alloc, ROOM)
+        Ok(Vec::new(alloc))
     }
 
     #[inline(always)]
@@ -173,7 +170,7 @@ impl<'a> KeepAttribute for Named<'a> {
     ) -> Result<(), AllocError>
         ensures { (read : List (SpannedAttribute _ _)) → map attribute_value kept.old.items ≡ map (attribute_said (λ n t. text_of t) (λ n t. bytes_of t) self.now.m.now) read → OnOk result (map attribute_value kept.new.items ≡ map (attribute_said (λ n t. text_of t) (λ n t. bytes_of t) self.now.m.now) (read ++ attribute.entry ∷ [])) }
     {
-        attribute.push_value(kept)
+        attribute.push_value(self.m, kept)
     }
 }
 

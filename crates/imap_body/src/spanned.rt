@@ -49,12 +49,35 @@ impl SpannedAttribute {
 }
 
 impl<'a> SpannedAttribute<CowStr<'a>, CowSlice<'a, u8>> {
-    /// Puts the attribute after the others: what was kept of its strings is what they are. It takes memory where the
-    /// list has no room; `Err`: memory ran out.
-    pub(crate) fn push_value(self, values: &mut Vec<AttributeValue<'a>>) -> Result<(), AllocError>
+    /// Puts the attribute, which was read in m, after the others: what was kept of its strings is what they are. It takes
+    /// memory where the list has no room; `Err`: memory ran out.
+    pub(crate) fn push_value(
+        self,
+        m: &[u8],
+        values: &mut Vec<AttributeValue<'a>>,
+    ) -> Result<(), AllocError>
         ensures { OnOk result (map attribute_value values.new.items ≡ map attribute_value values.old.items ++ kept_value self.entry.parts ∷ []) }
     {
+        make_first_room(values, m, self.span.end)?;
         self.parts.push_unboxed(values)
+    }
+}
+
+// Room in an empty list, where its first attribute ends at `end`: for one where no other follows, else for two. A value is
+// large, and most lists have one or two.
+fn make_first_room(
+    values: &mut Vec<AttributeValue<'_>>,
+    m: &[u8],
+    end: usize,
+) -> Result<(), AllocError>
+    ensures { values.new.items ≡ values.old.items }
+{
+    if !values.is_empty() {
+        return Ok(());
+    }
+    match m.get(end) {
+        Some(b' ') => values.reserve_exact(2),
+        _ => values.reserve_exact(1),
     }
 }
 

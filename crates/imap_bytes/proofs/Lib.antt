@@ -1,7 +1,7 @@
 pub mod Memory
 pub mod Digits
 pub mod StringStarts
-pub mod ShortStrings
+pub mod PlainStrings
 pub mod Ranges
 pub mod LossyTwice
 pub mod LossyParts

@@ -1,5 +1,5 @@
 -- Which string it is, by the first byte.
-use Rattle.std.proofs.Common.{◌≡◌, ℕ, Bool, true, false, List, [], ◌∷◌, Option, Some, None, Ok, Err, refl, sym, inl, inr}
+use Rattle.std.proofs.Common.{◌≡◌, ℕ, Bool, true, false, List, [], ◌∷◌, Some, None, Ok, Err, refl, sym, inl, inr}
 use Rattle.std.specs.Prelude.{◌==◌, ◌||◌}
 use Rattle.std.proofs.lemmas.Bool.{or_cases, eqb-true, eqb-false, ne_eqb}
 use Rattle.imap_grammar.specs.declared.answer.Err.TheVariants.{Incomplete, Error, Failure}
@@ -7,7 +7,7 @@ use Rattle.imap_grammar.specs.declared.answer.Needed.TheVariants.{Unknown}
 use Rattle.imap_grammar.specs.Ascii.{quote, open_brace}
 use Rattle.imap_grammar.specs.Meaning.{begins}
 use Rattle.imap_grammar.specs.Rule.{opt}
-use Rattle.imap_grammar.specs.Step.{Step, ◌>>=◌, step, and_then, or_else}
+use Rattle.imap_grammar.specs.Step.{Step, step, or_else}
 use Rattle.imap_grammar.proofs.Starts.{denied, waited}
 use Rattle.imap_bytes.specs.Strings.{quoted_part, quoted, literal, literal_header, string, nil, nstring}
 
@@ -60,32 +60,29 @@ no_nil : (b : ℕ) (m : List ℕ) → ((b == quote) || (b == open_brace)) ≡ tr
 unfolding nil
 no_nil b m h = denied nil b m (elim (or_cases (b == quote) (b == open_brace) h) [ inl x ↦ (let e = eqb-true b quote x in rw e refl) | inr y ↦ (let e = eqb-true b open_brace y in rw e refl) ])
 
-nil_waits : step nil [] ≡ Err (Incomplete Unknown)
-unfolding nil
-nil_waits = waited nil refl
-
 no_string : (b : ℕ) (m : List ℕ) → ((b == quote) || (b == open_brace)) ≡ false → step string (b ∷ m) ≡ Err Error
 unfolding string quoted literal literal_header
 no_string b m h = let p = neither (b == quote) (b == open_brace) h in denied string b m (rw (other b quote p.0, other b open_brace p.1) refl)
 
-abbrev none : Option (List ℕ)
-none = None
+string_waits : step string [] ≡ Err (Incomplete Unknown)
+unfolding string
+string_waits = rw quoted_waits refl
 
-abbrev as_none : Step (List ℕ) → Step (Option (List ℕ))
-as_none s = s >>= λ x. Ok (x.0, none)
+waits_not : (s : Step (List ℕ)) (x : List ℕ × List ℕ) → s ≡ Ok x → s ≡ Err (Incomplete Unknown) → ⊥
+waits_not s x is waits = absurd cc
 
-nil_alone : (s : Step (List ℕ)) → or_else (and_then s (λ k. Ok (k, none)) >>= λ x. Ok (x.0, x.1.1)) (Err Error) ≡ as_none s
-nil_alone (Ok x) = refl
-nil_alone (Err Error) = refl
-nil_alone (Err Failure) = refl
-nil_alone (Err (Incomplete n)) = refl
+denies_not : (s : Step (List ℕ)) (x : List ℕ × List ℕ) → s ≡ Ok x → s ≡ Err Error → ⊥
+denies_not s x is denies = absurd cc
 
-pub nstring_string : (m : List ℕ) → begins (λ b. (b == quote) || (b == open_brace)) m ≡ true → step nstring m ≡ (step string m >>= λ x. Ok (x.0, Some x.1))
+not_nil : (m r v : List ℕ) → step string m ≡ Ok (r, v) → step nil m ≡ Err Error
+not_nil [] r v is = absurd (waits_not (step string []) (r, v) is string_waits)
+not_nil (b ∷ m) r v is = by ((b == quote) || (b == open_brace)) refl
+  where
+    by : (opens : Bool) → ((b == quote) || (b == open_brace)) ≡ opens → step nil (b ∷ m) ≡ Err Error
+    by true h = no_nil b m h
+    by false h = absurd (denies_not (step string (b ∷ m)) (r, v) is (no_string b m h))
+
+-- where a string is read, it is the nstring's
+pub nstring_read : (m r v : List ℕ) → step string m ≡ Ok (r, v) → step nstring m ≡ Ok (r, Some v)
 unfolding nstring
-nstring_string [] h = absurd cc
-nstring_string (b ∷ m) h = rw (no_nil b m h) refl
-
-pub nstring_nil : (m : List ℕ) → begins (λ b. (b == quote) || (b == open_brace)) m ≡ false → step nstring m ≡ (step nil m >>= λ x. Ok (x.0, none))
-unfolding nstring
-nstring_nil [] h = rw nil_waits refl
-nstring_nil (b ∷ m) h = rw (no_string b m h) (nil_alone (step nil (b ∷ m)))
+nstring_read m r v is = rw (not_nil m r v is, is) refl

@@ -1,4 +1,5 @@
 pub mod Naming
+pub mod FirstBytes
 pub mod Gathering
 pub mod Keeping
 pub mod EnvelopeTexts

@@ -1,6 +1,6 @@
 //! What is kept of a string.
 
-ghost use Rattle.std.specs.Prelude.{◌≡◌, IfOk};
+ghost use Rattle.std.specs.Prelude.{◌≡◌, ◌≤◌, length, IfOk};
 ghost use Rattle.imap_grammar.specs.Text.{Bytes, Text, text_of};
 ghost use Rattle.imap_shapes.specs.Spans.{Lookup, bytes_of, bytes_in, text_in};
 ghost use Rattle.imap_envelopes.specs.Keeping.{Says};
@@ -27,7 +27,9 @@ pub trait Keep {
 
     /// Keeps a byte string. No memory.
     fn bytes(&self, m: &[u8], span: Span) -> Self::Bytes
-        requires { serves self.now m.now }
+        requires serves { serves self.now m.now }
+        requires ordered { span.start ≤ span.end }
+        requires within { span.end ≤ length m.now }
         ensures { Says bytes_in bytes_said m.now span result };
 
     /// Keeps a text. It may take memory; `Err`: memory ran out.
@@ -83,7 +85,7 @@ impl<'a> Keep for Named<'a> {
 
     // What it gives is borrowed from the message that it holds, so that it may outlive the loan of m.
     fn bytes(&self, _m: &[u8], span: Span) -> CowSlice<'a, u8> {
-        CowSlice::Borrowed(span.part(self.m))
+        CowSlice::Borrowed(span.bytes(self.m))
     }
 
     #[inline(always)]

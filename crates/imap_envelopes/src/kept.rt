@@ -1,6 +1,6 @@
 //! What is kept of small records of strings.
 
-ghost use Rattle.std.specs.Prelude.{IfOk};
+ghost use Rattle.std.specs.Prelude.{◌≤◌, length, IfOk, IfSome};
 ghost use Rattle.std.specs.Option.{option_map};
 ghost use Rattle.imap_shapes.specs.Spans.{bytes_in, text_in};
 ghost use Rattle.imap_shapes.specs.FieldValues.{pair_seen, encoding_seen};
@@ -13,7 +13,8 @@ use std::alloc::AllocError;
 
 /// Keeps a byte string, if there is one. No memory.
 pub fn kept_bytes<K: Keep>(keep: &K, m: &[u8], bytes: Option<Span>) -> Option<K::Bytes>
-    requires { K.serves keep.now m.now }
+    requires serves { K.serves keep.now m.now }
+    requires inside { IfSome bytes (λ s. (s.start ≤ s.end) × (s.end ≤ length m.now)) }
     ensures { Says (λ n x. option_map (bytes_in n) x) (λ n x. option_map (K.bytes_said n) x) m.now bytes result }
 {
     match bytes {

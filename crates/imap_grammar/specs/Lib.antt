@@ -1,5 +1,6 @@
 pub mod Meaning
 pub mod Rule
+pub mod Scanning
 pub mod Step
 pub mod Exact
 pub mod Answer

@@ -1,11 +1,12 @@
 //! Where a run of bytes of one class ends (RFC 3501, section 9: each `1*` of a class).
 
-ghost use Rattle.std.specs.Prelude.{◌≡◌, ◌<◌, ◌≤◌, ◌==◌, ◌||◌, if◌then◌else◌, ℕ, Bool, true, Some, nat_le, length, take, drop, position, IfSome};
+ghost use Rattle.std.specs.Prelude.{◌≡◌, ◌<◌, ◌≤◌, ◌==◌, if◌then◌else◌, ℕ, Bool, true, Some, length, take, drop, position, IfSome};
 ghost use Rattle.std.specs.Int.{w64, trailing_zeros};
 ghost use Rattle.std.specs.List.{position_or_len};
-ghost use Rattle.imap_grammar.specs.Ascii.{carriage_return, quote};
+ghost use Rattle.imap_grammar.specs.Ascii.{quote};
 ghost use Rattle.imap_grammar.specs.Classes as classes;
 ghost use Rattle.imap_grammar.specs.Meaning.{begins, outside};
+ghost use Rattle.imap_grammar.specs.Scanning.{may_stop, FindsQuote};
 
 use crate::classes::{is_astring_char, is_atom_char, is_quoted_char, is_text_char};
 use std::simd::prelude::*;
@@ -172,36 +173,63 @@ pub fn long_run_end<C: LongRuns>(i: &[u8]) -> Option<usize>
     }
 }
 
-// Which of the first sixteen bytes is the first that is a quoted-special or a control up to CR; 16 where none is.
+// Which of the first sixteen bytes may stop a look for a quote, a bit for each: quoted-specials and controls up to CR.
 #[inline(always)]
-fn sixteen_stop(i: &[u8]) -> usize
+fn sixteen_stops(i: &[u8]) -> u64
     requires { 16 ≤ length i.now }
-    ensures { result ≡ position_or_len (λ b. nat_le b carriage_return || classes.is_quoted_specials b) (take 16 i.now) }
+    ensures { position_or_len may_stop (take 16 i.now) ≡ (if result == 0 then 16 else trailing_zeros w64 result) }
 {
     let bytes = u8x16::from_slice(i);
     let specials = bytes.simd_eq(u8x16::splat(b'\\')) | bytes.simd_eq(u8x16::splat(b'"'));
     let controls = bytes.simd_le(u8x16::splat(b'\r'));
-    lowest_set((specials | controls).to_bitmask())
+    (specials | controls).to_bitmask()
 }
 
-/// Where a quote stands behind fewer than sixteen quoted-chars, none of them a control up to CR; `None` where it is
-/// otherwise, or where fewer than sixteen bytes are there. No memory.
-///
-/// Most quoted strings are read by this one look at sixteen bytes. Some controls up to CR are quoted-chars, too, but to
-/// tell these from the others takes two comparisons more.
-#[inline(always)]
-pub fn near_quote(i: &[u8]) -> Option<usize>
+// The same as `next_quote`, wherever the quote stands. Never inlined, so that `next_quote`, which is, stays short.
+#[inline(never)]
+fn far_quote(i: &[u8]) -> Option<usize>
     ensures at { IfSome result (λ n. position (outside classes.is_quoted_char) i.now ≡ Some n) }
     ensures closed { IfSome result (λ n. begins (λ b. b == quote) (drop n i.now) ≡ true) }
     ensures within { IfSome result (λ n. n < length i.now) }
+    ensures found { FindsQuote i.now result }
+{
+    let mut n = 0;
+    let mut left = i;
+    'sixteens: while left.len() >= 16 {
+        let k = lowest_set(sixteen_stops(left));
+        if k < 16 {
+            return if left[k] == b'"' { Some(n + k) } else { None };
+        }
+        n += 16;
+        let (_, more) = left.split_at(16);
+        left = more;
+    }
+    None
+}
+
+/// Where a quote stands behind quoted-chars alone, none of them a control up to CR; `None` where it is otherwise, and
+/// maybe where fewer than sixteen bytes are there from the quote on. No memory.
+///
+/// Most quoted strings are read by one look at sixteen bytes. Some controls up to CR are quoted-chars, too, but to tell
+/// these from the others takes two comparisons more.
+#[inline(always)]
+pub fn next_quote(i: &[u8]) -> Option<usize>
+    ensures at { IfSome result (λ n. position (outside classes.is_quoted_char) i.now ≡ Some n) }
+    ensures closed { IfSome result (λ n. begins (λ b. b == quote) (drop n i.now) ≡ true) }
+    ensures within { IfSome result (λ n. n < length i.now) }
+    ensures found { FindsQuote i.now result }
 {
     if i.len() < 16 {
         return None;
     }
-    let n = sixteen_stop(i);
-    if n < 16 && i[n] == b'"' {
-        Some(n)
-    } else {
-        None
+    let bits = sixteen_stops(i);
+    if bits != 0 {
+        let n = bits.trailing_zeros() as usize;
+        if n < 16 {
+            return if i[n] == b'"' { Some(n) } else { None };
+        }
     }
+    let (_, more) = i.split_at(16);
+    let n = far_quote(more)?;
+    Some(16 + n)
 }

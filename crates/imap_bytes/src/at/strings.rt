@@ -16,7 +16,7 @@ use imap_grammar::at::Reached;
 use imap_grammar::at::span::Span;
 use imap_grammar::at::tags::{cut0, cut1, tag, word};
 use imap_grammar::scanning::{
-    AstringChar, AtomChar, QuotedChar, long_run_end, near_quote, run_end,
+    AstringChar, AtomChar, QuotedChar, long_run_end, next_quote, run_end,
 };
 use imap_grammar::{Err, Needed, first, maybe};
 
@@ -147,9 +147,9 @@ fn quote_follows(m: &[u8], p: usize) -> bool
     matches!(i.first(), Some(b'"'))
 }
 
-// Where the content of a quoted string ends that is read in one look, as most are; `None` where it is another.
+// Where the content of a quoted string ends that has quoted-chars alone, as most have; `None` where it is another.
 #[inline(always)]
-fn short_content_end(m: &[u8], p: usize) -> Option<usize>
+fn plain_content_end(m: &[u8], p: usize) -> Option<usize>
     requires { p ≤ length m.now }
     ensures steps { IfSome result (λ q. step strings.string (drop p m.now) ≡ Ok (drop (q + 1) m.now, between m.now (p + 1) q)) }
     ensures inside { IfSome result (λ q. (p + 1 ≤ q) × (q < length m.now)) }
@@ -158,7 +158,7 @@ fn short_content_end(m: &[u8], p: usize) -> Option<usize>
         return None;
     }
     let (_, i) = m.split_at(p + 1);
-    let n = near_quote(i)?;
+    let n = next_quote(i)?;
     Some(p + 1 + n)
 }
 
@@ -187,7 +187,7 @@ pub fn string(m: &[u8], p: usize) -> Reached<Span>
     ensures inside { Inside m.now p result }
     ensures no_failure { NeverFails result }
 {
-    match short_content_end(m, p) {
+    match plain_content_end(m, p) {
         Some(q) => Ok((
             q + 1,
             Span {
@@ -235,15 +235,6 @@ pub fn nil(m: &[u8], p: usize) -> Reached<Span>
     word(b"NIL", m, p)
 }
 
-// Whether the next byte opens a string.
-fn opens_string(m: &[u8], p: usize) -> bool
-    requires { p ≤ length m.now }
-    ensures { result ≡ begins (λ b. (b == quote) || (b == open_brace)) (drop p m.now) }
-{
-    let (_, i) = m.split_at(p);
-    matches!(i.first(), Some(b'"' | b'{'))
-}
-
 /// `NIL`, or a string (RFC 3501, section 9: nstring). No memory.
 #[tactic(auto, using(imap_grammar::proofs::Agreement::exact_answered_at), unfolding(crate::specs::Strings::nstring))]
 #[inline(always)]
@@ -255,12 +246,18 @@ pub fn nstring(m: &[u8], p: usize) -> Reached<Option<Span>>
     ensures inside { MaybeInside p result }
     ensures no_failure { NeverFails result }
 {
-    if opens_string(m, p) {
-        let (q, content) = string(m, p)?;
-        return Ok((q, Some(content)));
+    if let Some(q) = plain_content_end(m, p) {
+        return Ok((
+            q + 1,
+            Some(Span {
+                start: p + 1,
+                end: q,
+            }),
+        ));
     }
-    let (q, _) = nil(m, p)?;
-    Ok((q, None))
+    first!(nil(m, p), _ => None);
+    let (q, content) = any_string(m, p)?;
+    Ok((q, Some(content)))
 }
 
 /// Atom-chars, maybe none (RFC 3501, section 9: ATOM-CHAR). No memory.

@@ -1,8 +1,10 @@
 //! Addresses and envelopes at a position, and what is kept of their byte strings.
 
-ghost use Rattle.std.specs.Prelude.{◌≤◌, length, drop, map};
+ghost use Rattle.std.specs.Prelude.{◌≡◌, ◌==◌, ◌≤◌, length, drop, map};
 ghost use Rattle.std.specs.Option.{option_map};
 ghost use Rattle.imap_grammar.specs.Positions.{ExactlyAt, GivesAt, Ahead, named_in};
+ghost use Rattle.imap_grammar.specs.Ascii.{open_parenthesis};
+ghost use Rattle.imap_grammar.specs.Meaning.{begins};
 ghost use Rattle.imap_grammar.specs.Memory.{NeverFails};
 ghost use Rattle.imap_grammar.specs.Step.{step};
 ghost use Rattle.imap_envelopes.specs.Envelopes as envelopes;
@@ -16,7 +18,6 @@ use crate::kept::kept_bytes;
 use imap_bytes::at::Reached;
 use imap_bytes::at::strings::nil;
 use imap_bytes::at::tags::tag;
-use imap_bytes::lists::tried;
 use imap_bytes::{Err, first};
 use imap_shapes::shapes::envelopes::{Address, Envelope};
 use std::alloc::Global;
@@ -119,9 +120,17 @@ fn some_addresses<K: Keep>(
     // The first is read in the loop, too, so that an address is read in one place, whose calls the compiler takes in.
     let mut items = Vec::with_capacity(alloc, ROOM)?;
     let mut q = p;
-    'addresses: while let Some((after, address)) = tried(listed_address(keep, m, q))? {
-        items.push(address)?;
-        q = after;
+    'addresses: loop {
+        match listed_address(keep, m, q) {
+            Ok((after, address)) => {
+                items.push(address)?;
+                q = after;
+            }
+            Err(error) => match error {
+                Err::Error => break,
+                _ => return Err(error),
+            },
+        }
     }
     if items.is_empty() {
         return Err(Err::Error);
@@ -129,8 +138,17 @@ fn some_addresses<K: Keep>(
     Ok((q, items))
 }
 
+// Whether the next byte opens a list.
+#[inline(always)]
+fn list_opens(m: &[u8], p: usize) -> bool
+    requires { p ≤ length m.now }
+    ensures { result ≡ begins (λ b. b == open_parenthesis) (drop p m.now) }
+{
+    let (_, i) = m.split_at(p);
+    matches!(i.first(), Some(b'('))
+}
+
 /// `NIL`, or addresses in parentheses (RFC 3501, section 9: env-from).
-#[tactic(auto, unfolding(crate::specs::Envelopes::addresses))]
 fn addresses<K: Keep>(
     keep: &K,
     alloc: Global,
@@ -143,7 +161,10 @@ fn addresses<K: Keep>(
     ensures ahead { Ahead m.now p result }
     ensures rests { RestsOn (λ n x. addresses_seen (K.bytes_said n) x) result }
 {
-    first!(nil(m, p), _ => None);
+    if !list_opens(m, p) {
+        let (q, _) = nil(m, p)?;
+        return Ok((q, None));
+    }
     let (q, _) = tag(b"(", m, p)?;
     let (q, list) = some_addresses(keep, alloc, m, q)?;
     let (q, _) = tag(b")", m, q)?;

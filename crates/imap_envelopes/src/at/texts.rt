@@ -1,7 +1,7 @@
 //! Strings at a position, each as a byte string or as a text to be decoded. None takes memory.
 
 ghost use Rattle.std.specs.Prelude.{◌≤◌, length, drop};
-ghost use Rattle.imap_grammar.specs.Positions.{ExactlyAt, Ahead, named_in};
+ghost use Rattle.imap_grammar.specs.Positions.{ExactlyAt, Ahead, MaybeInside, named_in};
 ghost use Rattle.imap_grammar.specs.Memory.{NeverFails};
 ghost use Rattle.imap_grammar.specs.Step.{step};
 ghost use Rattle.imap_bytes.specs.Numbers as numbers;
@@ -25,6 +25,7 @@ pub fn byte_string(m: &[u8], p: usize) -> Reached<Option<Span>>
     requires { p ≤ length m.now }
     ensures steps { ExactlyAt (λ x. maybe_bytes_in (named_in m.now) x) m.now result (step envelopes.byte_string (drop p m.now)) }
     ensures ahead { Ahead m.now p result }
+    ensures inside { MaybeInside p result }
     ensures rests { RestsOn maybe_bytes_in result }
     ensures no_failure { NeverFails result }
 {
@@ -38,6 +39,7 @@ pub fn spaced_byte_string(m: &[u8], p: usize) -> Reached<Option<Span>>
     requires { p ≤ length m.now }
     ensures steps { ExactlyAt (λ x. maybe_bytes_in (named_in m.now) x) m.now result (step (spaced envelopes.byte_string) (drop p m.now)) }
     ensures ahead { Ahead m.now p result }
+    ensures inside { MaybeInside p result }
     ensures rests { RestsOn maybe_bytes_in result }
     ensures no_failure { NeverFails result }
 {

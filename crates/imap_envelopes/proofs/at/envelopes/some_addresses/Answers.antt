@@ -1,11 +1,9 @@
-use Rattle.std.proofs.Common.{refl, ap, ◌∙◌, arith, rules, ◌≡◌, ◌<◌, ◌≤◌, length, drop, sym}
+use Rattle.std.proofs.Common.{refl, ap, ◌∙◌, arith, rules, ◌≡◌, ◌<◌, ◌≤◌, length, drop}
 use Rattle.std.proofs.Math.Nat.{le_trans}
-use Rattle.std.proofs.lemmas.Result.{err_from_is_err_and}
 use Rattle.imap_grammar.proofs.Agreement.{stops}
 use Rattle.imap_grammar.proofs.Loops.{onto_nothing}
 use Rattle.imap_envelopes.specs.Envelopes.{address, listed_address, some_addresses}
 use Rattle.imap_shapes.specs.EnvelopeValues.{address_seen}
-use Rattle.imap_grammar.proofs.Joins.{tried_some, tried_none, tried_fault}
 use Rattle.imap_envelopes.proofs.Gathering.{next, all, stopped, some_are, not_none, none_there, one_there, onward}
 use Rattle.imap_grammar.specs.Positions.{named_in}
 use Rattle.imap_shapes.proofs.Places.{together}
@@ -22,20 +20,20 @@ addresses-init g c = record {
 pub addresses-smaller : goal.addresses-smaller
 unfolding listed_address address
 addresses-smaller g c =
-    let is = tried_some _ _ _ (sym c.tried.ensures ∙ c.in_ok-after.was) c.in-Some.is in
-    let less : c.addresses.q < c.in-Some.after = onward listed_address c.args.m.now _ _ _ (rw is at c.listed_address.ensures.steps) refl in
+    let is = c.in-Ok.is in
+    let less : c.addresses.q < c.in-Ok.after = onward listed_address c.args.m.now _ _ _ (rw is at c.listed_address.ensures.steps) refl in
     omega (arith, less, rw is at c.listed_address.ensures.ahead)
 
 pub addresses-preserved : goal.addresses-preserved
 unfolding listed_address address
 addresses-preserved g c =
-    let is = tried_some _ _ _ (sym c.tried.ensures ∙ c.in_ok-after.was) c.in-Some.is in
+    let is = c.in-Ok.is in
     let far = rw is at c.listed_address.ensures.ahead in
     let steps = rw is at c.listed_address.ensures.steps in
     let rests = rw is at c.listed_address.ensures.rests in
     record {
-      gathered = rw c.in_ok-push.ensures.items (next (λ x. address_seen (g.K.Keep.bytes_said (named_in c.args.m.now)) x) _ listed_address _ _ _ c.in-Some.address c.addresses.invariant.gathered steps refl);
-      rests = rw c.in_ok-push.ensures.items (together (λ n x. address_seen (g.K.Keep.bytes_said n) x) _ _ _ _ far.0 c.addresses.invariant.rests rests);
+      gathered = rw c.in_ok-push-in-Ok.ensures.items (next (λ x. address_seen (g.K.Keep.bytes_said (named_in c.args.m.now)) x) _ listed_address _ _ _ c.in-Ok.address c.addresses.invariant.gathered steps refl);
+      rests = rw c.in_ok-push-in-Ok.ensures.items (together (λ n x. address_seen (g.K.Keep.bytes_said n) x) _ _ _ _ far.0 c.addresses.invariant.rests rests);
       ahead = le_trans c.addresses.invariant.ahead far.0;
       within = far.1;
     }
@@ -44,25 +42,21 @@ pub returns-then-is_empty-clause-steps : goal.returns-then-is_empty-clause-steps
 unfolding some_addresses listed_address address
 returns-then-is_empty-clause-steps g c =
     let few : length c.addresses.items.items ≡ 0 = search (rules, c.is_empty.ensures, c.if-is_empty.true) in
-    let is = tried_none _ _ (sym c.tried.ensures ∙ c.in_ok-after.was) c.in_default.is in
-    let read = all _ listed_address _ _ c.addresses.invariant.gathered (rw is at c.listed_address.ensures.steps) in
+    let read = all _ listed_address _ _ c.addresses.invariant.gathered (rw c.in-Error.is at (rw c.in-Err.is at c.listed_address.ensures.steps)) in
     some_are listed_address (drop c.args.p c.args.m.now) refl ∙ none_there (λ x. address_seen (g.K.Keep.bytes_said (named_in c.args.m.now)) x) _ _ c.addresses.items.items few read
-
-pub returns-in_err-after-clause-steps : goal.returns-in_err-after-clause-steps
-unfolding some_addresses listed_address address
-returns-in_err-after-clause-steps g c =
-    let p = err_from_is_err_and c.from_residual-in_err-after.result c.from_residual-in_err-after.ensures.1 in
-    let q = tried_fault _ _ (sym c.tried.ensures ∙ c.in_err-after.was) in
-    let read = stopped _ listed_address _ _ c.in_err-after.field-0.0 c.addresses.invariant.gathered q.1 (rw q.0 at c.listed_address.ensures.steps) in
-    rw (p.1, p.2) (stops _ _ (some_are listed_address (drop c.args.p c.args.m.now) refl ∙ ap not_none read))
 
 pub returns-clause-steps : goal.returns-clause-steps
 unfolding some_addresses listed_address address
 returns-clause-steps g c =
     let few : 1 ≤ length c.addresses.items.items = search (rules, c.is_empty.ensures, c.if-is_empty.false) in
-    let is = tried_none _ _ (sym c.tried.ensures ∙ c.in_ok-after.was) c.in_default.is in
-    let read = all _ listed_address _ _ c.addresses.invariant.gathered (rw is at c.listed_address.ensures.steps) in
+    let read = all _ listed_address _ _ c.addresses.invariant.gathered (rw c.in-Error.is at (rw c.in-Err.is at c.listed_address.ensures.steps)) in
     some_are listed_address (drop c.args.p c.args.m.now) refl ∙ one_there (λ x. address_seen (g.K.Keep.bytes_said (named_in c.args.m.now)) x) _ _ c.addresses.items.items few read
 
 pub returns-clause-rests : goal.returns-clause-rests
 returns-clause-rests g c = record { same = λ n k alike. c.addresses.invariant.rests.same n k alike }
+
+pub returns-in_default : goal.returns-in_default
+unfolding some_addresses listed_address address
+returns-in_default g c =
+    let read = stopped _ listed_address _ _ c.in-Err.error c.addresses.invariant.gathered c.in_default.not-Error (rw c.in-Err.is at c.listed_address.ensures.steps) in
+    record { steps = stops _ _ (some_are listed_address (drop c.args.p c.args.m.now) refl ∙ ap not_none read); ahead = tt; rests = tt }

@@ -1,7 +1,7 @@
 use Rattle.std.proofs.Common.{◌+◌, ◌<◌, length, refl, sym, ap, ◌∙◌, arith}
 use Rattle.std.proofs.lemmas.List.{drop-drop, length-drop}
-use Rattle.imap_bytes.proofs.ShortStrings.{short_string}
-use Rattle.imap_bytes.proofs.at.strings.short_content_end.Goals as goal
+use Rattle.imap_bytes.proofs.PlainStrings.{plain_string}
+use Rattle.imap_bytes.proofs.at.strings.plain_content_end.Goals as goal
 
 pub returns-clause-steps : goal.returns-clause-steps
 returns-clause-steps c =
@@ -10,4 +10,4 @@ returns-clause-steps c =
     let n = c.in_ok-n.n in
     let back = c.split_at.ensures.back in
     let within : p + 1 + n < length m = omega (arith, ap length back, c.in_ok-n.ensures.within, length-drop (p + 1) m) in
-    short_string m p (p + 1 + n) within (sym c.quote_follows.ensures ∙ c.if-not-quote_follows.false) (rw (← drop-drop n (p + 1) m, ← back) c.in_ok-n.ensures.closed) n refl (sym (rw back at c.in_ok-n.ensures.at))
+    plain_string m p (p + 1 + n) within (sym c.quote_follows.ensures ∙ c.if-not-quote_follows.false) (rw (← drop-drop n (p + 1) m, ← back) c.in_ok-n.ensures.closed) n refl (sym (rw back at c.in_ok-n.ensures.at))

@@ -1,4 +1,4 @@
--- A quoted string whose content is read in one look: quoted-chars alone.
+-- A quoted string whose content is quoted-chars alone.
 use Rattle.std.proofs.Common.{◌≡◌, ◌≢◌, ℕ, ◌+◌, ◌<◌, true, List, [], ◌∷◌, length, drop, position, zero, suc, Some, Ok, refl, ap, ◌∙◌, arith}
 use Rattle.std.specs.Prelude.{◌==◌, nat_lt, false}
 use Rattle.std.proofs.lemmas.Bool.{eqb-true, le-ltb}
@@ -27,10 +27,10 @@ unfolding quoted_part
 so_far m p zero within is = let e : p + zero ≡ p = omega arith in rw e (after_start quoted_part (drop p m))
 so_far m p (suc n) within is = after_more quoted_part (drop p m) (drop p m) (drop (p + suc n) m) _ (after_start quoted_part (drop p m)) (one_part m p (suc n) (λ e. cc) within is) refl
 
-short_content : (m : List ℕ) (p n : ℕ) → p + n < length m → Some n ≡ position (outside is_quoted_char) (drop p m) → begins (λ b. b == quote) (drop (p + n) m) ≡ true
+plain_content : (m : List ℕ) (p n : ℕ) → p + n < length m → Some n ≡ position (outside is_quoted_char) (drop p m) → begins (λ b. b == quote) (drop (p + n) m) ≡ true
     → step quoted_content (drop p m) ≡ Ok (drop (p + n) m, between m p (p + n))
 unfolding quoted_content
-short_content m p n within is closes = raw_at quoted_part m p (p + n) (p + n) (omega arith) (omega (arith, within)) (so_far m p n within is) (no_part _ closes)
+plain_content m p n within is closes = raw_at quoted_part m p (p + n) (p + n) (omega arith) (omega (arith, within)) (so_far m p n within is) (no_part _ closes)
 
 -- ---- its quotes
 
@@ -52,10 +52,10 @@ in_quotes i r v h = rw (quote_taken i, h, quote_taken r) refl
 read : List ℕ → List ℕ → Step (List ℕ)
 read v rest = Ok (rest, v)
 
-pub short_string : (m : List ℕ) (p q : ℕ) → q < length m → begins (λ b. b == quote) (drop p m) ≡ true → begins (λ b. b == quote) (drop q m) ≡ true → (n : ℕ) → q ≡ (p + 1) + n → Some n ≡ position (outside is_quoted_char) (drop (p + 1) m)
+pub plain_string : (m : List ℕ) (p q : ℕ) → q < length m → begins (λ b. b == quote) (drop p m) ≡ true → begins (λ b. b == quote) (drop q m) ≡ true → (n : ℕ) → q ≡ (p + 1) + n → Some n ≡ position (outside is_quoted_char) (drop (p + 1) m)
     → step string (drop p m) ≡ Ok (drop (q + 1) m, between m (p + 1) q)
 unfolding read
-short_string m p q within opens closes n far is =
+plain_string m p q within opens closes n far is =
     let v = between m (p + 1) q in
-    let content : step quoted_content (drop (p + 1) m) ≡ Ok (drop q m, v) = rw far (short_content m (p + 1) n (omega (arith, within, far)) is (rw far at closes)) in
+    let content : step quoted_content (drop (p + 1) m) ≡ Ok (drop q m, v) = rw far (plain_content m (p + 1) n (omega (arith, within, far)) is (rw far at closes)) in
     string_quoted (drop p m) opens ∙ ap (λ i. step quoted i) (at_quote m p opens) ∙ in_quotes (drop (p + 1) m) (drop (q + 1) m) v (content ∙ ap (read v) (at_quote m q closes))
