@@ -22,8 +22,8 @@ other-decoded bytes text n e = rw (e, not_utf8 (is_utf8 bytes) refl) refl
     not_utf8 false q = q
 
 -- appended to an empty text
-pub lossy-decoded : (bytes empty text : List ℕ) → ¬ (IsUtf8 bytes) → empty ≡ [] → text ≡ empty ++ encode_utf8_all (lossy_chars bytes) → made text false ≡ decoded bytes
-lossy-decoded bytes empty text n none is = other-decoded bytes text n (is ∙ ap (λ l. l ++ encode_utf8_all (lossy_chars bytes)) none ∙ lossy_chars-utf8_lossy bytes)
+pub lossy_text : (bytes empty text : List ℕ) → empty ≡ [] → text ≡ empty ++ encode_utf8_all (lossy_chars bytes) → text ≡ utf8_lossy bytes
+lossy_text bytes empty text none is = is ∙ ap (λ l. l ++ encode_utf8_all (lossy_chars bytes)) none ∙ lossy_chars-utf8_lossy bytes
 
 pub utf8-kept : (bytes text : List ℕ) → IsUtf8 bytes → text ≡ bytes → Some text ≡ only is_utf8 bytes
 utf8-kept bytes text u e = rw (e, is_utf8-from_IsUtf8 bytes u) refl

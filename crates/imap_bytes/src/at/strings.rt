@@ -76,8 +76,10 @@ fn quoted_content(m: &[u8], p: usize) -> Reached<Span>
 /// A quoted string: its raw content, backslashes and all (RFC 3501, section 9: quoted). No memory.
 ///
 /// NUL, CR, LF, or a backslash before another byte than `"` and `\` is `Error`.
+// Never inlined: of a function with a loop the compiler doesn't see that it writes its whole answer, and in each caller
+// of `any_string` it would clear the room for one.
 #[tactic(auto, using(imap_grammar::proofs::Agreement::exact_answered_at), unfolding(crate::specs::Strings::quoted))]
-#[inline(always)]
+#[inline(never)]
 pub fn quoted(m: &[u8], p: usize) -> Reached<Span>
     requires { p ≤ length m.now }
     ensures steps { ExactlyAt (λ x. named_in m.now x) m.now result (step strings.quoted (drop p m.now)) }
@@ -147,19 +149,21 @@ fn quote_follows(m: &[u8], p: usize) -> bool
     matches!(i.first(), Some(b'"'))
 }
 
-// Where the content of a quoted string ends that has quoted-chars alone, as most have; `None` where it is another.
+// A quoted string that has quoted-chars alone, as most have; `None` where it is another.
 #[inline(always)]
-fn plain_content_end(m: &[u8], p: usize) -> Option<usize>
+fn plain_string(m: &[u8], p: usize) -> Option<(usize, Span)>
     requires { p ≤ length m.now }
-    ensures steps { IfSome result (λ q. step strings.string (drop p m.now) ≡ Ok (drop (q + 1) m.now, between m.now (p + 1) q)) }
-    ensures inside { IfSome result (λ q. (p + 1 ≤ q) × (q < length m.now)) }
+    ensures steps { IfSome result (λ x. step strings.string (drop p m.now) ≡ Ok (drop x.0 m.now, named_in m.now x.1)) }
+    ensures inside { IfSome result (λ x. Lies p x.1 x.0 × (x.0 ≤ length m.now)) }
 {
     if !quote_follows(m, p) {
         return None;
     }
-    let (_, i) = m.split_at(p + 1);
+    let start = p + 1;
+    let (_, i) = m.split_at(start);
     let n = next_quote(i)?;
-    Some(p + 1 + n)
+    let end = start + n;
+    Some((end + 1, Span { start, end }))
 }
 
 // The same as `string`, for strings of all kinds. Never inlined, so that `string`, which is, stays short.
@@ -187,14 +191,8 @@ pub fn string(m: &[u8], p: usize) -> Reached<Span>
     ensures inside { Inside m.now p result }
     ensures no_failure { NeverFails result }
 {
-    match plain_content_end(m, p) {
-        Some(q) => Ok((
-            q + 1,
-            Span {
-                start: p + 1,
-                end: q,
-            },
-        )),
+    match plain_string(m, p) {
+        Some(reached) => Ok(reached),
         None => any_string(m, p),
     }
 }
@@ -246,14 +244,8 @@ pub fn nstring(m: &[u8], p: usize) -> Reached<Option<Span>>
     ensures inside { MaybeInside p result }
     ensures no_failure { NeverFails result }
 {
-    if let Some(q) = plain_content_end(m, p) {
-        return Ok((
-            q + 1,
-            Some(Span {
-                start: p + 1,
-                end: q,
-            }),
-        ));
+    if let Some((q, content)) = plain_string(m, p) {
+        return Ok((q, Some(content)));
     }
     first!(nil(m, p), _ => None);
     let (q, content) = any_string(m, p)?;

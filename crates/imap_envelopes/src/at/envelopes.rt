@@ -13,7 +13,7 @@ ghost use Rattle.imap_shapes.specs.EnvelopeValues.{address_seen, addresses_seen,
 ghost use Rattle.imap_shapes.specs.Spans.{RestsOn};
 
 use crate::Keep;
-use crate::at::texts::byte_string;
+use crate::at::texts::{byte_string, spaced_byte_string};
 use crate::kept::kept_bytes;
 use imap_bytes::at::Reached;
 use imap_bytes::at::strings::nil;
@@ -59,8 +59,8 @@ fn spaced_string<K: Keep>(keep: &K, m: &[u8], p: usize) -> Reached<Option<K::Byt
     ensures rests { RestsOn (λ n x. option_map (K.bytes_said n) x) result }
     ensures no_failure { NeverFails result }
 {
-    let (p, _) = tag(b" ", m, p)?;
-    kept_string(keep, m, p)
+    let (q, bytes) = spaced_byte_string(m, p)?;
+    Ok((q, kept_bytes(keep, m, bytes)))
 }
 
 /// An address (RFC 3501, section 9: address). No memory.

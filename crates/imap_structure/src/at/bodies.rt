@@ -147,6 +147,7 @@ fn body_type_basic<K: Keep>(
     Ok(p)
 }
 
+#[inline(always)]
 fn spaced_envelope<K: Keep>(
     keep: &K,
     alloc: Global,

@@ -1,7 +1,7 @@
 use Rattle.std.proofs.Common.{◌+◌, ◌<◌, length, refl, sym, ap, ◌∙◌, arith}
 use Rattle.std.proofs.lemmas.List.{drop-drop, length-drop}
 use Rattle.imap_bytes.proofs.PlainStrings.{plain_string}
-use Rattle.imap_bytes.proofs.at.strings.plain_content_end.Goals as goal
+use Rattle.imap_bytes.proofs.at.strings.plain_string.Goals as goal
 
 pub returns-clause-steps : goal.returns-clause-steps
 returns-clause-steps c =
