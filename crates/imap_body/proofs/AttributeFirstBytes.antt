@@ -1,5 +1,5 @@
 -- Which alternatives answer, by the first byte; what begins alike is read once.
-use Rattle.std.proofs.Common.{◌≡◌, ℕ, List, None, Err, refl, codes, true, ◌∙◌}
+use Rattle.std.proofs.Common.{◌≡◌, ℕ, List, None, Err, refl, codes, ◌∙◌}
 use Rattle.std.specs.Prelude.{slice_get}
 use Rattle.imap_grammar.specs.declared.answer.Err.TheVariants.{Incomplete}
 use Rattle.imap_grammar.specs.declared.answer.Needed.TheVariants.{Unknown}
@@ -7,7 +7,6 @@ use Rattle.imap_grammar.specs.Rule.{Rule, gives, ◌▹◌, ◌or◌}
 use Rattle.imap_grammar.specs.Starts.{SameSteps}
 use Rattle.imap_grammar.specs.Step.{step}
 use Rattle.imap_grammar.specs.Tags.{same_letter, word, maybe_space}
-use Rattle.imap_grammar.proofs.Consumption.{consumes}
 use Rattle.imap_grammar.proofs.Starts.{AtAny, AtOther, waits_without, by_any, by_other}
 use Rattle.imap_bytes.specs.Numbers.{number}
 use Rattle.imap_bytes.specs.Strings.{atom}
@@ -131,7 +130,3 @@ attribute_is_of_x = by_any "xX" attribute attribute_of_x (λ m. refl)
 pub attribute_other : AtOther "bBeEfFiImMrRtTuUxX" attribute msg_att_unknown
 unfolding attribute msg_att_body_section msg_att_body_structure msg_att_envelope msg_att_internal_date msg_att_flags msg_att_mod_seq msg_att_rfc822 msg_att_rfc822_header msg_att_rfc822_size msg_att_rfc822_text msg_att_uid msg_att_gmail_labels gmail_label_list msg_att_gmail_msgid gmail_msgid msg_att_gmail_thrid gmail_thrid msg_att_email_id msg_att_thread_id msg_att_unknown atom
 attribute_other = by_other "bBeEfFiImMrRtTuUxX" attribute msg_att_unknown (λ m. refl)
-
-pub attribute_takes : consumes attribute ≡ true
-unfolding attribute msg_att_body_section msg_att_body_structure msg_att_envelope msg_att_internal_date msg_att_flags msg_att_mod_seq msg_att_rfc822 msg_att_rfc822_header msg_att_rfc822_size msg_att_rfc822_text msg_att_uid msg_att_gmail_labels gmail_label_list msg_att_gmail_msgid gmail_msgid msg_att_gmail_thrid gmail_thrid msg_att_email_id msg_att_thread_id msg_att_unknown atom
-attribute_takes = refl

@@ -9,7 +9,7 @@ use Rattle.imap_grammar.specs.Rule.{Rule, meaning, gives, nothing, opt, run1, �
 use Rattle.imap_grammar.specs.Text.{Bytes, Text, as_text, lent_text}
 use Rattle.imap_grammar.specs.Tags.{same_letter, word, sp, maybe_space}
 use Rattle.imap_grammar.specs.Pieces.{written, plain, ntext}
-use Rattle.imap_grammar.specs.ReadBack.{ReadsBack, Spells, Keeps, Apart, Any, Starts, Closes, EndsItem, as_is}
+use Rattle.imap_grammar.specs.ReadBack.{ReadsBack, Spells, SpellsAndReadsBack, Apart, Any, BeginsWith, Closes, EndsItem, as_is}
 use Rattle.imap_grammar.specs.Spelling.{all_of, some_of}
 use Rattle.imap_grammar.proofs.Yields.{Yields, right_yields, named_yields}
 use Rattle.imap_grammar.proofs.Reading.{reads-gives, reads-opt, reads-after, reads-before, reads-seq, reads-follow, reads-test, reads-run1, after-on, first, apart-where, apart-alt, apart-gives, denials, denies-after, denies-behind, denies-tag, test-has, test-on, run1-has, tag-on, takes-absent, Begins, begun, ends_item-in, ◌⨾ʳ◌, ◌▹ʳ◌}
@@ -36,7 +36,7 @@ use Rattle.imap_body.specs.Attributes.{origin, section_of, section_contents, msg
 use Rattle.imap_body.specs.AttributeTexts.{canonical_origin, canonical_id, canonical_nid, canonical_attribute, canonical_attributes, spells_origin, spells_id, is_name, is_any_value, spells_attribute, spells_attributes}
 
 -- what ends an item ends a number
-ends_number : (t : Bytes) → EndsItem t → Starts not_digit t
+ends_number : (t : Bytes) → EndsItem t → BeginsWith not_digit t
 ends_number = ends_item-in not_digit refl refl refl
 
 -- ---- sections with their contents
@@ -347,59 +347,59 @@ attribute_list_spells = spells-nonempty_list_of attribute_spells
 
 -- ---- both laws
 
-pub keeps_body_section : Keeps msg_att_body_section lent_attribute canonical_attribute spells_attribute EndsItem
+pub keeps_body_section : SpellsAndReadsBack msg_att_body_section lent_attribute canonical_attribute spells_attribute EndsItem
 keeps_body_section = record { spelled = body_section_spells; back = reads_body_section }
 
-pub keeps_body_structure : Keeps msg_att_body_structure lent_attribute canonical_attribute spells_attribute EndsItem
+pub keeps_body_structure : SpellsAndReadsBack msg_att_body_structure lent_attribute canonical_attribute spells_attribute EndsItem
 keeps_body_structure = record { spelled = body_structure_spells; back = reads_body_structure }
 
-pub keeps_envelope : Keeps msg_att_envelope lent_attribute canonical_attribute spells_attribute EndsItem
+pub keeps_envelope : SpellsAndReadsBack msg_att_envelope lent_attribute canonical_attribute spells_attribute EndsItem
 keeps_envelope = record { spelled = msg_envelope_spells; back = reads_msg_envelope }
 
-pub keeps_internal_date : Keeps msg_att_internal_date lent_attribute canonical_attribute spells_attribute EndsItem
+pub keeps_internal_date : SpellsAndReadsBack msg_att_internal_date lent_attribute canonical_attribute spells_attribute EndsItem
 keeps_internal_date = record { spelled = internal_date_spells; back = reads_date }
 
-pub keeps_flags : Keeps msg_att_flags lent_attribute canonical_attribute spells_attribute EndsItem
+pub keeps_flags : SpellsAndReadsBack msg_att_flags lent_attribute canonical_attribute spells_attribute EndsItem
 keeps_flags = record { spelled = flags_spells; back = reads_flags }
 
-pub keeps_mod_seq : Keeps msg_att_mod_seq lent_attribute canonical_attribute spells_attribute EndsItem
+pub keeps_mod_seq : SpellsAndReadsBack msg_att_mod_seq lent_attribute canonical_attribute spells_attribute EndsItem
 keeps_mod_seq = record { spelled = mod_seq_spells; back = reads_mod_seq }
 
-pub keeps_rfc822 : Keeps msg_att_rfc822 lent_attribute canonical_attribute spells_attribute EndsItem
+pub keeps_rfc822 : SpellsAndReadsBack msg_att_rfc822 lent_attribute canonical_attribute spells_attribute EndsItem
 keeps_rfc822 = record { spelled = rfc822_spells; back = reads_rfc822 }
 
-pub keeps_rfc822_header : Keeps msg_att_rfc822_header lent_attribute canonical_attribute spells_attribute EndsItem
+pub keeps_rfc822_header : SpellsAndReadsBack msg_att_rfc822_header lent_attribute canonical_attribute spells_attribute EndsItem
 keeps_rfc822_header = record { spelled = header_spells; back = reads_header }
 
-pub keeps_rfc822_size : Keeps msg_att_rfc822_size lent_attribute canonical_attribute spells_attribute EndsItem
+pub keeps_rfc822_size : SpellsAndReadsBack msg_att_rfc822_size lent_attribute canonical_attribute spells_attribute EndsItem
 keeps_rfc822_size = record { spelled = rfc822_size_spells; back = reads_size }
 
-pub keeps_rfc822_text : Keeps msg_att_rfc822_text lent_attribute canonical_attribute spells_attribute EndsItem
+pub keeps_rfc822_text : SpellsAndReadsBack msg_att_rfc822_text lent_attribute canonical_attribute spells_attribute EndsItem
 keeps_rfc822_text = record { spelled = rfc822_text_spells; back = reads_text }
 
-pub keeps_uid : Keeps msg_att_uid lent_attribute canonical_attribute spells_attribute EndsItem
+pub keeps_uid : SpellsAndReadsBack msg_att_uid lent_attribute canonical_attribute spells_attribute EndsItem
 keeps_uid = record { spelled = uid_spells; back = reads_uid }
 
-pub keeps_gmail_labels : Keeps msg_att_gmail_labels lent_attribute canonical_attribute spells_attribute EndsItem
+pub keeps_gmail_labels : SpellsAndReadsBack msg_att_gmail_labels lent_attribute canonical_attribute spells_attribute EndsItem
 keeps_gmail_labels = record { spelled = labels_spell; back = reads_labels }
 
-pub keeps_gmail_msgid : Keeps msg_att_gmail_msgid lent_attribute canonical_attribute spells_attribute EndsItem
+pub keeps_gmail_msgid : SpellsAndReadsBack msg_att_gmail_msgid lent_attribute canonical_attribute spells_attribute EndsItem
 keeps_gmail_msgid = record { spelled = msgid_spell; back = reads_msgid }
 
-pub keeps_gmail_thrid : Keeps msg_att_gmail_thrid lent_attribute canonical_attribute spells_attribute EndsItem
+pub keeps_gmail_thrid : SpellsAndReadsBack msg_att_gmail_thrid lent_attribute canonical_attribute spells_attribute EndsItem
 keeps_gmail_thrid = record { spelled = thrid_spell; back = reads_thrid }
 
-pub keeps_email_id : Keeps msg_att_email_id lent_attribute canonical_attribute spells_attribute EndsItem
+pub keeps_email_id : SpellsAndReadsBack msg_att_email_id lent_attribute canonical_attribute spells_attribute EndsItem
 keeps_email_id = record { spelled = email_id_spells; back = reads_email_id }
 
-pub keeps_thread_id : Keeps msg_att_thread_id lent_attribute canonical_attribute spells_attribute EndsItem
+pub keeps_thread_id : SpellsAndReadsBack msg_att_thread_id lent_attribute canonical_attribute spells_attribute EndsItem
 keeps_thread_id = record { spelled = thread_id_spells; back = reads_thread_id }
 
-pub keeps_unknown : Keeps msg_att_unknown lent_attribute canonical_attribute spells_attribute EndsItem
+pub keeps_unknown : SpellsAndReadsBack msg_att_unknown lent_attribute canonical_attribute spells_attribute EndsItem
 keeps_unknown = record { spelled = unknown_spells; back = reads_unknown }
 
-pub keeps_attribute : Keeps attribute lent_attribute canonical_attribute spells_attribute EndsItem
+pub keeps_attribute : SpellsAndReadsBack attribute lent_attribute canonical_attribute spells_attribute EndsItem
 keeps_attribute = record { spelled = attribute_spells; back = reads_attribute }
 
-pub keeps_attribute_list : Keeps attribute_list (map lent_attribute) canonical_attributes spells_attributes Closes
+pub keeps_attribute_list : SpellsAndReadsBack attribute_list (map lent_attribute) canonical_attributes spells_attributes Closes
 keeps_attribute_list = record { spelled = attribute_list_spells; back = reads-follow reads_attribute_list (λ t g. tt) }

@@ -7,7 +7,7 @@ use Rattle.imap_grammar.specs.declared.at.span.Span.{Span}
 use Rattle.imap_grammar.specs.Positions.{named_in}
 use Rattle.imap_grammar.proofs.Agreement.{agrees, shrinks}
 use Rattle.imap_grammar.proofs.Sliced.{ended}
-use Rattle.imap_items.specs.Spanned.{text_in as span_in}
+use Rattle.imap_items.specs.Spanned.{decoded_in}
 use Rattle.imap_shapes.specs.declared.spans.SpannedText.TheVariants.{Part}
 use Rattle.imap_shapes.specs.Spans.{text_in}
 
@@ -20,6 +20,6 @@ placed r m k left p v same le e =
     let at = ended m (drop p m) left cut.0 p le refl cut.1 in
     rw same (at.0, rw at.1 here, at.2, omega arith)
 
-pub spans_said : (m : Bytes) (spans : List Span) → map (text_in (named_in m)) (map (λ s. Part s) spans) ≡ map (span_in m) spans
+pub spans_said : (m : Bytes) (spans : List Span) → map (text_in (named_in m)) (map (λ s. Part s) spans) ≡ map (decoded_in m) spans
 spans_said m [] = refl
-spans_said m (s ∷ spans) = ap (λ texts. span_in m s ∷ texts) (spans_said m spans)
+spans_said m (s ∷ spans) = ap (λ texts. decoded_in m s ∷ texts) (spans_said m spans)

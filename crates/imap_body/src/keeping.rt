@@ -41,13 +41,13 @@ pub(crate) trait KeepAttribute: Keep + Drop {
 
     /// The keeper of what stands from p on in its message. No memory.
     fn behind(&self, m: &[u8], p: usize) -> Self
-        requires inside { p ≤ length m.now }
+        requires start { p ≤ length m.now }
         requires serves { Self.serves self.now m.now }
         ensures { Self.serves result (drop p m.now) };
 
     /// What is kept of flags (RFC 3501, section 9: flag-list). It takes memory for the list.
     fn flags(&self, alloc: Global, m: &[u8], p: usize) -> Reached<Vec<Self::Text>>
-        requires inside { p ≤ length m.now }
+        requires start { p ≤ length m.now }
         requires serves { Self.serves self.now m.now }
         ensures steps { GivesAt (λ x. map (Self.text_said (named_in m.now)) x.items) m.now result (step flags.flag_list (drop p m.now)) }
         ensures ahead { Ahead m.now p result }
@@ -56,7 +56,7 @@ pub(crate) trait KeepAttribute: Keep + Drop {
     /// What is kept of Gmail's labels, after their word (Gmail's X-GM-EXT-1). It takes memory for the list, and, where
     /// values are kept, for texts that are not UTF-8.
     fn labels(&self, alloc: Global, m: &[u8], p: usize) -> Reached<Vec<Self::Text>>
-        requires inside { p ≤ length m.now }
+        requires start { p ≤ length m.now }
         requires serves { Self.serves self.now m.now }
         ensures steps { GivesAt (λ x. map (Self.text_said (named_in m.now)) x.items) m.now result (step gmail.gmail_label_list (drop p m.now)) }
         ensures ahead { Ahead m.now p result }
@@ -85,7 +85,7 @@ impl KeepAttribute for Positions {
     }
 
     fn flags(&self, alloc: Global, m: &[u8], p: usize) -> Reached<Vec<SpannedText>>
-        requires inside { p ≤ length m.now }
+        requires start { p ≤ length m.now }
         ensures steps { GivesAt (λ x. map (text_in (named_in m.now)) x.items) m.now result (step flags.flag_list (drop p m.now)) }
         ensures ahead { Ahead m.now p result }
         ensures rests { RestsOn (λ n x. map (text_in n) x.items) result }
@@ -95,7 +95,7 @@ impl KeepAttribute for Positions {
     }
 
     fn labels(&self, alloc: Global, m: &[u8], p: usize) -> Reached<Vec<SpannedText>>
-        requires inside { p ≤ length m.now }
+        requires start { p ≤ length m.now }
         ensures steps { GivesAt (λ x. map (text_in (named_in m.now)) x.items) m.now result (step gmail.gmail_label_list (drop p m.now)) }
         ensures ahead { Ahead m.now p result }
         ensures rests { RestsOn (λ n x. map (text_in n) x.items) result }
@@ -135,7 +135,7 @@ impl<'a> KeepAttribute for Named<'a> {
     }
 
     fn flags(&self, alloc: Global, m: &[u8], p: usize) -> Reached<Vec<CowStr<'a>>>
-        requires inside { p ≤ length m.now }
+        requires start { p ≤ length m.now }
         requires serves { self.now.m.now ≡ m.now }
         ensures steps { GivesAt (λ x. map text_of x.items) m.now result (step flags.flag_list (drop p m.now)) }
         ensures ahead { Ahead m.now p result }
@@ -147,7 +147,7 @@ impl<'a> KeepAttribute for Named<'a> {
     }
 
     fn labels(&self, alloc: Global, m: &[u8], p: usize) -> Reached<Vec<CowStr<'a>>>
-        requires inside { p ≤ length m.now }
+        requires start { p ≤ length m.now }
         requires serves { self.now.m.now ≡ m.now }
         ensures steps { GivesAt (λ x. map text_of x.items) m.now result (step gmail.gmail_label_list (drop p m.now)) }
         ensures ahead { Ahead m.now p result }
@@ -191,7 +191,7 @@ fn spaced_attribute<K: KeepAttribute>(
     m: &[u8],
     p: usize,
 ) -> Reached<SpannedAttribute<K::Text, K::Bytes>>
-    requires inside { p ≤ length m.now }
+    requires start { p ≤ length m.now }
     requires serves { K.serves keep.now m.now }
     ensures steps { GivesAt (λ x. attribute_said K.text_said K.bytes_said m.now x) m.now result (step (sp ▹ rules.attribute) (drop p m.now)) }
     ensures ahead { Ahead m.now p result }
@@ -207,7 +207,7 @@ fn some_attributes<K: KeepAttribute>(
     m: &[u8],
     p: usize,
 ) -> Reached<Vec<K::Attribute>>
-    requires inside { p ≤ length m.now }
+    requires start { p ≤ length m.now }
     requires serves { K.serves keep.now m.now }
     ensures kept { KeepsAt K.text_said K.bytes_said (K.keeps keep.now) m.now p result (step (list1 sp rules.attribute) (drop p m.now)) }
     ensures ahead { Ahead m.now p result }
@@ -234,7 +234,7 @@ pub(crate) fn kept_list<K: KeepAttribute>(
     m: &[u8],
     p: usize,
 ) -> Reached<Vec<K::Attribute>>
-    requires inside { p ≤ length m.now }
+    requires start { p ≤ length m.now }
     requires serves { K.serves keep.now m.now }
     ensures kept { KeepsAt K.text_said K.bytes_said (K.keeps keep.now) m.now (p + 1) result (step rules.attribute_list (drop p m.now)) }
     ensures ahead { Ahead m.now p result }

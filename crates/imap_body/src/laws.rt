@@ -19,7 +19,7 @@ ghost use Rattle.imap_structure.specs.Extensions as extensions;
 ghost use Rattle.imap_structure.specs.Bodies as bodies;
 ghost use Rattle.std.specs.Option.{option_map};
 ghost use Rattle.std.specs.Prelude.{ℕ, map};
-ghost use Rattle.imap_grammar.specs.ReadBack.{Keeps, Closes, EndsItem, as_is};
+ghost use Rattle.imap_grammar.specs.ReadBack.{SpellsAndReadsBack, Closes, EndsItem, as_is};
 ghost use Rattle.imap_shapes.specs.Lent.{lent_address, lent_addresses, lent_envelope, lent_params, lent_encoding, lent_fields, lent_disposition, lent_languages, lent_extension, lent_ext_1part, lent_ext_mpart, lent_type, lent_common, lent_single, lent_body};
 ghost use Rattle.imap_sections.specs.SectionTexts.{canonical_text, canonical_part, canonical_path, canonical_section, spells_message_text, spells_text, spells_part, spells_path, spells_section};
 ghost use Rattle.imap_body.specs.AttributeValues.{attribute_seen, attribute_value, lent_attribute};
@@ -97,44 +97,44 @@ pub fn stable()
 /// or CR, and after an attribute also with a space. Excepted is a text too long to be written as a literal.
 #[tactic(auto, using(imap_sections::proofs::SectionTexts::keeps_section_msgtext, imap_sections::proofs::SectionTexts::keeps_section_text, imap_sections::proofs::SectionTexts::keeps_section_part, imap_sections::proofs::SectionTexts::keeps_section_spec, imap_sections::proofs::SectionTexts::keeps_section, imap_envelopes::proofs::EnvelopeTexts::keeps_address, imap_envelopes::proofs::EnvelopeTexts::keeps_addresses, imap_envelopes::proofs::EnvelopeTexts::keeps_envelope, imap_structure::proofs::FieldTexts::keeps_params, imap_structure::proofs::FieldTexts::keeps_encoding, imap_structure::proofs::FieldTexts::keeps_fields, imap_structure::proofs::ExtensionTexts::keeps_disposition, imap_structure::proofs::ExtensionTexts::keeps_language, imap_structure::proofs::ExtensionTexts::keeps_body_extension, imap_structure::proofs::ExtensionTexts::keeps_ext_1part, imap_structure::proofs::ExtensionTexts::keeps_ext_mpart, imap_structure::proofs::BodyTexts::keeps_body_structure, crate::proofs::AttributeTexts::keeps_body_section, crate::proofs::AttributeTexts::keeps_body_structure, crate::proofs::AttributeTexts::keeps_envelope, crate::proofs::AttributeTexts::keeps_internal_date, crate::proofs::AttributeTexts::keeps_flags, crate::proofs::AttributeTexts::keeps_mod_seq, crate::proofs::AttributeTexts::keeps_rfc822, crate::proofs::AttributeTexts::keeps_rfc822_header, crate::proofs::AttributeTexts::keeps_rfc822_size, crate::proofs::AttributeTexts::keeps_rfc822_text, crate::proofs::AttributeTexts::keeps_uid, crate::proofs::AttributeTexts::keeps_gmail_labels, crate::proofs::AttributeTexts::keeps_gmail_msgid, crate::proofs::AttributeTexts::keeps_gmail_thrid, crate::proofs::AttributeTexts::keeps_email_id, crate::proofs::AttributeTexts::keeps_thread_id, crate::proofs::AttributeTexts::keeps_unknown, crate::proofs::AttributeTexts::keeps_attribute, crate::proofs::AttributeTexts::keeps_attribute_list))]
 pub fn read_back()
-    ensures section_msgtext { Keeps sections.section_msgtext as_is canonical_text spells_message_text Closes }
-    ensures section_text { Keeps sections.section_text as_is canonical_text spells_text Closes }
-    ensures section_part { Keeps sections.section_part as_is canonical_part spells_part Closes }
-    ensures section_spec { Keeps sections.section_spec as_is canonical_path spells_path Closes }
-    ensures section { Keeps sections.section as_is canonical_section spells_section Closes }
-    ensures address { Keeps envelopes.address lent_address canonical_address spells_address Closes }
-    ensures addresses { Keeps envelopes.addresses lent_addresses canonical_addresses spells_addresses Closes }
-    ensures envelope { Keeps envelopes.envelope lent_envelope canonical_envelope spells_envelope Closes }
-    ensures body_fld_param { Keeps fields.body_fld_param lent_params canonical_params spells_params Closes }
-    ensures body_fld_enc { Keeps fields.body_fld_enc lent_encoding canonical_encoding spells_encoding Closes }
-    ensures body_fields { Keeps fields.body_fields lent_fields canonical_fields spells_fields Closes }
-    ensures body_fld_dsp { Keeps extensions.body_fld_dsp (option_map lent_disposition) canonical_disposition spells_disposition Closes }
-    ensures body_fld_lang { Keeps extensions.body_fld_lang lent_languages canonical_languages spells_languages Closes }
-    ensures extension { (level : ℕ) → Keeps (extensions.extension level) lent_extension canonical_extension spells_extension Closes }
-    ensures body_extension { Keeps extensions.body_extension lent_extension canonical_extension spells_extension Closes }
-    ensures body_ext_1part { Keeps extensions.body_ext_1part lent_ext_1part canonical_ext_1part spells_ext_1part Closes }
-    ensures body_ext_mpart { Keeps extensions.body_ext_mpart lent_ext_mpart canonical_ext_mpart spells_ext_mpart Closes }
-    ensures body { (level : ℕ) → Keeps (bodies.body level) lent_body canonical_body spells_body Closes }
-    ensures body_structure { Keeps bodies.body_structure lent_body canonical_body spells_body Closes }
-    ensures msg_att_body_section { Keeps attributes.msg_att_body_section lent_attribute canonical_attribute spells_attribute EndsItem }
-    ensures msg_att_body_structure { Keeps attributes.msg_att_body_structure lent_attribute canonical_attribute spells_attribute EndsItem }
-    ensures msg_att_envelope { Keeps attributes.msg_att_envelope lent_attribute canonical_attribute spells_attribute EndsItem }
-    ensures msg_att_internal_date { Keeps attributes.msg_att_internal_date lent_attribute canonical_attribute spells_attribute EndsItem }
-    ensures msg_att_flags { Keeps attributes.msg_att_flags lent_attribute canonical_attribute spells_attribute EndsItem }
-    ensures msg_att_mod_seq { Keeps attributes.msg_att_mod_seq lent_attribute canonical_attribute spells_attribute EndsItem }
-    ensures msg_att_rfc822 { Keeps attributes.msg_att_rfc822 lent_attribute canonical_attribute spells_attribute EndsItem }
-    ensures msg_att_rfc822_header { Keeps attributes.msg_att_rfc822_header lent_attribute canonical_attribute spells_attribute EndsItem }
-    ensures msg_att_rfc822_size { Keeps attributes.msg_att_rfc822_size lent_attribute canonical_attribute spells_attribute EndsItem }
-    ensures msg_att_rfc822_text { Keeps attributes.msg_att_rfc822_text lent_attribute canonical_attribute spells_attribute EndsItem }
-    ensures msg_att_uid { Keeps attributes.msg_att_uid lent_attribute canonical_attribute spells_attribute EndsItem }
-    ensures msg_att_gmail_labels { Keeps attributes.msg_att_gmail_labels lent_attribute canonical_attribute spells_attribute EndsItem }
-    ensures msg_att_gmail_msgid { Keeps attributes.msg_att_gmail_msgid lent_attribute canonical_attribute spells_attribute EndsItem }
-    ensures msg_att_gmail_thrid { Keeps attributes.msg_att_gmail_thrid lent_attribute canonical_attribute spells_attribute EndsItem }
-    ensures msg_att_email_id { Keeps attributes.msg_att_email_id lent_attribute canonical_attribute spells_attribute EndsItem }
-    ensures msg_att_thread_id { Keeps attributes.msg_att_thread_id lent_attribute canonical_attribute spells_attribute EndsItem }
-    ensures msg_att_unknown { Keeps attributes.msg_att_unknown lent_attribute canonical_attribute spells_attribute EndsItem }
-    ensures attribute { Keeps attributes.attribute lent_attribute canonical_attribute spells_attribute EndsItem }
-    ensures attribute_list { Keeps attributes.attribute_list (map lent_attribute) canonical_attributes spells_attributes Closes }
+    ensures section_msgtext { SpellsAndReadsBack sections.section_msgtext as_is canonical_text spells_message_text Closes }
+    ensures section_text { SpellsAndReadsBack sections.section_text as_is canonical_text spells_text Closes }
+    ensures section_part { SpellsAndReadsBack sections.section_part as_is canonical_part spells_part Closes }
+    ensures section_spec { SpellsAndReadsBack sections.section_spec as_is canonical_path spells_path Closes }
+    ensures section { SpellsAndReadsBack sections.section as_is canonical_section spells_section Closes }
+    ensures address { SpellsAndReadsBack envelopes.address lent_address canonical_address spells_address Closes }
+    ensures addresses { SpellsAndReadsBack envelopes.addresses lent_addresses canonical_addresses spells_addresses Closes }
+    ensures envelope { SpellsAndReadsBack envelopes.envelope lent_envelope canonical_envelope spells_envelope Closes }
+    ensures body_fld_param { SpellsAndReadsBack fields.body_fld_param lent_params canonical_params spells_params Closes }
+    ensures body_fld_enc { SpellsAndReadsBack fields.body_fld_enc lent_encoding canonical_encoding spells_encoding Closes }
+    ensures body_fields { SpellsAndReadsBack fields.body_fields lent_fields canonical_fields spells_fields Closes }
+    ensures body_fld_dsp { SpellsAndReadsBack extensions.body_fld_dsp (option_map lent_disposition) canonical_disposition spells_disposition Closes }
+    ensures body_fld_lang { SpellsAndReadsBack extensions.body_fld_lang lent_languages canonical_languages spells_languages Closes }
+    ensures extension { (level : ℕ) → SpellsAndReadsBack (extensions.extension level) lent_extension canonical_extension spells_extension Closes }
+    ensures body_extension { SpellsAndReadsBack extensions.body_extension lent_extension canonical_extension spells_extension Closes }
+    ensures body_ext_1part { SpellsAndReadsBack extensions.body_ext_1part lent_ext_1part canonical_ext_1part spells_ext_1part Closes }
+    ensures body_ext_mpart { SpellsAndReadsBack extensions.body_ext_mpart lent_ext_mpart canonical_ext_mpart spells_ext_mpart Closes }
+    ensures body { (level : ℕ) → SpellsAndReadsBack (bodies.body level) lent_body canonical_body spells_body Closes }
+    ensures body_structure { SpellsAndReadsBack bodies.body_structure lent_body canonical_body spells_body Closes }
+    ensures msg_att_body_section { SpellsAndReadsBack attributes.msg_att_body_section lent_attribute canonical_attribute spells_attribute EndsItem }
+    ensures msg_att_body_structure { SpellsAndReadsBack attributes.msg_att_body_structure lent_attribute canonical_attribute spells_attribute EndsItem }
+    ensures msg_att_envelope { SpellsAndReadsBack attributes.msg_att_envelope lent_attribute canonical_attribute spells_attribute EndsItem }
+    ensures msg_att_internal_date { SpellsAndReadsBack attributes.msg_att_internal_date lent_attribute canonical_attribute spells_attribute EndsItem }
+    ensures msg_att_flags { SpellsAndReadsBack attributes.msg_att_flags lent_attribute canonical_attribute spells_attribute EndsItem }
+    ensures msg_att_mod_seq { SpellsAndReadsBack attributes.msg_att_mod_seq lent_attribute canonical_attribute spells_attribute EndsItem }
+    ensures msg_att_rfc822 { SpellsAndReadsBack attributes.msg_att_rfc822 lent_attribute canonical_attribute spells_attribute EndsItem }
+    ensures msg_att_rfc822_header { SpellsAndReadsBack attributes.msg_att_rfc822_header lent_attribute canonical_attribute spells_attribute EndsItem }
+    ensures msg_att_rfc822_size { SpellsAndReadsBack attributes.msg_att_rfc822_size lent_attribute canonical_attribute spells_attribute EndsItem }
+    ensures msg_att_rfc822_text { SpellsAndReadsBack attributes.msg_att_rfc822_text lent_attribute canonical_attribute spells_attribute EndsItem }
+    ensures msg_att_uid { SpellsAndReadsBack attributes.msg_att_uid lent_attribute canonical_attribute spells_attribute EndsItem }
+    ensures msg_att_gmail_labels { SpellsAndReadsBack attributes.msg_att_gmail_labels lent_attribute canonical_attribute spells_attribute EndsItem }
+    ensures msg_att_gmail_msgid { SpellsAndReadsBack attributes.msg_att_gmail_msgid lent_attribute canonical_attribute spells_attribute EndsItem }
+    ensures msg_att_gmail_thrid { SpellsAndReadsBack attributes.msg_att_gmail_thrid lent_attribute canonical_attribute spells_attribute EndsItem }
+    ensures msg_att_email_id { SpellsAndReadsBack attributes.msg_att_email_id lent_attribute canonical_attribute spells_attribute EndsItem }
+    ensures msg_att_thread_id { SpellsAndReadsBack attributes.msg_att_thread_id lent_attribute canonical_attribute spells_attribute EndsItem }
+    ensures msg_att_unknown { SpellsAndReadsBack attributes.msg_att_unknown lent_attribute canonical_attribute spells_attribute EndsItem }
+    ensures attribute { SpellsAndReadsBack attributes.attribute lent_attribute canonical_attribute spells_attribute EndsItem }
+    ensures attribute_list { SpellsAndReadsBack attributes.attribute_list (map lent_attribute) canonical_attributes spells_attributes Closes }
 {}
 
 // Where `==` tells texts and bodies by what f, g and h say of them, it tells attributes of these so too.

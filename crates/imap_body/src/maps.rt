@@ -156,7 +156,7 @@ fn push_body<S: Drop, B: Drop, Y, E: BodyChange<Y>>(
 }
 
 // Puts an attribute that is a body structure, out of its box and as it is, after the others. Inlined, it copies the body
-// once instead of twice.
+// once less.
 #[inline(always)]
 fn push_structure<S: Drop, B: Drop, Y: Drop>(
     body: Box<Y>,

@@ -105,7 +105,7 @@ pub(crate) fn spanned_attribute<K: KeepAttribute>(
     m: &[u8],
     p: usize,
 ) -> Reached<SpannedAttribute<K::Text, K::Bytes>>
-    requires inside { p ≤ length m.now }
+    requires start { p ≤ length m.now }
     requires serves { K.serves keep.now m.now }
     ensures steps { GivesAt (λ x. attribute_said K.text_said K.bytes_said m.now x) m.now result (step rules.attribute (drop p m.now)) }
     ensures ahead { Ahead m.now p result }

@@ -12,7 +12,7 @@ use Rattle.imap_grammar.specs.Ranges.{Range}
 use Rattle.imap_grammar.specs.Classes.{is_digit, is_blank}
 use Rattle.imap_grammar.specs.Tags.{same_letter, word, sp, blanks1}
 use Rattle.imap_grammar.specs.Pieces.{Pieces, written, words, space, number_text, range_text, ranges_text, each, ◌then◌}
-use Rattle.imap_grammar.specs.ReadBack.{ReadsBack, Apart, Takes, Starts, Closes, as_is}
+use Rattle.imap_grammar.specs.ReadBack.{ReadsBack, Apart, Takes, BeginsWith, Closes, as_is}
 use Rattle.imap_grammar.proofs.Yields.{Yields, either_yields, given_yields}
 use Rattle.imap_grammar.proofs.Reading.{test-has, reads-gives, reads-same, reads-before, reads-many, reads-after_where, reads-as, first_yields, denies-gives, denies-test, denies-run1, denies-tag, denies-after, closes-in, ◌▹ʳ◌}
 use Rattle.imap_grammar.proofs.ReadingWords.{first-apart}
@@ -25,15 +25,15 @@ use Rattle.std.proofs.lemmas.Bool.{ltb-true}
 
 -- ---- what a number begins with
 
-pub number_starts : (p : ℕ → Bool) → ((b : ℕ) → is_digit b ≡ true → p b ≡ true) → (n : ℕ) → n < 2 ^ 64 → (q : Pieces) (t : Bytes) → Starts p (written (number_text n then q) ++ t)
+pub number_starts : (p : ℕ → Bool) → ((b : ℕ) → is_digit b ≡ true → p b ≡ true) → (n : ℕ) → n < 2 ^ 64 → (q : Pieces) (t : Bytes) → BeginsWith p (written (number_text n then q) ++ t)
 number_starts p h n small q t =
     let one = number_first n small in
-    subst (λ ds. Starts p ((ds ++ written q) ++ t)) (sym one.2) (h one.0 one.3)
+    subst (λ ds. BeginsWith p ((ds ++ written q) ++ t)) (sym one.2) (h one.0 one.3)
 
 pub digit_no_blank : (b : ℕ) → is_digit b ≡ true → outside is_blank b ≡ true
 digit_no_blank b h = grind (arith, nat_tests)
 
-pub number_no_blank : (n : ℕ) → n < 2 ^ 64 → (q : Pieces) (t : Bytes) → Starts (outside is_blank) (written (number_text n then q) ++ t)
+pub number_no_blank : (n : ℕ) → n < 2 ^ 64 → (q : Pieces) (t : Bytes) → BeginsWith (outside is_blank) (written (number_text n then q) ++ t)
 number_no_blank = number_starts (outside is_blank) digit_no_blank
 
 pub numbers_yield : Yields (λ n. n < 2 ^ 64) number
@@ -47,19 +47,19 @@ numbers_64_yield = record { each = λ m n rest y. ltb-true n (2 ^ 64) (test-has 
 pub word_no_number : (x : ℕ) (k : Bytes) → (not_digit (to_ascii_lowercase x) && not_digit (to_ascii_uppercase (to_ascii_lowercase x))) ≡ true → (b : ℕ) (t : Bytes) → is_digit b ≡ true → differs same_letter (x ∷ k) (b ∷ t) ≡ true
 word_no_number x k h b t d = first-apart not_digit x k b t h (ap not d)
 
-pub denies-number : (m : Bytes) → Starts not_digit m → Denies (meaning number) m
+pub denies-number : (m : Bytes) → BeginsWith not_digit m → Denies (meaning number) m
 unfolding number digits
 denies-number m s = denies-test _ _ _ (denies-gives _ _ _ (denies-run1 _ _ s))
 
 -- a word that begins with no digit, on what does
-pub denies-word_at_digit : (x : ℕ) (k : Bytes) → (not_digit (to_ascii_lowercase x) && not_digit (to_ascii_uppercase (to_ascii_lowercase x))) ≡ true → (m : Bytes) → Starts is_digit m → Denies (meaning (tag_by same_letter (x ∷ k))) m
+pub denies-word_at_digit : (x : ℕ) (k : Bytes) → (not_digit (to_ascii_lowercase x) && not_digit (to_ascii_uppercase (to_ascii_lowercase x))) ≡ true → (m : Bytes) → BeginsWith is_digit m → Denies (meaning (tag_by same_letter (x ∷ k))) m
 denies-word_at_digit x k h [] g = absurd (false≢true g)
 denies-word_at_digit x k h (b ∷ m) g = denies-tag _ _ _ (word_no_number x k h b m g)
 
 -- ---- a number and a word
 
 module _ {V : Type 0} {c : V → Pieces} {F : Bytes → Type 0} where
-  pub reads-counted : {l : V → V} (f : ℕ → V) (k text : String) → Takes (word k) (words text) F → ((n : ℕ) → c (f n) ≡ (number_text n then words text)) → ((t : Bytes) → Starts not_digit (written (words text) ++ t))
+  pub reads-counted : {l : V → V} (f : ℕ → V) (k text : String) → Takes (word k) (words text) F → ((n : ℕ) → c (f n) ≡ (number_text n then words text)) → ((t : Bytes) → BeginsWith not_digit (written (words text) ++ t))
       → ((n : ℕ) → f n ≡ l (f n)) → ReadsBack (gives f (number ◃ word k)) l c F
   reads-counted f k text takes same starts_ kept = reads-gives f (reads-same (reads-before reads-number takes (λ t g. starts_ t)) (λ n. sym (same n))) kept
 
@@ -78,7 +78,7 @@ module _ {V : Type 0} {c : V → Pieces} {F : Bytes → Type 0} where
 
   -- the same number before another word
   pub counted_other : (e f : ℕ → V) (j k text : String) → ((n : ℕ) → c (f n) ≡ (number_text n then words text)) → ((t : Bytes) → differs same_letter (codes j) (written (words text) ++ t) ≡ true)
-      → ((t : Bytes) → Starts not_digit (written (words text) ++ t)) → Apart (gives e (number ◃ word j)) (gives f (number ◃ word k)) c F
+      → ((t : Bytes) → BeginsWith not_digit (written (words text) ++ t)) → Apart (gives e (number ◃ word j)) (gives f (number ◃ word k)) c F
   unfolding meaning number
   counted_other e f j k text same other ends = record {
     denied = λ m v rest d y fits t g.
@@ -110,7 +110,7 @@ closes_blanks t g = denies-run1 is_blank t (closes-in (outside is_blank) refl re
 -- ---- a set begins with a digit
 
 abbrev pub StartsWithDigit : List Range → Type 0
-StartsWithDigit rs = (t : Bytes) → Starts is_digit (written (ranges_text rs) ++ t)
+StartsWithDigit rs = (t : Bytes) → BeginsWith is_digit (written (ranges_text rs) ++ t)
 
 items_yield : Yields (λ r. r.start < 2 ^ 64) sequence_item
 unfolding sequence_item

@@ -1,33 +1,29 @@
--- Sets of numbers, and the text of a line, read back.
+-- Sets of numbers, and atoms, read back.
 use Rattle.std.proofs.Common.{◌≡◌, ℕ, ◌<◌, ◌^◌, ◌==◌, ◌||◌, Bool, true, false, not, [], ◌∷◌, ◌++◌, decimal, sym, ◌∙◌, ap, subst, refl, append_assoc, arith}
 use Rattle.std.proofs.lemmas.Bool.{false≢true, or_left, ltb-true}
-use Rattle.std.specs.List.{list_all}
-use Rattle.std.specs.Str.Lossy.{utf8_lossy}
 use Rattle.imap_grammar.specs.Meaning.{Denies, outside}
 use Rattle.imap_grammar.specs.Rule.{gives, meaning}
-use Rattle.imap_grammar.specs.Text.{Bytes, Text, lent_text}
-use Rattle.imap_grammar.specs.Classes.{is_digit, is_text_char, is_atom_char}
+use Rattle.imap_grammar.specs.Text.{Bytes}
+use Rattle.imap_grammar.specs.Classes.{is_digit, is_atom_char}
 use Rattle.imap_grammar.specs.Ranges.{Range, fresh}
 use Rattle.imap_grammar.specs.Tags.{tag}
-use Rattle.imap_grammar.specs.Pieces.{written, raw, plain, range_text, ranges_text}
-use Rattle.imap_grammar.specs.ReadBack.{ReadsBack, Starts, as_is}
+use Rattle.imap_grammar.specs.Pieces.{written, raw, range_text, ranges_text}
+use Rattle.imap_grammar.specs.ReadBack.{ReadsBack, BeginsWith, as_is}
 use Rattle.imap_grammar.proofs.Reading.{raw_on, test-has, reads-as, reads-test, reads-run1, reads-list1, reads-instead, denies-tag, starts}
 use Rattle.imap_grammar.proofs.ReadingLists.{takes-text}
 use Rattle.imap_bytes.specs.Numbers.{number}
 use Rattle.imap_bytes.specs.Strings.{atom}
 use Rattle.std.specs.Str.{is_utf8}
 use Rattle.std.proofs.lemmas.List.{map-id}
-use Rattle.imap_bytes.specs.Texts.{text}
 use Rattle.imap_bytes.specs.Sets.{sequence_range, single, sequence_item, sequence_set}
-use Rattle.imap_bytes.proofs.ReadingTexts.{not_digit, number_on, decoded_twice}
-use Rattle.imap_bytes.proofs.LossyTwice.{all-lossy}
+use Rattle.imap_bytes.proofs.ReadingTexts.{not_digit, number_on}
 
 pub number_bound : (m : Bytes) (n : ℕ) (rest : Bytes) → (meaning number).yields m n rest → n < 2 ^ 32
 unfolding number
 number_bound m n rest y = ltb-true n (2 ^ 32) (test-has _ _ m n rest y).1
 
 -- a range, from its numbers
-pub range_on : (a b : ℕ) → a < 2 ^ 32 → b < 2 ^ 32 → (t : Bytes) → Starts not_digit t → (meaning sequence_range).yields (written (range_text (fresh a b)) ++ t) (fresh a b) t
+pub range_on : (a b : ℕ) → a < 2 ^ 32 → b < 2 ^ 32 → (t : Bytes) → BeginsWith not_digit t → (meaning sequence_range).yields (written (range_text (fresh a b)) ++ t) (fresh a b) t
 unfolding meaning number sequence_range
 range_on a b short short' t g =
     let front : written (range_text (fresh a b)) ++ t ≡ decimal a ++ (58 ∷ (decimal b ++ t)) = append_assoc (decimal a) (58 ∷ (decimal b ++ [])) t ∙ ap (λ l. decimal a ++ (58 ∷ l)) (raw_on (decimal b) t) in (
@@ -49,7 +45,7 @@ range_bounds m r rest y =
     let last = number_bound ends.2.1.0 y.0.1 rest (subst (λ n. (meaning number).yields ends.2.1.0 n rest) ends.2.2 ends.2.1.2) in
     subst (λ w. (w ≡ fresh w.start w.end) × (w.start < 2 ^ 32) × (w.end < 2 ^ 32)) y.2 (refl, first, last)
 
-pub reads-sequence_range : ReadsBack sequence_range as_is range_text (Starts not_digit)
+pub reads-sequence_range : ReadsBack sequence_range as_is range_text (BeginsWith not_digit)
 reads-sequence_range = record {
   again = λ m v rest y f t g.
       let (is, short, short') = range_bounds m v rest y in
@@ -57,7 +53,7 @@ reads-sequence_range = record {
 }
 
 -- a number alone is written as a range
-pub reads-sequence_item : ReadsBack sequence_item as_is range_text (Starts not_digit)
+pub reads-sequence_item : ReadsBack sequence_item as_is range_text (BeginsWith not_digit)
 unfolding meaning sequence_item
 reads-sequence_item = reads-instead (gives single number) reads-sequence_range
     (λ m v rest y f t g. let n = number_bound m y.0 rest y.1 in subst (λ w. (meaning sequence_range).yields (written (range_text w) ++ t) w t) y.2 (range_on y.0 y.0 n n t g))
@@ -73,34 +69,26 @@ pub neither : (a b : Bool) → not (a || b) ≡ true → (not a ≡ true) × (no
 neither true b h = absurd (false≢true h)
 neither false b h = (refl, h)
 
-pub range_digits : (t : Bytes) → Starts (outside in_range) t → Starts not_digit t
+pub range_digits : (t : Bytes) → BeginsWith (outside in_range) t → BeginsWith not_digit t
 range_digits = starts (outside in_range) not_digit (λ b h. (neither (is_digit b) (58 == b) h).0)
 
-pub range_colon : (t : Bytes) → Starts (outside in_range) t → Denies (meaning (tag ":")) t
+pub range_colon : (t : Bytes) → BeginsWith (outside in_range) t → Denies (meaning (tag ":")) t
 range_colon [] g = absurd (false≢true g)
 range_colon (b ∷ t) g = denies-tag _ _ _ (or_left (not (58 == b)) _ (neither (is_digit b) (58 == b) g).1)
 
-pub set_range : (t : Bytes) → Starts (outside in_set) t → Starts (outside in_range) t
+pub set_range : (t : Bytes) → BeginsWith (outside in_set) t → BeginsWith (outside in_range) t
 set_range = starts (outside in_set) (outside in_range) (λ b h. (neither (in_range b) (44 == b) h).0)
 
-pub set_comma : (t : Bytes) → Starts (outside in_set) t → Denies (meaning (tag ",")) t
+pub set_comma : (t : Bytes) → BeginsWith (outside in_set) t → Denies (meaning (tag ",")) t
 set_comma [] g = absurd (false≢true g)
 set_comma (b ∷ t) g = denies-tag _ _ _ (or_left (not (44 == b)) _ (neither (in_range b) (44 == b) g).1)
 
-pub reads-sequence_set : ReadsBack sequence_set as_is ranges_text (Starts (outside in_set))
+pub reads-sequence_set : ReadsBack sequence_set as_is ranges_text (BeginsWith (outside in_set))
 unfolding sequence_set
 reads-sequence_set = reads-as (reads-list1 (takes-text ",") reads-sequence_item (λ y t. tt) (λ t. refl) (λ t g. range_digits t (set_range t g)) set_comma) map-id
 
--- ---- atoms, and the text of a line
+-- ---- atoms
 
-pub reads-atom : ReadsBack atom as_is raw (Starts (outside is_atom_char))
+pub reads-atom : ReadsBack atom as_is raw (BeginsWith (outside is_atom_char))
 unfolding atom
 reads-atom = reads-test is_utf8 (reads-run1 is_atom_char) (λ v e. e)
-
-pub reads-text : ReadsBack text lent_text plain (Starts (outside is_text_char))
-unfolding meaning text
-reads-text = record {
-  again = λ m v rest y f t g.
-      let same : utf8_lossy y.0 ≡ v.bytes = ap (λ (x : Text). x.bytes) y.2 in
-      (v.bytes, (raw_on v.bytes t, subst (λ l. list_all is_text_char l ≡ true) same (all-lossy is_text_char y.0 refl y.1.1), g), decoded_twice y.0 v y.2);
-}

@@ -14,7 +14,7 @@ use Rattle.imap_grammar.specs.Text.{Bytes, Text, decoded, as_text, lent_text}
 use Rattle.imap_grammar.specs.Classes.{is_digit}
 use Rattle.imap_grammar.specs.Tags.{same_letter}
 use Rattle.imap_grammar.specs.Pieces.{Pieces, written, words, lit, literal_of, number_text, nstring_text, literal_text, ntext}
-use Rattle.imap_grammar.specs.ReadBack.{ReadsBack, Any, Starts, as_is}
+use Rattle.imap_grammar.specs.ReadBack.{ReadsBack, Any, BeginsWith, as_is}
 use Rattle.imap_grammar.proofs.Yields.{Yields, made_yields}
 use Rattle.imap_grammar.proofs.Reading.{raw_on, test-has, test-on, denies-after, denies-tag, takes-tag, reads-gives, reads-alt, reads-names, apart-gives}
 use Rattle.imap_bytes.specs.Numbers.{digits, number_below, number, number_64}
@@ -34,7 +34,7 @@ all_digits (d ∷ ds) h = and_from _ _ (digit d h.0) (all_digits ds h.1)
 abbrev pub not_digit : ℕ → Bool
 not_digit b = outside is_digit b
 
-pub number_on : (bound n : ℕ) → bound ≤ 2 ^ 64 → n < bound → (t : Bytes) → Starts not_digit t → (meaning (number_below bound)).yields (decimal n ++ t) n t
+pub number_on : (bound n : ℕ) → bound ≤ 2 ^ 64 → n < bound → (t : Bytes) → BeginsWith not_digit t → (meaning (number_below bound)).yields (decimal n ++ t) n t
 unfolding meaning digits
 number_on bound n fits below t end = test-on (λ n. nat_lt n bound) spelled_number _ n t (digits_on (decimal_is_IsNumeral n (omega arith))) (lt-ltb n bound below)
   where
@@ -44,17 +44,17 @@ number_on bound n fits below t end = test-on (λ n. nat_lt n bound) spelled_numb
     digits_on : IsNumeral 10 (decimal n) × (digits_value 10 (decimal n) ≡ n) → (meaning spelled_number).yields (decimal n ++ t) n t
     digits_on numeral = (decimal n, ((refl, all_digits (decimal n) numeral.0.1, end), numeral.0.0), numeral.1)
 
-pub reads-number_below : (bound : ℕ) → bound ≤ 2 ^ 64 → ReadsBack (number_below bound) as_is number_text (Starts not_digit)
+pub reads-number_below : (bound : ℕ) → bound ≤ 2 ^ 64 → ReadsBack (number_below bound) as_is number_text (BeginsWith not_digit)
 reads-number_below bound fits = record {
   again = λ m v rest y f t g.
       subst (λ l. (meaning (number_below bound)).yields l v t) (sym (raw_on (decimal v) t)) (number_on bound v fits (ltb-true v bound (test-has _ _ m v rest y).1) t g);
 }
 
-pub reads-number : ReadsBack number as_is number_text (Starts not_digit)
+pub reads-number : ReadsBack number as_is number_text (BeginsWith not_digit)
 unfolding number
 reads-number = reads-number_below (2 ^ 32) (omega arith)
 
-pub reads-number_64 : ReadsBack number_64 as_is number_text (Starts not_digit)
+pub reads-number_64 : ReadsBack number_64 as_is number_text (BeginsWith not_digit)
 unfolding number_64
 reads-number_64 = reads-number_below (2 ^ 64) (omega arith)
 
@@ -87,9 +87,6 @@ literal_on b t short =
       ),
       refl,
     )
-
-pub reads-literal : ReadsBack literal as_is lit Any
-reads-literal = record { again = λ m v rest y f t g. subst (λ l. (meaning literal).yields (l ++ t) v t) (sym (append-nil (literal_of v))) (literal_on v t f.0) }
 
 -- a literal, where a quoted string may stand too
 pub quoted-denies : (b t : Bytes) → Denies (meaning quoted) (literal_of b ++ t)

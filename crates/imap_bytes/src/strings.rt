@@ -6,8 +6,7 @@ ghost use Rattle.std.specs.Str.{is_utf8};
 ghost use Rattle.imap_grammar.specs.Answer.{Answers, Exactly};
 ghost use Rattle.imap_grammar.specs.Memory.{NeverFails};
 ghost use Rattle.imap_grammar.specs.Step.{step};
-ghost use Rattle.imap_grammar.specs.Rule.{run0, run1, only};
-ghost use Rattle.imap_grammar.specs.Classes as classes;
+ghost use Rattle.imap_grammar.specs.Rule.{only};
 ghost use Rattle.imap_bytes.specs.Strings as strings;
 
 use crate::at;
@@ -50,14 +49,6 @@ pub fn string(i: &[u8]) -> IResult<&[u8], &[u8]>
     sliced(i, at::strings::string(i, 0))
 }
 
-/// At least one astring-char (RFC 3501, section 9: ASTRING-CHAR). No memory.
-pub fn astring_chars(i: &[u8]) -> IResult<&[u8], &[u8]>
-    ensures steps { Exactly (λ x. x.now) result (step (run1 classes.is_astring_char) i.now) }
-    ensures no_failure { NeverFails result }
-{
-    sliced(i, at::strings::astring_chars(i, 0))
-}
-
 /// Bare astring-chars, or a string (RFC 3501, section 9: astring). No memory.
 #[tactic(auto, using(imap_grammar::proofs::Agreement::exact_answered), unfolding(crate::specs::Strings::astring))]
 pub fn astring(i: &[u8]) -> IResult<&[u8], &[u8]>
@@ -97,22 +88,6 @@ pub fn as_utf8(bytes: &[u8]) -> Option<&str>
         Ok(text) => Some(text),
         Err(_) => None,
     }
-}
-
-/// Atom-chars, maybe none (RFC 3501, section 9: ATOM-CHAR). No memory.
-pub fn atom_chars0(i: &[u8]) -> IResult<&[u8], &[u8]>
-    ensures steps { Exactly (λ x. x.now) result (step (run0 classes.is_atom_char) i.now) }
-    ensures no_failure { NeverFails result }
-{
-    sliced(i, at::strings::atom_chars0(i, 0))
-}
-
-/// At least one atom-char (RFC 3501, section 9: ATOM-CHAR). No memory.
-pub fn atom_chars(i: &[u8]) -> IResult<&[u8], &[u8]>
-    ensures steps { Exactly (λ x. x.now) result (step (run1 classes.is_atom_char) i.now) }
-    ensures no_failure { NeverFails result }
-{
-    sliced(i, at::strings::atom_chars(i, 0))
 }
 
 /// An atom (RFC 3501, section 9: atom). No memory.

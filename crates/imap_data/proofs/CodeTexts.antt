@@ -3,7 +3,7 @@ use Rattle.std.proofs.Common.{None, Some, refl, codes, map}
 use Rattle.std.specs.Option.{option_map}
 use Rattle.imap_grammar.specs.Rule.{opt}
 use Rattle.imap_grammar.specs.Text.{Bytes, lent_text}
-use Rattle.imap_grammar.specs.ReadBack.{ReadsBack, Spells, Keeps, Any, EndsItem}
+use Rattle.imap_grammar.specs.ReadBack.{ReadsBack, Spells, SpellsAndReadsBack, Any, EndsItem}
 use Rattle.imap_grammar.proofs.Reading.{first, reads-word, reads-gives, reads-opt, reads-follow, reads-seq, reads-before, apart_forms, denies-after, denies-tag, Begins, begun, ◌▹ʳ◌}
 use Rattle.imap_grammar.proofs.ReadingLists.{takes-text, takes-word, reads-nonempty_list_of}
 use Rattle.imap_grammar.proofs.Spelling.{◌⨾ˢ◌, ◌▹ˢ◌, ◌◃ˢ◌, ◌orˢ◌, spells-gives, spells-names, spells-nothing, spells-word, spells-tag, spells-nonempty_list_of}
@@ -106,5 +106,5 @@ pub response_code_spells : Spells response_code spells_response_code
 unfolding response_code any_code
 response_code_spells = spells-tag "[" ▹ˢ (basic_spells orˢ uid_spells orˢ metadata_spells) ◃ˢ spells-tag "]"
 
-pub keeps_response_code : Keeps response_code lent_code canonical_response_code spells_response_code EndsItem
+pub keeps_response_code : SpellsAndReadsBack response_code lent_code canonical_response_code spells_response_code EndsItem
 keeps_response_code = record { spelled = response_code_spells; back = reads-follow reads_response_code (λ t g. tt) }

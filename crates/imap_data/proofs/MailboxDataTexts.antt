@@ -6,7 +6,7 @@ use Rattle.imap_grammar.specs.Rule.{Rule, meaning, gives, ◌▹◌, ◌or◌}
 use Rattle.imap_grammar.specs.Text.{Bytes}
 use Rattle.imap_grammar.specs.Tags.{word, sp, same_letter}
 use Rattle.imap_grammar.specs.Pieces.{written}
-use Rattle.imap_grammar.specs.ReadBack.{ReadsBack, Takes, Spells, Keeps, Apart, Any, Starts, Closes, EndsItem, ends_item, as_is}
+use Rattle.imap_grammar.specs.ReadBack.{ReadsBack, Takes, Spells, SpellsAndReadsBack, Apart, Any, BeginsWith, Closes, EndsItem, ends_item, as_is}
 use Rattle.imap_grammar.specs.Pieces.{Pieces, Fits, list_text}
 use Rattle.imap_grammar.proofs.Reading.{first, first_instead, reads-gives, reads-follow, reads-as, reads-before_absent, apart-alt, apart_forms, denials, denies-gives, denies-after, denies-tag, gives-has, gives-on, after-has, after-on, tag-on, closes-in, ◌⨾ʳ◌, ◌▹ʳ◌}
 use Rattle.imap_grammar.proofs.ReadingLists.{takes-text, takes-word, reads-list_of}
@@ -31,7 +31,7 @@ use Rattle.imap_data.specs.MailboxDataTexts.{canonical_item, canonical_numbers, 
 
 -- ---- items of STATUS
 
-reads_item : ReadsBack status_item as_is canonical_item (Starts not_digit)
+reads_item : ReadsBack status_item as_is canonical_item (BeginsWith not_digit)
 unfolding status_item highest_mod_seq messages recent_item uid_next uid_validity unseen
 reads_item =
     first (reads-gives HighestModSeq (takes-word "HIGHESTMODSEQ " "HIGHESTMODSEQ " refl ▹ʳ reads-number_64) (λ x. refl)) (search apart_forms depth 20)
@@ -283,8 +283,8 @@ mailbox_datum_spells =
     orˢ spells-gives GmailThrId keeps_thrid.spelled
     orˢ spells-gives Sort (spells-word "SORT" ▹ˢ numbers_spell)
 
-pub keeps_list_or_lsub : Keeps list_or_lsub lent_mailbox canonical_datum spells_datum Closes
+pub keeps_list_or_lsub : SpellsAndReadsBack list_or_lsub lent_mailbox canonical_datum spells_datum Closes
 keeps_list_or_lsub = record { spelled = list_or_lsub_spells; back = reads_list_or_lsub }
 
-pub keeps_mailbox_datum : Keeps mailbox_datum lent_mailbox canonical_datum spells_datum Closes
+pub keeps_mailbox_datum : SpellsAndReadsBack mailbox_datum lent_mailbox canonical_datum spells_datum Closes
 keeps_mailbox_datum = record { spelled = mailbox_datum_spells; back = reads_mailbox_datum }

@@ -8,7 +8,7 @@ use Rattle.imap_grammar.specs.Rule.{meaning, gives, nothing, tag_by, ◌▹◌}
 use Rattle.imap_grammar.specs.Text.{Bytes, lent_text}
 use Rattle.imap_grammar.specs.Tags.{same_letter}
 use Rattle.imap_grammar.specs.Pieces.{written, raw}
-use Rattle.imap_grammar.specs.ReadBack.{ReadsBack, Spells, Apart, Any, Starts}
+use Rattle.imap_grammar.specs.ReadBack.{ReadsBack, Spells, Apart, Any, BeginsWith}
 use Rattle.imap_grammar.specs.Spelling.{nil_or, spells_quoted_text}
 use Rattle.imap_grammar.proofs.Reading.{raw_on, test-has, first, reads-word, reads-gives, reads-test, apart_forms, denials, denies-after, denies-tag, names-denied, tag-denied, ◌⨾ʳ◌, ◌▹ʳ◌}
 use Rattle.imap_grammar.proofs.ReadingWords.{has_cases, differs-again}
@@ -25,7 +25,7 @@ use Rattle.imap_data.specs.Names.{NameAttributeValue, NoInferiors, NoSelect, Mar
 use Rattle.imap_data.specs.NameTexts.{canonical_attribute, canonical_delimiter, canonical_list, spells_attribute, spells_list_data}
 
 abbrev AtomEnds : Bytes → Type 0
-AtomEnds = Starts (outside is_atom_char)
+AtomEnds = BeginsWith (outside is_atom_char)
 
 -- a word behind a backslash
 word-apart : (k m v rest t : Bytes) → has_cases is_atom_char k ≡ true → differs same_letter (92 ∷ k) m ≡ true → (meaning backslashed).yields m v rest → AtomEnds t → differs same_letter (92 ∷ k) (v ++ t) ≡ true

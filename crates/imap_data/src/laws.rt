@@ -33,7 +33,7 @@ ghost use Rattle.imap_extensions.specs.Acls.{acl_entry_content, acl_content, lis
 ghost use Rattle.imap_data.specs.Annotations as metadata;
 ghost use Rattle.std.specs.Prelude.{map, option_map};
 ghost use Rattle.imap_grammar.specs.Text.{lent_text};
-ghost use Rattle.imap_grammar.specs.ReadBack.{Keeps, Closes, EndsItem, as_is};
+ghost use Rattle.imap_grammar.specs.ReadBack.{SpellsAndReadsBack, Closes, EndsItem, as_is};
 ghost use Rattle.imap_items.specs.Capabilities.{lent_capability};
 ghost use Rattle.imap_items.specs.StatusTexts.{canonical_status, spells_status};
 ghost use Rattle.imap_items.specs.FlagTexts.{canonical_flag, spells_flag, canonical_flag_list, spells_flag_list};
@@ -150,27 +150,27 @@ pub fn hashing()
 /// written as a literal.
 #[tactic(auto, using(imap_items::proofs::StatusTexts::keeps_status, imap_items::proofs::FlagTexts::keeps_flag, imap_items::proofs::FlagTexts::keeps_flag_perm, imap_items::proofs::FlagTexts::keeps_flag_list, imap_items::proofs::GmailTexts::keeps_label_list, imap_items::proofs::GmailTexts::keeps_msgid, imap_items::proofs::GmailTexts::keeps_thrid, imap_items::proofs::CapabilityTexts::keeps_capability_data, imap_items::proofs::CapabilityTexts::keeps_enabled_data, imap_items::proofs::UidSetTexts::keeps_uid_set, imap_items::proofs::MailboxTexts::keeps_mailbox, crate::proofs::CodeTexts::keeps_response_code, crate::proofs::MailboxDataTexts::keeps_mailbox_datum, crate::proofs::MailboxDataTexts::keeps_list_or_lsub, imap_extensions::proofs::QuotaTexts::keeps_quota, imap_extensions::proofs::QuotaTexts::keeps_quota_root, imap_extensions::proofs::IdTexts::keeps_id, imap_extensions::proofs::VanishingTexts::keeps_vanished, crate::proofs::AnnotationTexts::keeps_solicited, crate::proofs::AnnotationTexts::keeps_unsolicited, imap_extensions::proofs::AclTexts::keeps_acl, imap_extensions::proofs::OptionalRights::keeps_list_rights, imap_extensions::proofs::AclTexts::keeps_my_rights))]
 pub fn read_back()
-    ensures status { Keeps statuses.status as_is canonical_status spells_status EndsItem }
-    ensures flag { Keeps flags.flag as_is canonical_flag spells_flag EndsItem }
-    ensures flag_perm { Keeps flags.flag_perm as_is canonical_flag spells_flag EndsItem }
-    ensures flag_list { Keeps flags.flag_list (map lent_text) canonical_flag_list spells_flag_list EndsItem }
-    ensures gmail_label_list { Keeps gmail.gmail_label_list (map lent_text) canonical_label_list spells_label_list EndsItem }
-    ensures gmail_msgid { Keeps gmail.gmail_msgid as_is canonical_msgid spells_msgid EndsItem }
-    ensures gmail_thrid { Keeps gmail.gmail_thrid as_is canonical_thrid spells_thrid EndsItem }
-    ensures capability_data { Keeps capabilities.capability_data (map lent_capability) canonical_capabilities spells_capability_data Closes }
-    ensures enabled_data { Keeps capabilities.enabled_data (map lent_capability) canonical_capabilities spells_enabled_data Closes }
-    ensures uid_set { Keeps uid_sets.uid_set as_is canonical_uid_set spells_uid_set Closes }
-    ensures mailbox { Keeps mailboxes.mailbox lent_text canonical_mailbox spells_mailbox Closes }
-    ensures response_code { Keeps codes.response_code lent_code canonical_response_code spells_response_code EndsItem }
-    ensures mailbox_datum { Keeps mailbox_data.mailbox_datum lent_mailbox canonical_datum spells_datum Closes }
-    ensures list_or_lsub { Keeps mailbox_data.list_or_lsub lent_mailbox canonical_datum spells_datum Closes }
-    ensures quota { Keeps quotas.quota lent_quota canonical_quota spells_quota Closes }
-    ensures quota_root { Keeps quotas.quota_root lent_quota_root canonical_quota_root spells_quota_root Closes }
-    ensures id { Keeps ids.id (option_map lent_id) canonical_id spells_id Closes }
-    ensures vanished { Keeps vanishings.vanished as_is canonical_vanished spells_vanished Closes }
-    ensures metadata_solicited { Keeps metadata.metadata_solicited lent_mailbox canonical_datum spells_datum Closes }
-    ensures metadata_unsolicited { Keeps metadata.metadata_unsolicited lent_mailbox canonical_datum spells_datum Closes }
-    ensures acl { Keeps acls.acl lent_acl canonical_acl spells_acl Closes }
-    ensures list_rights { Keeps acls.list_rights lent_list_rights canonical_list_rights spells_list_rights Closes }
-    ensures my_rights { Keeps acls.my_rights lent_my_rights canonical_my_rights spells_my_rights Closes }
+    ensures status { SpellsAndReadsBack statuses.status as_is canonical_status spells_status EndsItem }
+    ensures flag { SpellsAndReadsBack flags.flag as_is canonical_flag spells_flag EndsItem }
+    ensures flag_perm { SpellsAndReadsBack flags.flag_perm as_is canonical_flag spells_flag EndsItem }
+    ensures flag_list { SpellsAndReadsBack flags.flag_list (map lent_text) canonical_flag_list spells_flag_list EndsItem }
+    ensures gmail_label_list { SpellsAndReadsBack gmail.gmail_label_list (map lent_text) canonical_label_list spells_label_list EndsItem }
+    ensures gmail_msgid { SpellsAndReadsBack gmail.gmail_msgid as_is canonical_msgid spells_msgid EndsItem }
+    ensures gmail_thrid { SpellsAndReadsBack gmail.gmail_thrid as_is canonical_thrid spells_thrid EndsItem }
+    ensures capability_data { SpellsAndReadsBack capabilities.capability_data (map lent_capability) canonical_capabilities spells_capability_data Closes }
+    ensures enabled_data { SpellsAndReadsBack capabilities.enabled_data (map lent_capability) canonical_capabilities spells_enabled_data Closes }
+    ensures uid_set { SpellsAndReadsBack uid_sets.uid_set as_is canonical_uid_set spells_uid_set Closes }
+    ensures mailbox { SpellsAndReadsBack mailboxes.mailbox lent_text canonical_mailbox spells_mailbox Closes }
+    ensures response_code { SpellsAndReadsBack codes.response_code lent_code canonical_response_code spells_response_code EndsItem }
+    ensures mailbox_datum { SpellsAndReadsBack mailbox_data.mailbox_datum lent_mailbox canonical_datum spells_datum Closes }
+    ensures list_or_lsub { SpellsAndReadsBack mailbox_data.list_or_lsub lent_mailbox canonical_datum spells_datum Closes }
+    ensures quota { SpellsAndReadsBack quotas.quota lent_quota canonical_quota spells_quota Closes }
+    ensures quota_root { SpellsAndReadsBack quotas.quota_root lent_quota_root canonical_quota_root spells_quota_root Closes }
+    ensures id { SpellsAndReadsBack ids.id (option_map lent_id) canonical_id spells_id Closes }
+    ensures vanished { SpellsAndReadsBack vanishings.vanished as_is canonical_vanished spells_vanished Closes }
+    ensures metadata_solicited { SpellsAndReadsBack metadata.metadata_solicited lent_mailbox canonical_datum spells_datum Closes }
+    ensures metadata_unsolicited { SpellsAndReadsBack metadata.metadata_unsolicited lent_mailbox canonical_datum spells_datum Closes }
+    ensures acl { SpellsAndReadsBack acls.acl lent_acl canonical_acl spells_acl Closes }
+    ensures list_rights { SpellsAndReadsBack acls.list_rights lent_list_rights canonical_list_rights spells_list_rights Closes }
+    ensures my_rights { SpellsAndReadsBack acls.my_rights lent_my_rights canonical_my_rights spells_my_rights Closes }
 {}

@@ -6,7 +6,7 @@ use Rattle.imap_grammar.specs.Rule.{Rule, meaning}
 use Rattle.imap_grammar.specs.Text.{Bytes, as_text}
 use Rattle.imap_grammar.specs.Tags.{sp}
 use Rattle.imap_grammar.specs.Pieces.{Pieces, ◌then◌, space, nstring_text, ntext}
-use Rattle.imap_grammar.specs.ReadBack.{Texts, ReadsBack, Spells, Keeps, Any, Closes}
+use Rattle.imap_grammar.specs.ReadBack.{Texts, ReadsBack, Spells, SpellsAndReadsBack, Any, Closes}
 use Rattle.imap_grammar.specs.Spelling.{spells_nstring}
 use Rattle.imap_grammar.proofs.Reading.{reads-gives, reads-same, reads-before, reads-some1, reads-before_absent, reads-follow, denies-gives, denies-before, denies-after, denies-tag, Begins, begun, ◌⨾ʳ◌, ◌▹ʳ◌, ◌◃ʳ◌}
 use Rattle.imap_grammar.proofs.ReadingLists.{takes-text}
@@ -105,11 +105,11 @@ envelope_spells =
 
 -- ---- both laws
 
-pub keeps_address : Keeps address lent_address canonical_address spells_address Closes
+pub keeps_address : SpellsAndReadsBack address lent_address canonical_address spells_address Closes
 keeps_address = record { spelled = address_spells; back = reads-follow reads_address (λ t g. tt) }
 
-pub keeps_addresses : Keeps addresses lent_addresses canonical_addresses spells_addresses Closes
+pub keeps_addresses : SpellsAndReadsBack addresses lent_addresses canonical_addresses spells_addresses Closes
 keeps_addresses = record { spelled = addresses_spell; back = reads-follow reads_addresses (λ t g. tt) }
 
-pub keeps_envelope : Keeps envelope lent_envelope canonical_envelope spells_envelope Closes
+pub keeps_envelope : SpellsAndReadsBack envelope lent_envelope canonical_envelope spells_envelope Closes
 keeps_envelope = record { spelled = envelope_spells; back = reads-follow reads_envelope (λ t g. tt) }

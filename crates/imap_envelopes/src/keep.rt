@@ -3,7 +3,7 @@
 ghost use Rattle.std.specs.Prelude.{◌≡◌, ◌≤◌, length, IfOk};
 ghost use Rattle.imap_grammar.specs.Text.{Bytes, Text, text_of};
 ghost use Rattle.imap_shapes.specs.Spans.{Lookup, bytes_of, bytes_in, text_in};
-ghost use Rattle.imap_envelopes.specs.Keeping.{Says};
+ghost use Rattle.imap_envelopes.specs.Keeping.{IsKeptOf};
 
 use imap_shapes::spans::{Span, SpannedText};
 use std::alloc::{AllocError, Global};
@@ -30,12 +30,12 @@ pub trait Keep {
         requires serves { serves self.now m.now }
         requires ordered { span.start ≤ span.end }
         requires within { span.end ≤ length m.now }
-        ensures { Says bytes_in bytes_said m.now span result };
+        ensures { IsKeptOf bytes_in bytes_said m.now span result };
 
     /// Keeps a text. It may take memory; `Err`: memory ran out.
     fn text(&self, m: &[u8], text: SpannedText) -> Result<Self::Text, AllocError>
         requires { serves self.now m.now }
-        ensures { IfOk result (Says text_in text_said m.now text) };
+        ensures { IfOk result (IsKeptOf text_in text_said m.now text) };
 }
 
 /// Keeps the position of each string, to be looked up in any message.

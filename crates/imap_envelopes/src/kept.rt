@@ -4,7 +4,7 @@ ghost use Rattle.std.specs.Prelude.{◌≤◌, length, IfOk, IfSome};
 ghost use Rattle.std.specs.Option.{option_map};
 ghost use Rattle.imap_shapes.specs.Spans.{bytes_in, text_in};
 ghost use Rattle.imap_shapes.specs.FieldValues.{pair_seen, encoding_seen};
-ghost use Rattle.imap_envelopes.specs.Keeping.{Says};
+ghost use Rattle.imap_envelopes.specs.Keeping.{IsKeptOf};
 
 use crate::keep::Keep;
 use imap_shapes::shapes::fields::ContentEncoding;
@@ -15,7 +15,7 @@ use std::alloc::AllocError;
 pub fn kept_bytes<K: Keep>(keep: &K, m: &[u8], bytes: Option<Span>) -> Option<K::Bytes>
     requires serves { K.serves keep.now m.now }
     requires inside { IfSome bytes (λ s. (s.start ≤ s.end) × (s.end ≤ length m.now)) }
-    ensures { Says (λ n x. option_map (bytes_in n) x) (λ n x. option_map (K.bytes_said n) x) m.now bytes result }
+    ensures { IsKeptOf (λ n x. option_map (bytes_in n) x) (λ n x. option_map (K.bytes_said n) x) m.now bytes result }
 {
     match bytes {
         None => None,
@@ -31,7 +31,7 @@ pub fn kept_text<K: Keep>(
     text: Option<SpannedText>,
 ) -> Result<Option<K::Text>, AllocError>
     requires { K.serves keep.now m.now }
-    ensures { IfOk result (Says (λ n x. option_map (text_in n) x) (λ n x. option_map (K.text_said n) x) m.now text) }
+    ensures { IfOk result (IsKeptOf (λ n x. option_map (text_in n) x) (λ n x. option_map (K.text_said n) x) m.now text) }
 {
     match text {
         None => Ok(None),
@@ -47,7 +47,7 @@ pub fn kept_pair<K: Keep>(
     pair: (SpannedText, SpannedText),
 ) -> Result<(K::Text, K::Text), AllocError>
     requires { K.serves keep.now m.now }
-    ensures { IfOk result (Says (λ n x. pair_seen (text_in n) x) (λ n x. pair_seen (K.text_said n) x) m.now pair) }
+    ensures { IfOk result (IsKeptOf (λ n x. pair_seen (text_in n) x) (λ n x. pair_seen (K.text_said n) x) m.now pair) }
 {
     let (name, value) = pair;
     let name = keep.text(m, name)?;
@@ -63,7 +63,7 @@ pub fn kept_encoding<K: Keep>(
     encoding: ContentEncoding<SpannedText>,
 ) -> Result<ContentEncoding<K::Text>, AllocError>
     requires { K.serves keep.now m.now }
-    ensures { IfOk result (Says (λ n x. encoding_seen (text_in n) x) (λ n x. encoding_seen (K.text_said n) x) m.now encoding) }
+    ensures { IfOk result (IsKeptOf (λ n x. encoding_seen (text_in n) x) (λ n x. encoding_seen (K.text_said n) x) m.now encoding) }
 {
     Ok(match encoding {
         ContentEncoding::SevenBit => ContentEncoding::SevenBit,

@@ -7,7 +7,7 @@ use Rattle.imap_grammar.specs.Rule.{Rule, meaning, list0, ◌▹◌}
 use Rattle.imap_grammar.specs.Text.{Bytes}
 use Rattle.imap_grammar.specs.Tags.{blanks0, blanks1}
 use Rattle.imap_grammar.specs.Pieces.{Pieces, written, Fits, space, separated, each, ◌then◌}
-use Rattle.imap_grammar.specs.ReadBack.{ReadsBack, Spells, Keeps, Any, Starts, Closes, closes}
+use Rattle.imap_grammar.specs.ReadBack.{ReadsBack, Spells, SpellsAndReadsBack, Any, BeginsWith, Closes, closes}
 use Rattle.imap_grammar.proofs.Reading.{written_on, reads-gives, reads-seq, reads-after, reads-list0, reads-follow, denials, denies-gives, denies-seq, closes-in, after-has, after-on, ◌▹ʳ◌}
 use Rattle.imap_grammar.proofs.ReadingLists.{takes-word, takes-blanks}
 use Rattle.imap_grammar.proofs.Spelling.{◌⨾ˢ◌, ◌▹ˢ◌, spells-gives, spells-word, spells-blanks0, spells-blanks1, spells-list0}
@@ -25,7 +25,7 @@ use Rattle.imap_extensions.specs.AclTexts.{canonical_acl_entry, canonical_acl, c
 
 module _ {A : Type 0} {a : Rule A} {l : A → A} {c : A → Pieces} where
   -- none, or each behind a space
-  pub reads_spaced_list : ReadsBack a l c Any → ((y : A) (t : Bytes) → Starts (outside is_blank) (written (c y) ++ t)) → ((t : Bytes) → Closes t → Denies (meaning a) t)
+  pub reads_spaced_list : ReadsBack a l c Any → ((y : A) (t : Bytes) → BeginsWith (outside is_blank) (written (c y) ++ t)) → ((t : Bytes) → Closes t → Denies (meaning a) t)
       → ReadsBack (blanks0 ▹ list0 blanks1 a) (map l) (each (λ y. space then c y)) Closes
   unfolding meaning
   reads_spaced_list h begin none = record {
@@ -42,7 +42,7 @@ module _ {A : Type 0} {a : Rule A} {l : A → A} {c : A → Pieces} where
       behind_blanks [] mid rest y f t g = after-on blanks0 (list0 blanks1 a) t [] t [] t (refl, refl, closes-in (outside is_blank) refl refl t g) (listed.again mid [] rest y tt t g)
       behind_blanks (x ∷ xs) mid rest y f t g =
           let others = each (λ w. space then c w) xs in
-          let begins_ = subst (Starts (outside is_blank)) (sym (written_on (c x) others t)) (begin x (written others ++ t)) in
+          let begins_ = subst (BeginsWith (outside is_blank)) (sym (written_on (c x) others t)) (begin x (written others ++ t)) in
           after-on blanks0 (list0 blanks1 a) _ (32 ∷ []) (written (c x then others) ++ t) (map l (x ∷ xs)) t (refl, refl, begins_) (listed.again mid (x ∷ xs) rest y f t g)
 
 -- no text begins where an item closes
@@ -96,8 +96,8 @@ my_rights_spells : Spells my_rights spells_my_rights
 unfolding my_rights
 my_rights_spells = spells-gives my_rights_of (spells-word "MYRIGHTS" ▹ˢ spells-blanks1 ▹ˢ mailbox_spells ⨾ˢ spells-blanks1 ▹ˢ rights_spell)
 
-pub keeps_acl : Keeps acl lent_acl canonical_acl spells_acl Closes
+pub keeps_acl : SpellsAndReadsBack acl lent_acl canonical_acl spells_acl Closes
 keeps_acl = record { spelled = acl_spells; back = reads_acl }
 
-pub keeps_my_rights : Keeps my_rights lent_my_rights canonical_my_rights spells_my_rights Closes
+pub keeps_my_rights : SpellsAndReadsBack my_rights lent_my_rights canonical_my_rights spells_my_rights Closes
 keeps_my_rights = record { spelled = my_rights_spells; back = reads-follow reads_my_rights (λ t g. tt) }

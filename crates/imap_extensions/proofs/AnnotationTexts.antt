@@ -12,7 +12,7 @@ use Rattle.imap_grammar.specs.Meaning.{Denies}
 use Rattle.imap_grammar.specs.Rule.{meaning}
 use Rattle.imap_grammar.specs.Text.{Bytes, Text, as_text, lent_text}
 use Rattle.imap_grammar.specs.Pieces.{written, literal_of, literal_text, ntext, nstring_text}
-use Rattle.imap_grammar.specs.ReadBack.{ReadsBack, Spells, Keeps, Any, Closes, closes, as_is}
+use Rattle.imap_grammar.specs.ReadBack.{ReadsBack, Spells, SpellsAndReadsBack, Any, Closes, closes, as_is}
 use Rattle.imap_grammar.specs.Spelling.{spells_astring_text, spells_ntext, nil_or, spells_string_text}
 use Rattle.imap_grammar.proofs.Reading.{test-has, test-on, reads-gives, reads-same, reads-as, reads-follow, reads-list0, denials, ◌⨾ʳ◌, ◌▹ʳ◌, ◌◃ʳ◌}
 use Rattle.imap_grammar.proofs.ReadingLists.{takes-text, takes-word, reads-nonempty_list_of}
@@ -205,11 +205,11 @@ pub entries_spell : Spells entries spells_entries
 unfolding entries
 entries_spell = spells-list0 (spells-tag " ") entry_spells
 
-pub keeps_metadata_mailbox : Keeps metadata_mailbox lent_text canonical_metadata spells_metadata Closes
+pub keeps_metadata_mailbox : SpellsAndReadsBack metadata_mailbox lent_text canonical_metadata spells_metadata Closes
 keeps_metadata_mailbox = record { spelled = metadata_spells; back = reads-follow reads_metadata (λ t g. tt) }
 
-pub keeps_annotations : Keeps annotations as_is canonical_annotations spells_annotations Closes
+pub keeps_annotations : SpellsAndReadsBack annotations as_is canonical_annotations spells_annotations Closes
 keeps_annotations = record { spelled = annotations_spell; back = reads-follow reads_annotations (λ t g. tt) }
 
-pub keeps_entries : Keeps entries (map lent_text) canonical_entries spells_entries Closes
+pub keeps_entries : SpellsAndReadsBack entries (map lent_text) canonical_entries spells_entries Closes
 keeps_entries = record { spelled = entries_spell; back = reads_entries }

@@ -13,7 +13,7 @@ use Rattle.imap_grammar.specs.Rule.{meaning, nothing, ◌⨾◌, ◌▹◌, ◌�
 use Rattle.imap_grammar.specs.Text.{Bytes, Text, as_text, lent_text}
 use Rattle.imap_grammar.specs.Tags.{same_letter, tag, blanks0, blanks1}
 use Rattle.imap_grammar.specs.Pieces.{Pieces, written, Fits, words, space, each, literal_of, ◌then◌}
-use Rattle.imap_grammar.specs.ReadBack.{ReadsBack, Spells, Keeps, Any, Starts, Closes}
+use Rattle.imap_grammar.specs.ReadBack.{ReadsBack, Spells, SpellsAndReadsBack, Any, BeginsWith, Closes}
 use Rattle.imap_grammar.specs.Spelling.{exactly, ◌and◌, blanks, some_blanks, with_between}
 use Rattle.imap_grammar.proofs.Yields.{Yields, both_yield, either_yields, named_yields, given_yields, made_yields, right_yields, left_yields, list_yields}
 use Rattle.imap_grammar.proofs.Reading.{first, written_on, fits-parts, reads-names, reads-after, reads-follow, takes-tag, apart-names, denies-gives, denies-after, denies-tag, denies-run1, after-on, before-on, ◌▹ʳ◌}
@@ -150,7 +150,7 @@ nil_on : (t : Bytes) → (meaning nstring_utf8).yields (78 ∷ 73 ∷ 76 ∷ t) 
 unfolding meaning nstring_utf8 nil
 nil_on t = inl (after-on nil (nothing None) (78 ∷ 73 ∷ 76 ∷ t) (78 ∷ 73 ∷ 76 ∷ []) t None t (refl, refl) (refl, refl))
 
-pair_on : (k : Bytes) (v : Option Text) (m t : Bytes) → IsUtf8 k → length k < 2 ^ 32 → Starts (outside is_blank) m → (meaning nstring_utf8).yields m v t
+pair_on : (k : Bytes) (v : Option Text) (m t : Bytes) → IsUtf8 k → length k < 2 ^ 32 → BeginsWith (outside is_blank) m → (meaning nstring_utf8).yields m v t
     → (meaning id_pair).yields (literal_of k ++ (32 ∷ m)) (as_text k, v) t
 unfolding meaning id_pair
 pair_on k v m t u short begin y = (32 ∷ m, text_on k (32 ∷ m) u short, after-on blanks1 nstring_utf8 (32 ∷ m) (32 ∷ []) m v t ((refl, refl, begin), omega arith) y)
@@ -229,11 +229,11 @@ reads_params : ReadsBack id_params (option_map lent_id) canonical_params Any
 unfolding id_params id_list nil
 reads_params = first reads_some (apart-names _ None (λ t g. denies-gives _ _ _ (denies-after _ _ _ (denies-tag _ _ _ refl)))) (reads-names None (takes-tag _ _ (codes "NIL") refl) refl refl)
 
-fields_no_blank : (es : Fields) (t : Bytes) → Starts (outside is_blank) (written (canonical_fields es) ++ t)
+fields_no_blank : (es : Fields) (t : Bytes) → BeginsWith (outside is_blank) (written (canonical_fields es) ++ t)
 fields_no_blank [] t = refl
 fields_no_blank (e ∷ es) t = refl
 
-params_no_blank : (v : Option IdValue) (t : Bytes) → Starts (outside is_blank) (written (canonical_params v) ++ t)
+params_no_blank : (v : Option IdValue) (t : Bytes) → BeginsWith (outside is_blank) (written (canonical_params v) ++ t)
 params_no_blank None t = refl
 params_no_blank (Some m) t = fields_no_blank (entries m) t
 
@@ -271,5 +271,5 @@ id_spells : Spells id spells_id
 unfolding id
 id_spells = spells-word "ID" ▹ˢ spells-blanks1 ▹ˢ params_spell
 
-pub keeps_id : Keeps id (option_map lent_id) canonical_id spells_id Closes
+pub keeps_id : SpellsAndReadsBack id (option_map lent_id) canonical_id spells_id Closes
 keeps_id = record { spelled = id_spells; back = reads-follow reads_id (λ t g. tt) }

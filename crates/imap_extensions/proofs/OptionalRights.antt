@@ -11,7 +11,7 @@ use Rattle.imap_grammar.specs.Rule.{meaning, gives, nothing, ◌▹◌}
 use Rattle.imap_grammar.specs.Text.{Bytes, as_text}
 use Rattle.imap_grammar.specs.Tags.{blanks0, blanks1}
 use Rattle.imap_grammar.specs.Pieces.{written, Fits, literal_of}
-use Rattle.imap_grammar.specs.ReadBack.{ReadsBack, Spells, Keeps, Closes, as_is}
+use Rattle.imap_grammar.specs.ReadBack.{ReadsBack, Spells, SpellsAndReadsBack, Closes, as_is}
 use Rattle.imap_grammar.proofs.Yields.{Yields, given_yields, either_yields, right_yields, list_yields}
 use Rattle.imap_grammar.proofs.Reading.{reads-gives, reads-seq, reads-after, denies-gives, denies-after, closes-in, gives-on, after-on, ◌▹ʳ◌}
 use Rattle.imap_grammar.proofs.ReadingLists.{takes-word, takes-blanks}
@@ -118,5 +118,5 @@ unfolding list_rights
 list_rights_spells =
     spells-gives list_rights_of (spells-word "LISTRIGHTS" ▹ˢ spells-blanks1 ▹ˢ mailbox_spells ⨾ˢ spells-blanks1 ▹ˢ spells-astring_utf8 ⨾ˢ spells-blanks1 ▹ˢ rights_spell ⨾ˢ optional_spells)
 
-pub keeps_list_rights : Keeps list_rights lent_list_rights canonical_list_rights spells_list_rights Closes
+pub keeps_list_rights : SpellsAndReadsBack list_rights lent_list_rights canonical_list_rights spells_list_rights Closes
 keeps_list_rights = record { spelled = list_rights_spells; back = reads_list_rights }

@@ -5,7 +5,7 @@ use Rattle.imap_grammar.specs.Meaning.{Denies, outside}
 use Rattle.imap_grammar.specs.Rule.{meaning}
 use Rattle.imap_grammar.specs.Text.{Bytes}
 use Rattle.imap_grammar.specs.Pieces.{Pieces, written, space, number_text, list_text, ◌then◌}
-use Rattle.imap_grammar.specs.ReadBack.{ReadsBack, Spells, Keeps, Any, Starts, Closes}
+use Rattle.imap_grammar.specs.ReadBack.{ReadsBack, Spells, SpellsAndReadsBack, Any, BeginsWith, Closes}
 use Rattle.imap_grammar.proofs.Reading.{first, first_yields, reads-word, reads-gives, reads-seq, reads-after, reads-after_where, reads-before, reads-list0, reads-many, apart_forms, denials, denies-after, Begins, begun, reads-follow, ◌▹ʳ◌}
 use Rattle.imap_grammar.proofs.ReadingLists.{takes-text, takes-word, takes-blanks}
 use Rattle.imap_grammar.proofs.Reading.{denies-run1}
@@ -25,7 +25,7 @@ reads_resource_name =
     (first (reads-word _ _ Message (codes "MESSAGE") refl refl refl) (search apart_forms depth 20)
     (reads-gives Atom reads-astring_utf8 (λ x. refl)))
 
-pub reads_resource : ReadsBack quota_resource lent_quota_resource canonical_resource (Starts not_digit)
+pub reads_resource : ReadsBack quota_resource lent_quota_resource canonical_resource (BeginsWith not_digit)
 unfolding quota_resource
 reads_resource =
     reads-gives resource_of
@@ -35,7 +35,7 @@ reads_resource =
     (λ y t g. tt))
     (λ x. refl)
 
-name_no_blank : (n : QuotaResourceNameValue) (q : Pieces) (t : Bytes) → Starts (outside is_blank) (written (canonical_resource_name n then q) ++ t)
+name_no_blank : (n : QuotaResourceNameValue) (q : Pieces) (t : Bytes) → BeginsWith (outside is_blank) (written (canonical_resource_name n then q) ++ t)
 name_no_blank Storage q t = refl
 name_no_blank Message q t = refl
 name_no_blank (Atom x) q t = refl
@@ -92,8 +92,8 @@ quota_root_spells : Spells quota_root spells_quota_root
 unfolding quota_root quota_root_names quota_root_name
 quota_root_spells = spells-gives quota_root_of (spells-word "QUOTAROOT" ▹ˢ spells-blanks1 ▹ˢ spells-astring_utf8 ⨾ˢ spells-many (spells-blanks1 ▹ˢ spells-astring_utf8))
 
-pub keeps_quota : Keeps quota lent_quota canonical_quota spells_quota Closes
+pub keeps_quota : SpellsAndReadsBack quota lent_quota canonical_quota spells_quota Closes
 keeps_quota = record { spelled = quota_spells; back = reads-follow reads_quota (λ t g. tt) }
 
-pub keeps_quota_root : Keeps quota_root lent_quota_root canonical_quota_root spells_quota_root Closes
+pub keeps_quota_root : SpellsAndReadsBack quota_root lent_quota_root canonical_quota_root spells_quota_root Closes
 keeps_quota_root = record { spelled = quota_root_spells; back = reads_quota_root }

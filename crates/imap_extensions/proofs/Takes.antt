@@ -1,9 +1,8 @@
 -- That a rule takes at least a byte wherever it yields: of the items of lists.
 use Rattle.std.proofs.Common.{◌≡◌, true, refl}
 use Rattle.imap_grammar.proofs.Consumption.{consumes}
-use Rattle.imap_bytes.proofs.Takes.{astring_takes, astring_utf8_takes, string_utf8_takes}
+use Rattle.imap_bytes.proofs.Takes.{astring_takes, astring_utf8_takes}
 use Rattle.imap_extensions.specs.Quotas.{quota_resource_name, quota_resource, quota_root_name}
-use Rattle.imap_extensions.specs.Ids.{id_pair}
 use Rattle.imap_extensions.specs.Acls.{acl_entry}
 use Rattle.imap_extensions.specs.Annotations.{entry, entry_utf8, annotation}
 
@@ -18,10 +17,6 @@ quota_resource_takes = rw quota_resource_name_takes refl
 pub quota_root_name_takes : consumes quota_root_name ≡ true
 unfolding quota_root_name
 quota_root_name_takes = refl
-
-pub id_pair_takes : consumes id_pair ≡ true
-unfolding id_pair
-id_pair_takes = rw string_utf8_takes refl
 
 pub acl_entry_takes : consumes acl_entry ≡ true
 unfolding acl_entry

@@ -7,7 +7,7 @@ use Rattle.imap_grammar.specs.Rule.{meaning, nothing}
 use Rattle.imap_grammar.specs.Text.{Bytes}
 use Rattle.imap_grammar.specs.Tags.{word, names, blanks1, same_letter}
 use Rattle.imap_grammar.specs.Pieces.{written, ranges_text}
-use Rattle.imap_grammar.specs.ReadBack.{Texts, ReadsBack, Spells, Keeps, Starts, Closes, as_is}
+use Rattle.imap_grammar.specs.ReadBack.{Texts, ReadsBack, Spells, SpellsAndReadsBack, BeginsWith, Closes, as_is}
 use Rattle.imap_grammar.specs.Spelling.{in_any_case, ◌and◌, some_blanks}
 use Rattle.imap_grammar.proofs.Yields.{right_yields}
 use Rattle.imap_grammar.proofs.Reading.{reads-seq_where, reads-after_where, reads-follow, after-on, tag-on, closes-in, starts, ◌▹ʳ◌}
@@ -31,12 +31,12 @@ reads_earlier : ReadsBack earlier as_is canonical_earlier (λ t. Denies (meaning
 reads_earlier = record { again = λ m v rest y f t g. earlier_on v t g }
 
 -- a set is no such word
-not_earlier : (m : Bytes) → Starts is_digit m → Denies (meaning earlier_word) (32 ∷ m)
+not_earlier : (m : Bytes) → BeginsWith is_digit m → Denies (meaning earlier_word) (32 ∷ m)
 unfolding meaning
 not_earlier [] d = absurd (false≢true d)
 not_earlier (b ∷ m) d = inr (32 ∷ [], b ∷ m, ((refl, refl, digit_no_blank b d), omega arith), inl (word_no_number 40 (codes "EARLIER)") refl b m d))
 
-pub reads_vanished : ReadsBack vanished as_is canonical_vanished (Starts (outside in_set))
+pub reads_vanished : ReadsBack vanished as_is canonical_vanished (BeginsWith (outside in_set))
 unfolding vanished
 reads_vanished =
     takes-word "VANISHED" "VANISHED" refl ▹ʳ
@@ -62,5 +62,5 @@ vanished_spells : Spells vanished spells_vanished
 unfolding vanished
 vanished_spells = spells-word "VANISHED" ▹ˢ earlier_spells ⨾ˢ spells-blanks1 ▹ˢ spells-sequence_set
 
-pub keeps_vanished : Keeps vanished as_is canonical_vanished spells_vanished Closes
+pub keeps_vanished : SpellsAndReadsBack vanished as_is canonical_vanished spells_vanished Closes
 keeps_vanished = record { spelled = vanished_spells; back = reads-follow reads_vanished (closes-in (outside in_set) refl refl) }

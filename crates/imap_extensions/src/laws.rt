@@ -4,7 +4,7 @@ ghost use Rattle.std.specs.Prelude.{map, option_map};
 ghost use Rattle.imap_grammar.specs.Stable.{Stable};
 ghost use Rattle.imap_grammar.specs.Equality.{Tells, HashesAlike};
 ghost use Rattle.imap_grammar.specs.Text.{lent_text};
-ghost use Rattle.imap_grammar.specs.ReadBack.{Keeps, Closes, as_is};
+ghost use Rattle.imap_grammar.specs.ReadBack.{SpellsAndReadsBack, Closes, as_is};
 ghost use Rattle.imap_extensions.specs.Quotas as quotas;
 ghost use Rattle.imap_extensions.specs.Quotas.{quota_content, quota_resource_content, quota_resource_name_content, quota_root_content, lent_quota, lent_quota_root};
 ghost use Rattle.imap_extensions.specs.QuotaTexts.{canonical_quota, spells_quota, canonical_quota_root, spells_quota_root};
@@ -73,14 +73,14 @@ pub fn hashing()
 /// or CR. Excepted is a text too long to be written as a literal.
 #[tactic(auto, using(crate::proofs::QuotaTexts::keeps_quota, crate::proofs::QuotaTexts::keeps_quota_root, crate::proofs::IdTexts::keeps_id, crate::proofs::VanishingTexts::keeps_vanished, crate::proofs::AclTexts::keeps_acl, crate::proofs::OptionalRights::keeps_list_rights, crate::proofs::AclTexts::keeps_my_rights, crate::proofs::AnnotationTexts::keeps_metadata_mailbox, crate::proofs::AnnotationTexts::keeps_annotations, crate::proofs::AnnotationTexts::keeps_entries))]
 pub fn read_back()
-    ensures quota { Keeps quotas.quota lent_quota canonical_quota spells_quota Closes }
-    ensures quota_root { Keeps quotas.quota_root lent_quota_root canonical_quota_root spells_quota_root Closes }
-    ensures id { Keeps ids.id (option_map lent_id) canonical_id spells_id Closes }
-    ensures vanished { Keeps vanishings.vanished as_is canonical_vanished spells_vanished Closes }
-    ensures acl { Keeps acls.acl lent_acl canonical_acl spells_acl Closes }
-    ensures list_rights { Keeps acls.list_rights lent_list_rights canonical_list_rights spells_list_rights Closes }
-    ensures my_rights { Keeps acls.my_rights lent_my_rights canonical_my_rights spells_my_rights Closes }
-    ensures metadata_mailbox { Keeps annotations.metadata_mailbox lent_text canonical_metadata spells_metadata Closes }
-    ensures annotations { Keeps annotations.annotations as_is canonical_annotations spells_annotations Closes }
-    ensures entries { Keeps annotations.entries (map lent_text) canonical_entries spells_entries Closes }
+    ensures quota { SpellsAndReadsBack quotas.quota lent_quota canonical_quota spells_quota Closes }
+    ensures quota_root { SpellsAndReadsBack quotas.quota_root lent_quota_root canonical_quota_root spells_quota_root Closes }
+    ensures id { SpellsAndReadsBack ids.id (option_map lent_id) canonical_id spells_id Closes }
+    ensures vanished { SpellsAndReadsBack vanishings.vanished as_is canonical_vanished spells_vanished Closes }
+    ensures acl { SpellsAndReadsBack acls.acl lent_acl canonical_acl spells_acl Closes }
+    ensures list_rights { SpellsAndReadsBack acls.list_rights lent_list_rights canonical_list_rights spells_list_rights Closes }
+    ensures my_rights { SpellsAndReadsBack acls.my_rights lent_my_rights canonical_my_rights spells_my_rights Closes }
+    ensures metadata_mailbox { SpellsAndReadsBack annotations.metadata_mailbox lent_text canonical_metadata spells_metadata Closes }
+    ensures annotations { SpellsAndReadsBack annotations.annotations as_is canonical_annotations spells_annotations Closes }
+    ensures entries { SpellsAndReadsBack annotations.entries (map lent_text) canonical_entries spells_entries Closes }
 {}

@@ -3,12 +3,12 @@ use Rattle.std.proofs.Common.{◌≡◌, ℕ, ◌<◌, ◌==◌, Bool, true, fal
 use Rattle.std.proofs.lemmas.Bool.{false≢true, and_from, or_cases, eq-eqb, eqb-true}
 use Rattle.std.specs.List.{list_all}
 use Rattle.imap_grammar.specs.Meaning.{Denies, is_word, differs, begins, outside, Cuts}
-use Rattle.imap_grammar.specs.Rule.{Rule, tag_by, run0, run1, alt, gives, test, raw as taken_by, nothing, never, opt, many, counted, ◌⨾◌, ◌▹◌, ◌◃◌, some1, list1, list0, meaning}
+use Rattle.imap_grammar.specs.Rule.{Rule, tag_by, run1, alt, gives, test, raw as taken_by, nothing, never, opt, many, counted, ◌⨾◌, ◌▹◌, ◌◃◌, some1, list1, list0, meaning}
 use Rattle.imap_grammar.specs.Text.{Bytes}
 use Rattle.imap_grammar.specs.Pieces.{Pieces, written, Fits, ◌then◌, raw, each, separated, literal_of}
 use Rattle.imap_grammar.specs.Pieces.Piece.{Raw, Lit}
 use Rattle.imap_grammar.proofs.Yields.{Yields}
-use Rattle.imap_grammar.specs.ReadBack.{ReadsBack, Takes, Apart, Any, Starts, Closes, EndsItem, closes, ends_item, as_is}
+use Rattle.imap_grammar.specs.ReadBack.{ReadsBack, Takes, Apart, Any, BeginsWith, Closes, EndsItem, closes, ends_item, as_is}
 
 -- ---- pieces
 
@@ -23,11 +23,6 @@ fits-parts (Raw b ∷ p) q f = fits-parts p q f
 fits-parts (Lit b ∷ p) q f =
     let parts = fits-parts p q f.1 in
     ((f.0, parts.0), parts.1)
-
-pub fits-join : (p q : Pieces) → Fits p → Fits q → Fits (p ++ q)
-fits-join [] q f g = g
-fits-join (Raw b ∷ p) q f g = fits-join p q f g
-fits-join (Lit b ∷ p) q f g = (f.0, fits-join p q f.1 g)
 
 pub written_on : (p q : Pieces) (t : Bytes) → written (p ++ q) ++ t ≡ written p ++ (written q ++ t)
 written_on p q t = ap (λ l. l ++ t) (written-append p q) ∙ append_assoc (written p) (written q) t
@@ -348,13 +343,9 @@ module _ {A B : Type 0} {a : Rule A} {b : Rule B} {la : A → A} {ca : A → Pie
 
 -- ---- runs
 
-pub reads-run1 : (p : ℕ → Bool) → ReadsBack (run1 p) as_is raw (Starts (outside p))
+pub reads-run1 : (p : ℕ → Bool) → ReadsBack (run1 p) as_is raw (BeginsWith (outside p))
 unfolding meaning
 reads-run1 p = record { again = λ m v rest y f t g. ((raw_on v t, y.0.1, g), y.1) }
-
-pub reads-run0 : (p : ℕ → Bool) → ReadsBack (run0 p) as_is raw (Starts (outside p))
-unfolding meaning
-reads-run0 p = record { again = λ m v rest y f t g. (raw_on v t, y.1, g) }
 
 pub denies-raw : {A : Type 0} (a : Rule A) (m : Bytes) → Denies (meaning a) m → Denies (meaning (taken_by a)) m
 unfolding meaning
@@ -418,10 +409,6 @@ pub tag-on : (same : ℕ → ℕ → Bool) (k text rest : Bytes) → IsTrue (is_
 unfolding meaning
 tag-on same k text rest h = (refl, h)
 
-pub raw-has : {A : Type 0} (a : Rule A) (m v rest : Bytes) → (meaning (taken_by a)).yields m v rest → (x : A) × (meaning a).yields m x rest × (m ≡ v ++ rest)
-unfolding meaning
-raw-has a m v rest y = y
-
 pub before-has : {A B : Type 0} (a : Rule A) (b : Rule B) (m : Bytes) (v : A) (rest : Bytes) → (meaning (a ◃ b)).yields m v rest → (mid : Bytes) × (meaning a).yields m v mid
 unfolding meaning
 before-has a b m v rest y = (y.1.0, subst (λ x. (meaning a).yields m x y.1.0) y.2 y.1.1)
@@ -450,17 +437,17 @@ Begins k t = (u : Bytes) × (t ≡ k ∷ u)
 pub begun : {k : ℕ} (F : Bytes → Type 0) → ((u : Bytes) → F (k ∷ u)) → (t : Bytes) → Begins k t → F t
 begun F h t b = subst F (sym b.1) (h b.0)
 
-pub starts : (p q : ℕ → Bool) → ((b : ℕ) → p b ≡ true → q b ≡ true) → (t : Bytes) → Starts p t → Starts q t
+pub starts : (p q : ℕ → Bool) → ((b : ℕ) → p b ≡ true → q b ≡ true) → (t : Bytes) → BeginsWith p t → BeginsWith q t
 starts p q h [] s = absurd (false≢true s)
 starts p q h (b ∷ t) s = h b s
 
 closing : (q : ℕ → Bool) → q 41 ≡ true → q 13 ≡ true → (b : ℕ) → closes b ≡ true → q b ≡ true
 closing q h41 h13 b e = elim (or_cases (b == 41) (b == 13) e) [ inl x ↦ ap q (eqb-true b 41 x) ∙ h41 | inr x ↦ ap q (eqb-true b 13 x) ∙ h13 ]
 
-pub closes-in : (q : ℕ → Bool) → q 41 ≡ true → q 13 ≡ true → (t : Bytes) → Closes t → Starts q t
+pub closes-in : (q : ℕ → Bool) → q 41 ≡ true → q 13 ≡ true → (t : Bytes) → Closes t → BeginsWith q t
 closes-in q h41 h13 = starts closes q (closing q h41 h13)
 
-pub ends_item-in : (q : ℕ → Bool) → q 41 ≡ true → q 13 ≡ true → q 32 ≡ true → (t : Bytes) → EndsItem t → Starts q t
+pub ends_item-in : (q : ℕ → Bool) → q 41 ≡ true → q 13 ≡ true → q 32 ≡ true → (t : Bytes) → EndsItem t → BeginsWith q t
 ends_item-in q h41 h13 h32 = starts ends_item q
     (λ b e. elim (or_cases (closes b) (b == 32) e) [ inl two ↦ closing q h41 h13 b two | inr x ↦ ap q (eqb-true b 32 x) ∙ h32 ])
 

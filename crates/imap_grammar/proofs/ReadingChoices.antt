@@ -1,4 +1,4 @@
--- Choices read back of which one alternative reads what another yields, and fields that may be missing.
+-- Choices where one alternative reads back the values that another yielded; and fields that may be missing.
 use Rattle.std.proofs.Common.{◌≡◌, [], ◌++◌, Option, None, Some, sym, ◌∙◌, ap, subst, refl, inl, inr}
 use Rattle.imap_grammar.specs.Meaning.{Denies}
 use Rattle.imap_grammar.specs.Rule.{Rule, alt, meaning}

@@ -1,10 +1,9 @@
--- The forms read back the values of which a condition holds; and so do the steps.
+-- The forms read back the values of which a condition holds.
 use Rattle.std.proofs.Common.{◌≡◌, ◌++◌, sym, ◌∙◌, ap, subst, refl, inl, inr}
 use Rattle.imap_grammar.specs.Rule.{Rule, alt, gives, ◌⨾◌, ◌▹◌, ◌◃◌, meaning}
 use Rattle.imap_grammar.specs.Text.{Bytes}
 use Rattle.imap_grammar.specs.Pieces.{Pieces, written, Fits, ◌then◌}
-use Rattle.imap_grammar.specs.ReadBack.{ReadsBack, ReadsBackIf, StepsBackIf, Takes, Apart, Any}
-use Rattle.imap_grammar.proofs.Agreement.{agrees}
+use Rattle.imap_grammar.specs.ReadBack.{ReadsBack, ReadsBackIf, Takes, Apart, Any}
 use Rattle.imap_grammar.proofs.Reading.{written_on, fits-parts}
 
 -- where every value reads back
@@ -88,7 +87,3 @@ module _ {A : Type 0} {P : A → Type 0} {a b : Rule A} {l : A → A} {c : A →
           | inr yb ↦ inr (apart.denied m v rest yb.0 yb.1 fits t g, k.again m v rest yb.1 o fits t g)
         ];
   }
-
--- the same of the answer as a function
-pub steps-back : {V : Type 0} {P : V → Type 0} {r : Rule V} {l : V → V} {c : V → Pieces} → ReadsBackIf P r l c Any → StepsBackIf P r l c
-steps-back {r = r} {l = l} {c = c} h m v rest e o f t = (agrees r (written (c v) ++ t)).yields (l v) t (h.again m v rest ((agrees r m).yielded v rest e) o f t tt)

@@ -6,10 +6,10 @@ use Rattle.imap_grammar.specs.Meaning.{Denies, is_word, outside}
 use Rattle.imap_grammar.specs.Rule.{Rule, run0, list1, meaning}
 use Rattle.imap_grammar.specs.Text.{Bytes}
 use Rattle.imap_grammar.specs.Classes.{is_blank}
-use Rattle.imap_grammar.specs.Tags.{same_letter, sp, tag, word, blanks0, blanks1}
+use Rattle.imap_grammar.specs.Tags.{same_letter, sp, tag, word, blanks1}
 use Rattle.imap_grammar.specs.Lists.{list_of, nonempty_list_of}
 use Rattle.imap_grammar.specs.Pieces.{Pieces, words, space, list_text}
-use Rattle.imap_grammar.specs.ReadBack.{ReadsBack, Takes, Any, Starts}
+use Rattle.imap_grammar.specs.ReadBack.{ReadsBack, Takes, Any, BeginsWith}
 use Rattle.imap_grammar.proofs.Reading.{denies-tag, takes-tag, takes-seq, reads-before, reads-list1, reads-list0, takes-absent, ◌▹ʳ◌, Begins, begun}
 
 -- ---- words and blanks
@@ -25,18 +25,14 @@ takes-text k = takes-tag ◌==◌ (codes k) (codes k) (agrees_itself (codes k))
 pub takes-word : (k text : String) → is_word same_letter (codes k) (codes text) ≡ true → Takes (word k) (words text) Any
 takes-word k text h = takes-tag same_letter (codes k) (codes text) h
 
-pub takes-none : {F : Bytes → Type 0} (p : ℕ → Bool) → ((t : Bytes) → F t → Starts (outside p) t) → Takes (run0 p) [] F
+pub takes-none : {F : Bytes → Type 0} (p : ℕ → Bool) → ((t : Bytes) → F t → BeginsWith (outside p) t) → Takes (run0 p) [] F
 unfolding meaning
 takes-none p h = record { taken = λ f t g. ([], (refl, refl, h t g)) }
 
 -- one space, where no blank follows
-pub takes-blanks : Takes blanks1 space (Starts (outside is_blank))
+pub takes-blanks : Takes blanks1 space (BeginsWith (outside is_blank))
 unfolding meaning
 takes-blanks = record { taken = λ f t g. (32 ∷ [], ((refl, refl, g), omega arith)) }
-
-pub takes-blanks0 : Takes blanks0 space (Starts (outside is_blank))
-unfolding meaning
-takes-blanks0 = record { taken = λ f t g. (32 ∷ [], (refl, refl, g)) }
 
 -- ---- lists in brackets
 

@@ -7,7 +7,7 @@ use Rattle.std.specs.Char.{to_ascii_lowercase, to_ascii_uppercase}
 use Rattle.imap_grammar.specs.Meaning.{is_word, differs, outside, begins}
 use Rattle.imap_grammar.specs.Text.{Bytes}
 use Rattle.imap_grammar.specs.Tags.{same_letter}
-use Rattle.imap_grammar.specs.ReadBack.{Starts}
+use Rattle.imap_grammar.specs.ReadBack.{BeginsWith}
 
 -- ---- exact words
 
@@ -46,7 +46,7 @@ word_in_class p (x ∷ k) [] h a = absurd (false≢true a)
 word_in_class p (x ∷ k) (b ∷ c) h a = and_from _ _ (in_class p x b (and_parts _ _ h).0 (and_parts _ _ a).0) (word_in_class p k c (and_parts _ _ h).1 (and_parts _ _ a).1)
 
 -- a word that is denied at a run is denied behind the run wherever that ends
-pub differs-again : (p : ℕ → Bool) (k v rest t : Bytes) → has_cases p k ≡ true → differs same_letter k (v ++ rest) ≡ true → Starts (outside p) t → differs same_letter k (v ++ t) ≡ true
+pub differs-again : (p : ℕ → Bool) (k v rest t : Bytes) → has_cases p k ≡ true → differs same_letter k (v ++ rest) ≡ true → BeginsWith (outside p) t → differs same_letter k (v ++ t) ≡ true
 differs-again p [] v rest t h d e = absurd (false≢true d)
 differs-again p (x ∷ k) (b ∷ v) rest t h d e =
     elim (or_cases (not (same_letter x b)) (differs same_letter k (v ++ rest)) d) [

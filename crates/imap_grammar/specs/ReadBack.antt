@@ -1,10 +1,9 @@
 -- The two laws of a rule and the texts of its values: what it takes spells the value, and the canonical text gives the value again.
-use Rattle.std.specs.Prelude.{ℕ, Bool, ◌≡◌, ◌==◌, ◌||◌, ◌++◌, IsTrue, Ok}
+use Rattle.std.specs.Prelude.{ℕ, Bool, ◌≡◌, ◌==◌, ◌||◌, ◌++◌, IsTrue}
 use Rattle.imap_grammar.specs.Ascii.{carriage_return, space, close_parenthesis}
 use Rattle.imap_grammar.specs.Text.{Bytes}
 use Rattle.imap_grammar.specs.Meaning.{Denies, begins}
 use Rattle.imap_grammar.specs.Rule.{Rule, meaning}
-use Rattle.imap_grammar.specs.Step.{step}
 use Rattle.imap_grammar.specs.Pieces.{Pieces, written, Fits}
 
 -- a set of byte texts
@@ -22,7 +21,7 @@ pub record ReadsBack {V : Type 0} (r : Rule V) (lent : V → V) (canonical : V �
       → (meaning r).yields (written (canonical v) ++ t) (lent v) t
 
 -- Both.
-pub record Keeps {V : Type 0} (r : Rule V) (lent : V → V) (canonical : V → Pieces) (spells : V → Texts) (may_follow : Texts) : Type 0 where
+pub record SpellsAndReadsBack {V : Type 0} (r : Rule V) (lent : V → V) (canonical : V → Pieces) (spells : V → Texts) (may_follow : Texts) : Type 0 where
   pub spelled : Spells r spells
   pub back : ReadsBack r lent canonical may_follow
 
@@ -36,8 +35,8 @@ as_is v = v
 abbrev pub Any : Texts
 Any t = Unit {0}
 
-abbrev pub Starts : (ℕ → Bool) → Texts
-Starts p t = IsTrue (begins p t)
+abbrev pub BeginsWith : (ℕ → Bool) → Texts
+BeginsWith p t = IsTrue (begins p t)
 
 -- `)` or CR; also SP
 abbrev pub closes : ℕ → Bool
@@ -47,10 +46,10 @@ abbrev pub ends_item : ℕ → Bool
 ends_item b = (b == close_parenthesis) || (b == carriage_return) || (b == space)
 
 abbrev pub Closes : Texts
-Closes = Starts closes
+Closes = BeginsWith closes
 
 abbrev pub EndsItem : Texts
-EndsItem = Starts ends_item
+EndsItem = BeginsWith ends_item
 
 -- ---- parts of a proof
 
@@ -62,10 +61,7 @@ pub record Takes {V : Type 0} (r : Rule V) (pieces : Pieces) (may_follow : Texts
 pub record Apart {V W : Type 0} (a : Rule V) (b : Rule W) (canonical : W → Pieces) (may_follow : Texts) : Type 0 where
   pub denied : (m : Bytes) (v : W) (rest : Bytes) → Denies (meaning a) m → (meaning b).yields m v rest → Fits (canonical v) → (t : Bytes) → may_follow t → Denies (meaning a) (written (canonical v) ++ t)
 
--- The same as `ReadsBack` for the values of which P holds; and of the answer as a function.
+-- The same as `ReadsBack` for the values of which P holds.
 pub record ReadsBackIf {V : Type 0} (P : V → Type 0) (r : Rule V) (lent : V → V) (canonical : V → Pieces) (may_follow : Texts) : Type 0 where
   pub again : (m : Bytes) (v : V) (rest : Bytes) → (meaning r).yields m v rest → P v → Fits (canonical v) → (t : Bytes) → may_follow t
       → (meaning r).yields (written (canonical v) ++ t) (lent v) t
-
-abbrev pub StepsBackIf : {V : Type 0} → (V → Type 0) → Rule V → (V → V) → (V → Pieces) → Type 0
-StepsBackIf {V} P r lent canonical = (m : Bytes) (v : V) (rest : Bytes) → step r m ≡ Ok (rest, v) → P v → Fits (canonical v) → (t : Bytes) → step r (written (canonical v) ++ t) ≡ Ok (t, lent v)

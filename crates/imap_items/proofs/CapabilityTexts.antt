@@ -9,7 +9,7 @@ use Rattle.imap_grammar.specs.Rule.{Rule, meaning, ◌▹◌}
 use Rattle.imap_grammar.specs.Text.{Bytes}
 use Rattle.imap_grammar.specs.Tags.{word, names, sp, same_letter}
 use Rattle.imap_grammar.specs.Pieces.{written, words, ◌then◌}
-use Rattle.imap_grammar.specs.ReadBack.{ReadsBack, Spells, Keeps, Apart, Starts, Closes}
+use Rattle.imap_grammar.specs.ReadBack.{ReadsBack, Spells, SpellsAndReadsBack, Apart, BeginsWith, Closes}
 use Rattle.imap_grammar.specs.Spelling.{this}
 use Rattle.imap_grammar.proofs.Yields.{Yields, right_yields, many_yield, made_yields}
 use Rattle.imap_grammar.proofs.Reading.{raw_on, run1-has, test-has, denies-after, denies-tag, reads-gives, reads-test, reads-word, reads-many, reads-where, first, apart-alt, apart_forms, names-denied, tag-denied, takes-tag, closes-in, ◌▹ʳ◌}
@@ -24,7 +24,7 @@ use Rattle.imap_items.specs.Capabilities.{CapabilityValue, Imap4rev1, Auth, Atom
 use Rattle.imap_items.specs.CapabilityTexts.{canonical_capability, canonical_each, canonical_capabilities, spells_capability, spells_capability_data, spells_enabled_data}
 
 abbrev pub AtomEnds : Bytes → Type 0
-AtomEnds = Starts (outside is_atom_char)
+AtomEnds = BeginsWith (outside is_atom_char)
 
 atom-has : (m w rest : Bytes) → (meaning atom).yields m w rest → (m ≡ w ++ rest) × IsTrue (list_all is_atom_char w) × AtomEnds rest
 unfolding atom
@@ -147,14 +147,14 @@ pub capability_spells : Spells capability spells_capability
 unfolding capability
 capability_spells = spells-names Imap4rev1 (spells-word "IMAP4rev1") orˢ spells-gives auth_of (spells-word "AUTH=" ▹ˢ atom_spells) orˢ spells-gives atom_of atom_spells
 
-pub keeps_capability_data : Keeps capability_data (map lent_capability) canonical_capabilities spells_capability_data Closes
+pub keeps_capability_data : SpellsAndReadsBack capability_data (map lent_capability) canonical_capabilities spells_capability_data Closes
 unfolding capability_data spaced_capability
 keeps_capability_data = record {
   spelled = spells-tested (list_any is_revision) (spells-word "CAPABILITY" ▹ˢ spells-many (spells-tag " " ▹ˢ capability_spells));
   back = reads_capability_data;
 }
 
-pub keeps_enabled_data : Keeps enabled_data (map lent_capability) canonical_capabilities spells_enabled_data Closes
+pub keeps_enabled_data : SpellsAndReadsBack enabled_data (map lent_capability) canonical_capabilities spells_enabled_data Closes
 unfolding enabled_data spaced_name
 keeps_enabled_data = record {
   spelled = spells-word "ENABLED" ▹ˢ spells-many (spells-tag " " ▹ˢ spells-gives atom_of atom_spells);

@@ -10,7 +10,7 @@ use Rattle.imap_grammar.specs.Rule.{meaning, run1}
 use Rattle.imap_grammar.specs.Text.{Bytes, as_text, lent_text}
 use Rattle.imap_grammar.specs.Tags.{tag}
 use Rattle.imap_grammar.specs.Pieces.{raw, plain}
-use Rattle.imap_grammar.specs.ReadBack.{ReadsBack, Spells, Keeps, Any, Starts, EndsItem, ends_item, as_is}
+use Rattle.imap_grammar.specs.ReadBack.{ReadsBack, Spells, SpellsAndReadsBack, Any, BeginsWith, EndsItem, ends_item, as_is}
 use Rattle.imap_grammar.proofs.Reading.{raw_on, test-has, test-on, run1-has, first, reads-gives, reads-word, reads-follow, denies-after, denies-tag, denials, ends_item-in, names-denied, tag-denied}
 use Rattle.imap_grammar.proofs.ReadingWords.{exact, apart_byte, run-apart}
 use Rattle.imap_grammar.proofs.ReadingLists.{reads-list_of}
@@ -22,7 +22,7 @@ use Rattle.imap_items.specs.FlagTexts.{canonical_flag, canonical_flag_list, spel
 -- ---- a backslash and atom-chars
 
 pub backslashed-has : (m v rest : Bytes) → (meaning backslashed).yields m v rest
-    → (w : Bytes) × (v ≡ 92 ∷ w) × IsTrue (list_all is_atom_char w) × Starts (outside is_atom_char) rest × (m ≡ v ++ rest)
+    → (w : Bytes) × (v ≡ 92 ∷ w) × IsTrue (list_all is_atom_char w) × BeginsWith (outside is_atom_char) rest × (m ≡ v ++ rest)
 unfolding meaning backslashed
 backslashed-has m v rest y =
     let slash : 92 ∷ [] ≡ y.0.0 = exact (92 ∷ []) y.0.0 y.1.1.1 in
@@ -30,11 +30,11 @@ backslashed-has m v rest y =
     let text : v ≡ 92 ∷ y.0.1 = append_cancel_right v (92 ∷ y.0.1) rest (sym y.2 ∙ input) in
     (y.0.1, text, y.1.2.1, y.1.2.2, y.2)
 
-pub backslashed_on : (w t : Bytes) → list_all is_atom_char w ≡ true → Starts (outside is_atom_char) t → (meaning backslashed).yields ((92 ∷ w) ++ t) (92 ∷ w) t
+pub backslashed_on : (w t : Bytes) → list_all is_atom_char w ≡ true → BeginsWith (outside is_atom_char) t → (meaning backslashed).yields ((92 ∷ w) ++ t) (92 ∷ w) t
 unfolding meaning backslashed
 backslashed_on w t all g = ((92 ∷ [], w), (w ++ t, (refl, refl), (refl, all, g)), refl)
 
-pub reads_backslashed : ReadsBack backslashed as_is raw (Starts (outside is_atom_char))
+pub reads_backslashed : ReadsBack backslashed as_is raw (BeginsWith (outside is_atom_char))
 reads_backslashed = record {
   again = λ m v rest y f t g.
       let has = backslashed-has m v rest y in
@@ -138,11 +138,11 @@ pub flag_list_spells : Spells flag_list spells_flag_list
 unfolding flag_list flag_text
 flag_list_spells = spells-list_of (spells-gives as_text flag_perm_spells)
 
-pub keeps_flag : Keeps flag as_is canonical_flag spells_flag EndsItem
+pub keeps_flag : SpellsAndReadsBack flag as_is canonical_flag spells_flag EndsItem
 keeps_flag = record { spelled = flag_spells; back = reads_flag }
 
-pub keeps_flag_perm : Keeps flag_perm as_is canonical_flag spells_flag EndsItem
+pub keeps_flag_perm : SpellsAndReadsBack flag_perm as_is canonical_flag spells_flag EndsItem
 keeps_flag_perm = record { spelled = flag_perm_spells; back = reads_flag_perm }
 
-pub keeps_flag_list : Keeps flag_list (map lent_text) canonical_flag_list spells_flag_list EndsItem
+pub keeps_flag_list : SpellsAndReadsBack flag_list (map lent_text) canonical_flag_list spells_flag_list EndsItem
 keeps_flag_list = record { spelled = flag_list_spells; back = reads-follow reads_flag_list (λ t g. tt) }

@@ -5,7 +5,7 @@ use Rattle.imap_grammar.specs.Meaning.{Denies}
 use Rattle.imap_grammar.specs.Rule.{meaning}
 use Rattle.imap_grammar.specs.Text.{Bytes, Text, as_text, lent_text}
 use Rattle.imap_grammar.specs.Pieces.{written, plain, quoted_text}
-use Rattle.imap_grammar.specs.ReadBack.{ReadsBack, Spells, Keeps, Any, EndsItem, as_is}
+use Rattle.imap_grammar.specs.ReadBack.{ReadsBack, Spells, SpellsAndReadsBack, Any, EndsItem, as_is}
 use Rattle.imap_grammar.proofs.Reading.{raw_on, reads-follow, denials, ends_item-in, ◌▹ʳ◌}
 use Rattle.imap_grammar.proofs.ReadingLists.{takes-word, reads-list_of}
 use Rattle.imap_grammar.proofs.Spelling.{◌▹ˢ◌, ◌orˢ◌, spells-gives, spells-wider, spells-where, spells-word, spells-list_of}
@@ -47,17 +47,17 @@ label_list_spells : Spells gmail_label_list spells_label_list
 unfolding gmail_label_list gmail_labels
 label_list_spells = spells-word "X-GM-LABELS " ▹ˢ spells-list_of label_spells
 
-pub keeps_label_list : Keeps gmail_label_list (map lent_text) canonical_label_list spells_label_list EndsItem
+pub keeps_label_list : SpellsAndReadsBack gmail_label_list (map lent_text) canonical_label_list spells_label_list EndsItem
 keeps_label_list = record { spelled = label_list_spells; back = reads-follow reads_label_list (λ t g. tt) }
 
-pub keeps_msgid : Keeps gmail_msgid as_is canonical_msgid spells_msgid EndsItem
+pub keeps_msgid : SpellsAndReadsBack gmail_msgid as_is canonical_msgid spells_msgid EndsItem
 unfolding gmail_msgid
 keeps_msgid = record {
   spelled = spells-word "X-GM-MSGID " ▹ˢ spells-number_64;
   back = takes-word "X-GM-MSGID " "X-GM-MSGID " refl ▹ʳ reads-follow reads-number_64 (ends_item-in not_digit refl refl refl);
 }
 
-pub keeps_thrid : Keeps gmail_thrid as_is canonical_thrid spells_thrid EndsItem
+pub keeps_thrid : SpellsAndReadsBack gmail_thrid as_is canonical_thrid spells_thrid EndsItem
 unfolding gmail_thrid
 keeps_thrid = record {
   spelled = spells-word "X-GM-THRID " ▹ˢ spells-number_64;

@@ -7,7 +7,7 @@ use Rattle.imap_grammar.specs.Rule.{meaning}
 use Rattle.imap_grammar.specs.Text.{Bytes, Text, decoded, as_text, lent_text}
 use Rattle.imap_grammar.specs.Tags.{same_letter}
 use Rattle.imap_grammar.specs.Pieces.{literal_of}
-use Rattle.imap_grammar.specs.ReadBack.{ReadsBack, Spells, Keeps, Any, Closes}
+use Rattle.imap_grammar.specs.ReadBack.{ReadsBack, Spells, SpellsAndReadsBack, Any, Closes}
 use Rattle.imap_grammar.specs.Spelling.{spells_astring_text}
 use Rattle.imap_grammar.proofs.Reading.{reads-follow}
 use Rattle.imap_grammar.proofs.Spelling.{spells-gives, spells-wider}
@@ -66,5 +66,5 @@ pub mailbox_spells : Spells mailbox spells_mailbox
 unfolding mailbox
 mailbox_spells = spells-gives mailbox_of (spells-wider spells-astring_utf8 inbox_spells)
 
-pub keeps_mailbox : Keeps mailbox lent_text canonical_mailbox spells_mailbox Closes
+pub keeps_mailbox : SpellsAndReadsBack mailbox lent_text canonical_mailbox spells_mailbox Closes
 keeps_mailbox = record { spelled = mailbox_spells; back = reads-follow reads_mailbox (λ t g. tt) }

@@ -3,7 +3,7 @@ use Rattle.std.proofs.Common.{◌≡◌, ℕ, List, [], ◌∷◌, sym, ◌∙�
 use Rattle.std.proofs.lemmas.Str.{encodes-chars}
 use Rattle.imap_grammar.specs.Text.{Bytes, Text}
 use Rattle.imap_grammar.specs.Pieces.{lit}
-use Rattle.imap_grammar.specs.ReadBack.{ReadsBack, Spells, Keeps, Any, Closes, as_is}
+use Rattle.imap_grammar.specs.ReadBack.{ReadsBack, Spells, SpellsAndReadsBack, Any, Closes, as_is}
 use Rattle.imap_grammar.proofs.Yields.{Yields}
 use Rattle.imap_grammar.proofs.Reading.{reads-gives, reads-where, reads-follow}
 use Rattle.imap_grammar.proofs.Spelling.{spells-gives, spells-where}
@@ -36,5 +36,5 @@ pub rights_spell : Spells rights spells_rights
 unfolding rights
 rights_spell = spells-gives rights_in (spells-where astrings_yield spells-astring_utf8 (λ t c u h. (h.0, h.1, h.2 ∙ sym (text_kept t.bytes u))))
 
-pub keeps_rights : Keeps rights as_is canonical_rights spells_rights Closes
+pub keeps_rights : SpellsAndReadsBack rights as_is canonical_rights spells_rights Closes
 keeps_rights = record { spelled = rights_spell; back = reads-follow reads_rights (λ t g. tt) }

@@ -1,6 +1,6 @@
 -- Statuses read back.
 use Rattle.std.proofs.Common.{refl, codes}
-use Rattle.imap_grammar.specs.ReadBack.{ReadsBack, Spells, Keeps, Any, EndsItem, as_is}
+use Rattle.imap_grammar.specs.ReadBack.{ReadsBack, Spells, SpellsAndReadsBack, Any, EndsItem, as_is}
 use Rattle.imap_grammar.proofs.Reading.{first, reads-word, reads-follow, apart_forms}
 use Rattle.imap_grammar.proofs.Spelling.{◌orˢ◌, spells-names, spells-word}
 use Rattle.imap_items.specs.declared.types.statuses.Status.TheVariants.{Ok, No, Bad, PreAuth, Bye}
@@ -22,5 +22,5 @@ status_spells =
     spells-names Ok (spells-word "OK") orˢ spells-names No (spells-word "NO") orˢ spells-names Bad (spells-word "BAD")
     orˢ spells-names PreAuth (spells-word "PREAUTH") orˢ spells-names Bye (spells-word "BYE")
 
-pub keeps_status : Keeps status as_is canonical_status spells_status EndsItem
+pub keeps_status : SpellsAndReadsBack status as_is canonical_status spells_status EndsItem
 keeps_status = record { spelled = status_spells; back = reads-follow reads_status (λ t g. tt) }

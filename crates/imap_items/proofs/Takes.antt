@@ -1,12 +1,11 @@
--- That a rule takes at least a byte wherever it yields: of each public rule that does, and of the items of lists.
+-- That a rule takes at least a byte wherever it yields: of the items of lists, and of the rules that these stand on.
 use Rattle.std.proofs.Common.{◌≡◌, true, refl}
 use Rattle.imap_grammar.proofs.Consumption.{consumes}
 use Rattle.imap_bytes.proofs.Takes.{number_takes, sequence_range_takes, quoted_utf8_takes, astring_utf8_takes}
 use Rattle.imap_items.specs.Flags.{backslashed, backslashed_text, keyword, flag, flag_perm, flag_text}
 use Rattle.imap_items.specs.Gmail.{gmail_label}
 use Rattle.imap_items.specs.Capabilities.{spaced_capability, spaced_name}
-use Rattle.imap_items.specs.UidSets.{uid_set_member, uid_set}
-use Rattle.imap_items.specs.Mailboxes.{mailbox}
+use Rattle.imap_items.specs.UidSets.{uid_set_member}
 use Rattle.imap_items.specs.Rights.{rights}
 
 pub backslashed_text_takes : consumes backslashed_text ≡ true
@@ -44,14 +43,6 @@ spaced_name_takes = refl
 pub uid_set_member_takes : consumes uid_set_member ≡ true
 unfolding uid_set_member
 uid_set_member_takes = rw (sequence_range_takes, number_takes) refl
-
-pub uid_set_takes : consumes uid_set ≡ true
-unfolding uid_set
-uid_set_takes = rw uid_set_member_takes refl
-
-pub mailbox_takes : consumes mailbox ≡ true
-unfolding mailbox
-mailbox_takes = astring_utf8_takes
 
 pub rights_take : consumes rights ≡ true
 unfolding rights

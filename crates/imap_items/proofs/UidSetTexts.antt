@@ -9,7 +9,7 @@ use Rattle.imap_grammar.specs.Ranges.{Range, fresh}
 use Rattle.imap_grammar.specs.Spelling.{spells_ends}
 use Rattle.imap_grammar.specs.Tags.{tag}
 use Rattle.imap_grammar.specs.Pieces.{written}
-use Rattle.imap_grammar.specs.ReadBack.{ReadsBack, Spells, Keeps, Apart, Starts, Closes, as_is}
+use Rattle.imap_grammar.specs.ReadBack.{ReadsBack, Spells, SpellsAndReadsBack, Apart, BeginsWith, Closes, as_is}
 use Rattle.imap_grammar.proofs.Reading.{raw_on, reads-gives, reads-follow, reads-list1, reads-as, first, denies-gives, denies-after, closes-in}
 use Rattle.imap_grammar.proofs.ReadingLists.{takes-text}
 use Rattle.imap_grammar.proofs.Spelling.{◌orˢ◌, spells-gives, spells-wider, spells-list1, spells-tag}
@@ -23,11 +23,11 @@ use Rattle.imap_items.specs.UidSetTexts.{canonical_member, canonical_uid_set, sp
 
 -- no digit and no `:`
 abbrev RangeEnds : Bytes → Type 0
-RangeEnds = Starts (outside in_range)
+RangeEnds = BeginsWith (outside in_range)
 
 -- nor `,`
 abbrev pub SetEnds : Bytes → Type 0
-SetEnds = Starts (outside in_set)
+SetEnds = BeginsWith (outside in_set)
 
 ordered_on : (a b : ℕ) → a < 2 ^ 32 → b < 2 ^ 32 → (t : Bytes) → RangeEnds t → (meaning (gives in_order sequence_range)).yields (written (canonical_member (in_order (fresh a b))) ++ t) (in_order (fresh a b)) t
 unfolding meaning
@@ -87,5 +87,5 @@ pub uid_set_spells : Spells uid_set spells_uid_set
 unfolding uid_set
 uid_set_spells = spells-list1 (spells-tag ",") member_spells
 
-pub keeps_uid_set : Keeps uid_set as_is canonical_uid_set spells_uid_set Closes
+pub keeps_uid_set : SpellsAndReadsBack uid_set as_is canonical_uid_set spells_uid_set Closes
 keeps_uid_set = record { spelled = uid_set_spells; back = reads-follow reads_uid_set (closes-in (outside in_set) refl refl) }

@@ -5,5 +5,5 @@ use Rattle.imap_grammar.specs.Positions.{named_in}
 use Rattle.imap_grammar.specs.Text.{Text, decoded}
 
 -- the bytes decoded: those of a flag, which are UTF-8, as they are
-abbrev pub text_in : List ℕ → Span → Text
-text_in m s = decoded (named_in m s)
+abbrev pub decoded_in : List ℕ → Span → Text
+decoded_in m s = decoded (named_in m s)

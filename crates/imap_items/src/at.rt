@@ -1,6 +1,6 @@
 //! Readers that walk positions in one message, and tell texts by their spans, as those of `imap_bytes::at` do.
 //!
-//! Each reads m from p on as the reader of the same name reads a slice, and answers the position behind what it read in place of the rest. The condition of each is that p is at most m's length. It takes memory for the list alone.
+//! Each reads m from p on as the reader of the same name reads a slice, and answers the position behind what it read in place of the rest. The condition of each is that p is at most m's length. Each takes memory for its list alone.
 
 pub mod flags;
 pub mod gmail;

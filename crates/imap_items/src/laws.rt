@@ -16,7 +16,7 @@ ghost use Rattle.imap_items.specs.declared.types.rights.AclRight.{AclRight as Ri
 ghost use Rattle.imap_items.specs.Rights as rights;
 ghost use Rattle.imap_items.specs.Rights.{right_of, letter_of, IsShadowed, right_content};
 ghost use Rattle.imap_grammar.specs.Text.{lent_text};
-ghost use Rattle.imap_grammar.specs.ReadBack.{Keeps, Closes, EndsItem, as_is};
+ghost use Rattle.imap_grammar.specs.ReadBack.{SpellsAndReadsBack, Closes, EndsItem, as_is};
 ghost use Rattle.imap_items.specs.StatusTexts.{canonical_status, spells_status};
 ghost use Rattle.imap_items.specs.FlagTexts.{canonical_flag, spells_flag, canonical_flag_list, spells_flag_list};
 ghost use Rattle.imap_items.specs.GmailTexts.{canonical_label_list, spells_label_list, canonical_msgid, spells_msgid, canonical_thrid, spells_thrid};
@@ -85,16 +85,16 @@ pub fn conversions()
 /// literal.
 #[tactic(auto, using(crate::proofs::StatusTexts::keeps_status, crate::proofs::FlagTexts::keeps_flag, crate::proofs::FlagTexts::keeps_flag_perm, crate::proofs::FlagTexts::keeps_flag_list, crate::proofs::GmailTexts::keeps_label_list, crate::proofs::GmailTexts::keeps_msgid, crate::proofs::GmailTexts::keeps_thrid, crate::proofs::CapabilityTexts::keeps_capability_data, crate::proofs::CapabilityTexts::keeps_enabled_data, crate::proofs::UidSetTexts::keeps_uid_set, crate::proofs::MailboxTexts::keeps_mailbox, crate::proofs::RightTexts::keeps_rights))]
 pub fn read_back()
-    ensures status { Keeps statuses.status as_is canonical_status spells_status EndsItem }
-    ensures flag { Keeps flags.flag as_is canonical_flag spells_flag EndsItem }
-    ensures flag_perm { Keeps flags.flag_perm as_is canonical_flag spells_flag EndsItem }
-    ensures flag_list { Keeps flags.flag_list (map lent_text) canonical_flag_list spells_flag_list EndsItem }
-    ensures gmail_label_list { Keeps gmail.gmail_label_list (map lent_text) canonical_label_list spells_label_list EndsItem }
-    ensures gmail_msgid { Keeps gmail.gmail_msgid as_is canonical_msgid spells_msgid EndsItem }
-    ensures gmail_thrid { Keeps gmail.gmail_thrid as_is canonical_thrid spells_thrid EndsItem }
-    ensures capability_data { Keeps capabilities.capability_data (map lent_capability) canonical_capabilities spells_capability_data Closes }
-    ensures enabled_data { Keeps capabilities.enabled_data (map lent_capability) canonical_capabilities spells_enabled_data Closes }
-    ensures uid_set { Keeps uid_sets.uid_set as_is canonical_uid_set spells_uid_set Closes }
-    ensures mailbox { Keeps mailboxes.mailbox lent_text canonical_mailbox spells_mailbox Closes }
-    ensures rights { Keeps rights.rights as_is canonical_rights spells_rights Closes }
+    ensures status { SpellsAndReadsBack statuses.status as_is canonical_status spells_status EndsItem }
+    ensures flag { SpellsAndReadsBack flags.flag as_is canonical_flag spells_flag EndsItem }
+    ensures flag_perm { SpellsAndReadsBack flags.flag_perm as_is canonical_flag spells_flag EndsItem }
+    ensures flag_list { SpellsAndReadsBack flags.flag_list (map lent_text) canonical_flag_list spells_flag_list EndsItem }
+    ensures gmail_label_list { SpellsAndReadsBack gmail.gmail_label_list (map lent_text) canonical_label_list spells_label_list EndsItem }
+    ensures gmail_msgid { SpellsAndReadsBack gmail.gmail_msgid as_is canonical_msgid spells_msgid EndsItem }
+    ensures gmail_thrid { SpellsAndReadsBack gmail.gmail_thrid as_is canonical_thrid spells_thrid EndsItem }
+    ensures capability_data { SpellsAndReadsBack capabilities.capability_data (map lent_capability) canonical_capabilities spells_capability_data Closes }
+    ensures enabled_data { SpellsAndReadsBack capabilities.enabled_data (map lent_capability) canonical_capabilities spells_enabled_data Closes }
+    ensures uid_set { SpellsAndReadsBack uid_sets.uid_set as_is canonical_uid_set spells_uid_set Closes }
+    ensures mailbox { SpellsAndReadsBack mailboxes.mailbox lent_text canonical_mailbox spells_mailbox Closes }
+    ensures rights { SpellsAndReadsBack rights.rights as_is canonical_rights spells_rights Closes }
 {}

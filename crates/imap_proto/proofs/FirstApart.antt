@@ -11,7 +11,7 @@ use Rattle.imap_grammar.specs.Starts.{may_start}
 use Rattle.imap_grammar.specs.Text.{Bytes}
 use Rattle.imap_grammar.specs.Tags.{same_letter, word}
 use Rattle.imap_grammar.specs.Pieces.{Pieces, written}
-use Rattle.imap_grammar.specs.ReadBack.{Apart, Starts}
+use Rattle.imap_grammar.specs.ReadBack.{Apart, BeginsWith}
 use Rattle.imap_grammar.proofs.Starts.{denies}
 use Rattle.imap_grammar.proofs.Yields.{Yields}
 use Rattle.imap_grammar.proofs.Reading.{apart-where}
@@ -27,7 +27,7 @@ one_of (k ∷ ks) b = (b == k) || one_of ks b
 
 -- canonical text that begins with one of them
 abbrev pub StartsOneOf : {V : Type 0} → String → (V → Pieces) → V → Type 0
-StartsOneOf ks c v = (t : Bytes) → Starts (one_of (codes ks)) (written (c v) ++ t)
+StartsOneOf ks c v = (t : Bytes) → BeginsWith (one_of (codes ks)) (written (c v) ++ t)
 
 -- a rule that may start with none of them
 abbrev pub none_starts : {V : Type 0} → Rule V → Bytes → Bool
@@ -42,7 +42,7 @@ starts_none a (k ∷ ks) b h is =
       | inr later ↦ starts_none a ks b both.1 later
     ]
 
-pub denies_one_of : {V : Type 0} (a : Rule V) (ks : String) → none_starts a (codes ks) ≡ true → (m : Bytes) → Starts (one_of (codes ks)) m → Denies (meaning a) m
+pub denies_one_of : {V : Type 0} (a : Rule V) (ks : String) → none_starts a (codes ks) ≡ true → (m : Bytes) → BeginsWith (one_of (codes ks)) m → Denies (meaning a) m
 denies_one_of a ks h [] s = absurd (false≢true s)
 denies_one_of a ks h (b ∷ m) s = denies a b m (starts_none a (codes ks) b h s)
 
@@ -67,6 +67,6 @@ pub small_numbers : Yields (λ n. n < 2 ^ 32) number
 small_numbers = record { each = number_bound }
 
 -- a number before another word
-pub other_behind : {V : Type 0} (f : ℕ → V) (k : String) (n : ℕ) (t : Bytes) → n < 2 ^ 32 → Starts not_digit t → differs same_letter (codes k) t ≡ true → Denies (meaning (gives f (number ◃ word k))) (decimal n ++ t)
+pub other_behind : {V : Type 0} (f : ℕ → V) (k : String) (n : ℕ) (t : Bytes) → n < 2 ^ 32 → BeginsWith not_digit t → differs same_letter (codes k) t ≡ true → Denies (meaning (gives f (number ◃ word k))) (decimal n ++ t)
 unfolding meaning number
 other_behind f k n t small ends other = inr (n, t, number_on (2 ^ 32) n (omega arith) small t ends, other)

@@ -13,7 +13,7 @@ use Rattle.imap_grammar.specs.Answer.{Returned, Gives}
 use Rattle.imap_grammar.specs.Text.{Bytes, Text}
 use Rattle.imap_grammar.specs.Tags.{same_letter, word, crlf}
 use Rattle.imap_grammar.specs.Pieces.{Raw, Lit, Pieces, ◌then◌, words, raw, space, literal_text, separated, written, Fits}
-use Rattle.imap_grammar.specs.ReadBack.{Texts, ReadsBack, ReadsBackIf, Takes, Apart, Spells, Any, Starts, Closes}
+use Rattle.imap_grammar.specs.ReadBack.{Texts, ReadsBack, ReadsBackIf, Takes, Apart, Spells, Any, BeginsWith, Closes}
 use Rattle.imap_grammar.specs.Spelling.{exactly, ◌and◌, all_of}
 use Rattle.imap_grammar.proofs.Agreement.{agrees}
 use Rattle.imap_grammar.proofs.Yields.{Yields, either_yields, given_yields, made_yields, left_yields, right_yields}
@@ -56,7 +56,7 @@ use Rattle.imap_proto.specs.Responses.{ResponseValue, Capabilities, Continue, Ex
 use Rattle.imap_proto.specs.Lines.{continuation, data_of, status_data, expunge, fetch_of, fetched, fetch, vanished_of, vanished_data, state_datum, extension_datum, datum, is_space, spaces, ended_datum, data_line, is_tag_char, request_tag, done_of, tagged, response}
 use Rattle.imap_items.specs.StatusTexts.{canonical_status}
 use Rattle.imap_proto.specs.OutcomeTexts.{canonical_spaced, Ends}
-use Rattle.imap_proto.specs.LineTexts.{line_end, canonical_data, canonical_response, spells_data, ends_line, spells_response, Spelled, bracket, is_toolong, CanonicalReadsBack}
+use Rattle.imap_proto.specs.LineTexts.{line_end, canonical_data, canonical_response, spells_data, ends_line, spells_response, Spelled, bracket, is_too_long, CanonicalReadsBack}
 use Rattle.imap_proto.proofs.OutcomeTexts.{reads_outcome, reads_spaced, outcome_spells, spaced_spells}
 use Rattle.imap_proto.proofs.FirstApart.{one_of, StartsOneOf, denies_one_of, apart_first, digit_one_of, small_numbers, other_behind}
 
@@ -132,10 +132,10 @@ unfolding fetch
 fetch_starts = given_yields fetch_of (first_yields numbers_yield) (λ v small t. number_starts _ digit v.0 small (words " FETCH " then canonical_attributes v.1) t)
 
 capabilities_start : (ks : String) → one_of (codes ks) 67 ≡ true → Yields (StartsOneOf ks canonical_data) (gives Capabilities capability_data)
-capabilities_start ks h = given_yields Capabilities offered_yields (λ cs e t. subst (λ b. Starts (one_of (codes ks)) (written (cond b (words "CAPABILITY") (words "ENABLED") then canonical_each cs) ++ t)) (sym e) h)
+capabilities_start ks h = given_yields Capabilities offered_yields (λ cs e t. subst (λ b. BeginsWith (one_of (codes ks)) (written (cond b (words "CAPABILITY") (words "ENABLED") then canonical_each cs) ++ t)) (sym e) h)
 
 enabled_start : (ks : String) → one_of (codes ks) 69 ≡ true → Yields (StartsOneOf ks canonical_data) (gives Capabilities enabled_data)
-enabled_start ks h = given_yields Capabilities enabled_yields (λ cs e t. subst (λ b. Starts (one_of (codes ks)) (written (cond b (words "CAPABILITY") (words "ENABLED") then canonical_each cs) ++ t)) (sym e) h)
+enabled_start ks h = given_yields Capabilities enabled_yields (λ cs e t. subst (λ b. BeginsWith (one_of (codes ks)) (written (cond b (words "CAPABILITY") (words "ENABLED") then canonical_each cs) ++ t)) (sym e) h)
 
 abbrev annotations_data : Rule ResponseValue
 annotations_data = gives MailboxData metadata_solicited or gives MailboxData metadata_unsolicited
@@ -154,7 +154,7 @@ named_start ks c e m = either_yields (capabilities_start ks c) (either_yields (e
 
 -- ---- a number before another word
 
-no_datum_at_number : (n : ℕ) (t : Bytes) → n < 2 ^ 32 → Starts not_digit t → differs same_letter (codes " EXISTS") t ≡ true → differs same_letter (codes " RECENT") t ≡ true → Denies (meaning mailbox_datum) (decimal n ++ t)
+no_datum_at_number : (n : ℕ) (t : Bytes) → n < 2 ^ 32 → BeginsWith not_digit t → differs same_letter (codes " EXISTS") t ≡ true → differs same_letter (codes " RECENT") t ≡ true → Denies (meaning mailbox_datum) (decimal n ++ t)
 unfolding mailbox_datum flags exists list lsub mailbox_status recent search_rule labels gmail_label_list msgid gmail_msgid thrid gmail_thrid sort
 no_datum_at_number n t small ends no_exists no_recent =
     denies-alt _ _ _ (denies_one_of flags "0123456789" refl _ at_digit)
@@ -165,10 +165,10 @@ no_datum_at_number n t small ends no_exists no_recent =
     (denies-alt _ _ _ (other_behind Recent " RECENT" n t small ends no_recent)
     (denies_one_of (search_rule or labels or msgid or thrid or sort) "0123456789" refl _ at_digit))))))
   where
-    at_digit : Starts (one_of (codes "0123456789")) (decimal n ++ t)
+    at_digit : BeginsWith (one_of (codes "0123456789")) (decimal n ++ t)
     at_digit =
         let one = number_first n (omega (arith, small)) in
-        subst (λ ds. Starts (one_of (codes "0123456789")) (ds ++ t)) (sym one.2) (digit_one_of [] one.0 one.3)
+        subst (λ ds. BeginsWith (one_of (codes "0123456789")) (ds ++ t)) (sym one.2) (digit_one_of [] one.0 one.3)
 
 mailbox_expunge : Apart mailbox expunge canonical_data Ends
 unfolding expunge
@@ -361,7 +361,7 @@ reads_tagged =
 -- ---- a tag begins neither with `+` nor with `*`
 
 abbrev StartsTag : Bytes → Type 0
-StartsTag g = (q : Pieces) (t : Bytes) → Starts is_tag_char (written (raw g then q) ++ t)
+StartsTag g = (q : Pieces) (t : Bytes) → BeginsWith is_tag_char (written (raw g then q) ++ t)
 
 tag_starts : (g : Bytes) → list_all is_tag_char g ≡ true → 0 < length g → StartsTag g
 tag_starts [] all some q t = absurd (omega (arith, some))
@@ -376,13 +376,13 @@ tags_yield = record {
 }
 
 abbrev StartsTagged : ResponseValue → Type 0
-StartsTagged r = (t : Bytes) → Starts is_tag_char (written (canonical_response r) ++ t)
+StartsTagged r = (t : Bytes) → BeginsWith is_tag_char (written (canonical_response r) ++ t)
 
 tagged_starts : Yields StartsTagged tagged
 unfolding tagged
 tagged_starts = given_yields done_of (first_yields tags_yield) (λ v h t. h (space then canonical_status v.1.0 then canonical_spaced v.1.1 then line_end) t)
 
-no_tag_char : (k : ℕ) (ks m : Bytes) → is_tag_char k ≡ false → Starts is_tag_char m → differs ◌==◌ (k ∷ ks) m ≡ true
+no_tag_char : (k : ℕ) (ks m : Bytes) → is_tag_char k ≡ false → BeginsWith is_tag_char m → differs ◌==◌ (k ∷ ks) m ≡ true
 no_tag_char k ks [] h s = absurd (false≢true s)
 no_tag_char k ks (b ∷ m) h s = or_left (not (k == b)) (differs ◌==◌ ks m) (apart_byte is_tag_char k b h s)
 
@@ -408,11 +408,11 @@ neither : (a b : Bool) → (a || b) ≡ false → (a ≡ false) × (b ≡ false)
 neither true b h = absurd (false≢true (sym h))
 neither false b h = (refl, h)
 
-all_fit : (ps : Pieces) → list_any is_toolong ps ≡ false → Fits ps
+all_fit : (ps : Pieces) → list_any is_too_long ps ≡ false → Fits ps
 all_fit [] h = tt
 all_fit (Raw b ∷ ps) h = all_fit ps h
 all_fit (Lit b ∷ ps) h =
-    let parts = neither (not (nat_lt (length b) (2 ^ 32))) (list_any is_toolong ps) h in
+    let parts = neither (not (nat_lt (length b) (2 ^ 32))) (list_any is_too_long ps) h in
     (ltb-true (length b) (2 ^ 32) (not_false _ parts.0), all_fit ps parts.1)
   where
     not_false : (a : Bool) → not a ≡ false → a ≡ true

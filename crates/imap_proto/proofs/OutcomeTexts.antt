@@ -12,7 +12,7 @@ use Rattle.imap_grammar.specs.Rule.{meaning, opt}
 use Rattle.imap_grammar.specs.Text.{Bytes, Text, as_text}
 use Rattle.imap_grammar.specs.Tags.{sp}
 use Rattle.imap_grammar.specs.Pieces.{Pieces, written, Fits, ◌then◌, space, plain}
-use Rattle.imap_grammar.specs.ReadBack.{Texts, ReadsBack, ReadsBackIf, Spells, Starts}
+use Rattle.imap_grammar.specs.ReadBack.{Texts, ReadsBack, ReadsBackIf, Spells, BeginsWith}
 use Rattle.imap_grammar.specs.Spelling.{this, exactly, ◌and◌, spells_line_text}
 use Rattle.imap_grammar.proofs.Reading.{written_on, raw_on, fits-parts, reads-opt, reads-follow, denies-after, denies-tag, after-has, after-on, begun}
 use Rattle.imap_grammar.proofs.Spelling.{◌⨾ˢ◌, ◌▹ˢ◌, ◌orˢ◌, spells-gives, spells-wider, spells-nothing, spells-tag}
@@ -46,7 +46,7 @@ no_code = begun _ (λ u. no_bracket (13 ∷ u) refl)
 -- text of text-chars reads as itself
 text_on : (u t : Bytes) → IsUtf8 u → list_all is_text_char u ≡ true → Ends t → (meaning text).yields (u ++ t) (as_text u) t
 unfolding meaning text
-text_on u t utf8 all e = (u, (refl, all, begun (Starts (outside is_text_char)) (λ v. refl) t e), decoded_utf8 u utf8)
+text_on u t utf8 all e = (u, (refl, all, begun (BeginsWith (outside is_text_char)) (λ v. refl) t e), decoded_utf8 u utf8)
 
 text-has : (m : Bytes) (u : Text) (rest : Bytes) → (meaning text).yields m u rest → IsUtf8 u.bytes × (list_all is_text_char u.bytes ≡ true)
 unfolding meaning text

@@ -12,17 +12,17 @@ use Rattle.imap_proto.specs.Responses.{ResponseValue, response_value}
 use Rattle.imap_proto.specs.Owned.{owned_response}
 use Rattle.imap_proto.specs.Lines.{response}
 use Rattle.imap_proto.specs.Streams.{EndsAs, Splits, joined}
-use Rattle.imap_proto.specs.Feeds.{Takes, IsWhole, OneWhole}
+use Rattle.imap_proto.specs.Feeds.{TakesAll, IsWhole, OneWhole}
 use Rattle.imap_proto.proofs.Streams.{stable, nothing_waits, one_split, splits_go_on}
 
 -- ---- the responses that a feed has
 
 -- none is left
-pub takes_none : (held : Bytes) (before : List Response) (end : End) → EndsAs held end → Takes held before held before end
+pub takes_none : (held : Bytes) (before : List Response) (end : End) → EndsAs held end → TakesAll held before held before end
 takes_none held before end e = ([], sym (append-nil (map response_value before)), record { responses = refl; ends = e })
 
 -- one is taken, and then the others
-pub takes_one : (held mid left : Bytes) (before with_it after : List Response) (r : Response) (v : ResponseValue) (end : End) → (meaning response).yields held v mid → response_value r ≡ owned_response v → with_it ≡ before ++ r ∷ [] → Takes mid with_it left after end → Takes held before left after end
+pub takes_one : (held mid left : Bytes) (before with_it after : List Response) (r : Response) (v : ResponseValue) (end : End) → (meaning response).yields held v mid → response_value r ≡ owned_response v → with_it ≡ before ++ r ∷ [] → TakesAll mid with_it left after end → TakesAll held before left after end
 takes_one held mid left before with_it after r v end y is pushed t = (
   v ∷ t.0,
   t.1 ∙ ap (λ items. map response_value items ++ map owned_response t.0) pushed ∙ ap (λ k. k ++ map owned_response t.0) (map-append response_value before (r ∷ []))
@@ -46,7 +46,7 @@ read_nothing all = record { read = []; joins = refl; values = []; owned = refl; 
 pub joined_from : (pieces : List (Bor Bytes)) (i : ℕ) (piece : Bor Bytes) → i < length pieces → joined (map (λ p. p.now) (drop i pieces)) ≡ (get_or pieces i piece).now ++ joined (map (λ p. p.now) (drop (i + 1) pieces))
 joined_from pieces i piece lt = ap (λ ps. joined (map (λ (p : Bor Bytes). p.now) ps)) (drop_more pieces i piece lt)
 
-pub read_piece : (all coming piece held left : Bytes) (before after : List Response) (end stop : End) → ReadSoFar all (piece ++ coming) held before end → Takes (held ++ piece) before left after stop → ReadSoFar all coming left after stop
+pub read_piece : (all coming piece held left : Bytes) (before after : List Response) (end stop : End) → ReadSoFar all (piece ++ coming) held before end → TakesAll (held ++ piece) before left after stop → ReadSoFar all coming left after stop
 read_piece all coming piece held left before after end stop so_far t =
     record {
       read = so_far.read ++ piece;

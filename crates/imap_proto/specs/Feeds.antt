@@ -37,8 +37,8 @@ RefusesAs held Denied = Denies (meaning response) held
 RefusesAs held OutOfMemory = Unit {0}
 
 -- all responses of the split of what was held were put behind the others, with their texts owned
-abbrev pub Takes : Bytes → List Response → Bytes → List Response → End → Type 0
-Takes held before left after end = (vs : List ResponseValue) × (map response_value after ≡ map response_value before ++ map owned_response vs) × Splits held vs left end
+abbrev pub TakesAll : Bytes → List Response → Bytes → List Response → End → Type 0
+TakesAll held before left after end = (vs : List ResponseValue) × (map response_value after ≡ map response_value before ++ map owned_response vs) × Splits held vs left end
 
 -- the split of m, the texts of its responses owned
 abbrev pub IsWhole : Bytes → Whole → Type 0

@@ -91,12 +91,12 @@ bracket (Data status o) = bracketed o
 bracket r = false
 
 -- a literal of more than 4,294,967,295 bytes, whose length no number tells
-abbrev pub is_toolong : Piece → Bool
-is_toolong (Raw b) = false
-is_toolong (Lit b) = not (nat_lt (length b) (2 ^ 32))
+abbrev pub is_too_long : Piece → Bool
+is_too_long (Raw b) = false
+is_too_long (Lit b) = not (nat_lt (length b) (2 ^ 32))
 
-abbrev pub toolong : ResponseValue → Bool
-toolong r = list_any is_toolong (canonical_response r)
+abbrev pub too_long : ResponseValue → Bool
+too_long r = list_any is_too_long (canonical_response r)
 
 -- ---- the law of the whole grammar
 
@@ -105,7 +105,7 @@ toolong r = list_any is_toolong (canonical_response r)
 abbrev pub CanonicalReadsBack : Type 0
 CanonicalReadsBack =
     (m : Bytes) (r : ResponseValue) (rest : Bytes) → (meaning response).yields m r rest
-    → bracket r ≡ false → toolong r ≡ false
+    → bracket r ≡ false → too_long r ≡ false
     → (t : Bytes) → (meaning response).yields (canonical_bytes r ++ t) (lent_response r) t
 
 -- the same response, whichever texts are borrowed

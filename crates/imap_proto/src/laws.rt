@@ -51,7 +51,7 @@ pub fn streams()
 
 /// What the grammar takes spells the response. On the canonical text of a response that it yields, the grammar yields
 /// that response again, with all texts borrowed, and what follows the text is left whole, whatever it is. Two kinds are
-/// excepted: `bracket`, whose information begins with `[` as a code does, and `toolong`, with a text too long to be
+/// excepted: `bracket`, whose information begins with `[` as a code does, and `too_long`, with a text too long to be
 /// written as a literal. A response with its texts borrowed is the same response.
 #[tactic(auto, using(crate::proofs::LineTexts::response_spells, crate::proofs::LineTexts::canonical_reads_back, crate::proofs::LentTwice::lent_is_same))]
 pub fn read_back()

@@ -5,7 +5,7 @@
 ghost use Rattle.std.specs.Prelude.{◌≡◌, ◌≤◌, ◌<◌, ◌+◌, ◌++◌, [], List, ℕ, length, map, drop, IfOk, IfErr, IfSome, OnOk, OnErr};
 ghost use Rattle.imap_proto.specs.declared.stream.FeedError.TheVariants.{OutOfMemory};
 ghost use Rattle.imap_proto.specs.Streams.{joined};
-ghost use Rattle.imap_proto.specs.Feeds.{Gave, IsOwnedFront, WaitsFor, RefusesAs, Takes, IsWhole};
+ghost use Rattle.imap_proto.specs.Feeds.{Gave, IsOwnedFront, WaitsFor, RefusesAs, TakesAll, IsWhole};
 
 use crate::response::Response;
 use imap_bytes::at::Reached;
@@ -171,9 +171,9 @@ pub struct Whole {
     pub end: End,
 }
 
-// Takes the responses that a feed has, puts them behind the others, and tells why it gives no more.
+// TakesAll the responses that a feed has, puts them behind the others, and tells why it gives no more.
 fn take_all(feed: &mut Feed, responses: &mut Vec<Response<'static>>) -> Result<End, AllocError>
-    ensures { IfOk result (Takes feed.old responses.old.items feed.new responses.new.items) }
+    ensures { IfOk result (TakesAll feed.old responses.old.items feed.new responses.new.items) }
 {
     'responses: loop {
         match feed.next() {

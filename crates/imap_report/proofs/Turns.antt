@@ -11,13 +11,13 @@ use Rattle.imap_proto.specs.declared.stream.End.TheVariants as stop
 use Rattle.imap_proto.specs.Responses.{ResponseValue, response_value, Capabilities, Continue, Done, Data, Expunge, Vanished, Fetch, MailboxData, Quota, QuotaRoot, Id, Acl, ListRights, MyRights}
 use Rattle.imap_proto.specs.Owned.{owned_response}
 use Rattle.imap_proto.specs.Lines.{response}
-use Rattle.imap_proto.specs.Streams.{EndsAs}
+use Rattle.imap_proto.specs.Streams.{EndsAs, Waiting as Waits}
 use Rattle.imap_proto.specs.Feeds.{Gave}
 use Rattle.imap_proto.proofs.Streams.{stable, shorter, some_split}
 use Rattle.imap_report.specs.declared.outcome.Finish.{Finish}
 use Rattle.imap_report.specs.declared.outcome.Finish.TheVariants.{End, Waiting, Denied}
 use Rattle.imap_report.specs.Devices.{AppendsFront}
-use Rattle.imap_report.specs.Report.{name_of, line, Waits, IsReport, next, ends, waits, denied, Told, Writes, Begins}
+use Rattle.imap_report.specs.Report.{name_of, line, IsReport, next, ends, waits, denied, Told, Writes, Begins}
 use Rattle.imap_report.proofs.Bytes.{appends_both, appends_nothing}
 
 -- ---- last lines

@@ -7,7 +7,7 @@ use Rattle.imap_grammar.specs.Rule.{meaning}
 use Rattle.imap_grammar.specs.Meaning.{Denies}
 use Rattle.imap_proto.specs.Responses.{ResponseValue, Capabilities, Continue, Done, Data, Expunge, Vanished, Fetch, MailboxData, Quota, QuotaRoot, Id, Acl, ListRights, MyRights}
 use Rattle.imap_proto.specs.Lines.{response}
-use Rattle.imap_proto.specs.Streams.{EndsAs}
+use Rattle.imap_proto.specs.Streams.{EndsAs, Waiting as Waits}
 use Rattle.imap_proto.specs.declared.stream.End.{End as Why}
 use Rattle.std.specs.String.{string_bytes}
 use Rattle.imap_grammar.specs.Ascii.{line_feed, space}
@@ -36,9 +36,6 @@ name_of (MyRights rights) = codes "myrights"
 -- a name, SP, a number and LF
 abbrev pub line : List ℕ → ℕ → List ℕ
 line name n = name ++ (space ∷ decimal n) ++ (line_feed ∷ [])
-
-abbrev pub Waits : List ℕ → Type 0
-Waits m = ((v : ResponseValue) (rest : List ℕ) → ¬ ((meaning response).yields m v rest)) × (¬ (Denies (meaning response) m))
 
 -- the text is the report of m, and the last line is of this kind
 pub data IsReport : List ℕ → List ℕ → Finish → Type 0 where

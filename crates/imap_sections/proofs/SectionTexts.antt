@@ -8,7 +8,7 @@ use Rattle.imap_grammar.specs.Text.{Bytes}
 use Rattle.imap_grammar.specs.Classes.{is_digit}
 use Rattle.imap_grammar.specs.Tags.{same_letter, tag, word, names}
 use Rattle.imap_grammar.specs.Pieces.{Pieces, written, words, ◌then◌, number_text, each}
-use Rattle.imap_grammar.specs.ReadBack.{ReadsBack, Spells, Keeps, Apart, Any, Starts, Closes, closes, as_is}
+use Rattle.imap_grammar.specs.ReadBack.{ReadsBack, Spells, SpellsAndReadsBack, Apart, Any, BeginsWith, Closes, closes, as_is}
 use Rattle.imap_grammar.proofs.Yields.{Yields, right_yields, named_yields, given_yields}
 use Rattle.imap_grammar.proofs.Reading.{reads-word, reads-gives, reads-opt, reads-before, reads-seq, reads-as, first, starts, first_yields, tag-on, apart-names, apart-alt, apart_forms, denials, denies-after, denies-tag, Begins, begun, closes-in, reads-follow, ◌▹ʳ◌, reads-list1_until, apart-where, denies-behind}
 use Rattle.imap_grammar.proofs.ReadingLists.{takes-text}
@@ -29,9 +29,9 @@ abbrev pub ends_section : ℕ → Bool
 ends_section b = (b == 93) || closes b
 
 abbrev pub EndsSection : Bytes → Type 0
-EndsSection = Starts ends_section
+EndsSection = BeginsWith ends_section
 
-in_all : (q : ℕ → Bool) → q 93 ≡ true → q 41 ≡ true → q 13 ≡ true → (t : Bytes) → EndsSection t → Starts q t
+in_all : (q : ℕ → Bool) → q 93 ≡ true → q 41 ≡ true → q 13 ≡ true → (t : Bytes) → EndsSection t → BeginsWith q t
 in_all q h93 h41 h13 = starts ends_section q (λ b e. elim (or_cases (b == 93) (closes b) e) [
   | inl x ↦ ap q (eqb-true b 93 x) ∙ h93
   | inr x ↦ closes-in q h41 h13 (b ∷ []) x
@@ -81,14 +81,14 @@ reads_section_text = first reads_section_msgtext (search apart_forms depth 20) (
 
 -- no further number follows
 abbrev pub EndsPart : Bytes → Type 0
-EndsPart t = Starts not_digit t × Denies (meaning (tag "." ▹ number)) t
+EndsPart t = BeginsWith not_digit t × Denies (meaning (tag "." ▹ number)) t
 
 pub reads_section_part : ReadsBack section_part as_is canonical_part EndsPart
 unfolding section_part
 reads_section_part = reads-as (reads-list1_until (takes-text ".") reads-number (λ y t. tt) (λ t. refl) (λ t g. g.0) (λ t g. g.1)) map-id
 
 -- a word behind a dot is no number
-word_ends : (t : Bytes) → Starts not_digit t → EndsPart (46 ∷ t)
+word_ends : (t : Bytes) → BeginsWith not_digit t → EndsPart (46 ∷ t)
 word_ends t g = (refl, denies-behind (tag ".") number (46 ∷ t) (46 ∷ []) t (tag-on ◌==◌ (codes ".") (46 ∷ []) t refl) (denies-number t g))
 
 text_ends : (what : MessageSection) (t : Bytes) → EndsPart (46 ∷ (written (canonical_text what) ++ t))
@@ -116,10 +116,10 @@ reads_part_path =
 
 -- a part begins with a digit
 abbrev PartStarts : List ℕ → Type 0
-PartStarts numbers = (q : Pieces) (t : Bytes) → Starts is_digit (written (canonical_part numbers then q) ++ t)
+PartStarts numbers = (q : Pieces) (t : Bytes) → BeginsWith is_digit (written (canonical_part numbers then q) ++ t)
 
 abbrev PathStarts : PathValue → Type 0
-PathStarts path = (t : Bytes) → Starts is_digit (written (canonical_path path) ++ t)
+PathStarts path = (t : Bytes) → BeginsWith is_digit (written (canonical_path path) ++ t)
 
 part_yields : Yields PartStarts section_part
 unfolding section_part
@@ -133,7 +133,7 @@ path_yields = given_yields (λ (v : List ℕ × Option MessageSection). Part v.0
 
 ruleset at_digit = (denies-word_at_digit, denials)
 
-text_denied : (m : Bytes) → Starts is_digit m → Denies (meaning (gives Full section_msgtext)) m
+text_denied : (m : Bytes) → BeginsWith is_digit m → Denies (meaning (gives Full section_msgtext)) m
 unfolding section_msgtext header_fields fields_word
 text_denied m g = search at_digit depth 20
 
@@ -210,20 +210,20 @@ section_spells = spells-tag "[" ▹ˢ (spells-gives Some section_spec_spells or�
 closes_section : (t : Bytes) → Closes t → EndsSection t
 closes_section = closes-in ends_section refl refl
 
-pub keeps_section_msgtext : Keeps section_msgtext as_is canonical_text spells_message_text Closes
+pub keeps_section_msgtext : SpellsAndReadsBack section_msgtext as_is canonical_text spells_message_text Closes
 keeps_section_msgtext = record { spelled = section_msgtext_spells; back = reads-follow reads_section_msgtext closes_section }
 
-pub keeps_section_text : Keeps section_text as_is canonical_text spells_text Closes
+pub keeps_section_text : SpellsAndReadsBack section_text as_is canonical_text spells_text Closes
 keeps_section_text = record { spelled = section_text_spells; back = reads-follow reads_section_text closes_section }
 
-pub keeps_section_part : Keeps section_part as_is canonical_part spells_part Closes
+pub keeps_section_part : SpellsAndReadsBack section_part as_is canonical_part spells_part Closes
 keeps_section_part = record {
   spelled = section_part_spells;
   back = reads-follow reads_section_part (λ t g. let ends = closes_section t g in (in_all not_digit refl refl refl t ends, denies-after _ _ _ (dot_denied t ends)));
 }
 
-pub keeps_section_spec : Keeps section_spec as_is canonical_path spells_path Closes
+pub keeps_section_spec : SpellsAndReadsBack section_spec as_is canonical_path spells_path Closes
 keeps_section_spec = record { spelled = section_spec_spells; back = reads-follow reads_section_spec closes_section }
 
-pub keeps_section : Keeps section as_is canonical_section spells_section Closes
+pub keeps_section : SpellsAndReadsBack section as_is canonical_section spells_section Closes
 keeps_section = record { spelled = section_spells; back = reads-follow reads_section (λ t g. tt) }

@@ -126,7 +126,7 @@ impl<'b, 'a> BodyStructParser<'b, 'a> {
         &self,
         f: F,
     ) -> Result<Option<Vec<u32>>, AllocError>
-        requires may { (i : ℕ) (part : _) → slice_get self.now.parts.items i ≡ Some part → F.pre f part.body }
+        requires { (i : ℕ) (part : _) → slice_get self.now.parts.items i ≡ Some part → F.pre f part.body }
         ensures { IfOk result (λ found. FindsFirst (λ p. FnReturnsAt F.Fn f p.body.now) (λ p. p.path.items) self.now.parts.items (option_map (λ v. v.items) found)) }
     {
         let Some(part) = self.first(f) else {
@@ -137,7 +137,7 @@ impl<'b, 'a> BodyStructParser<'b, 'a> {
 
     // The first part at whose body f holds.
     fn first<F: Fn(&BodyStructure<'a>) -> bool>(&self, f: F) -> Option<&Part<'b, 'a>>
-        requires may { (i : ℕ) (part : _) → slice_get self.now.parts.items i ≡ Some part → F.pre f part.body }
+        requires { (i : ℕ) (part : _) → slice_get self.now.parts.items i ≡ Some part → F.pre f part.body }
         ensures { FindsFirst (λ p. FnReturnsAt F.Fn f p.body.now) (λ p. p.path.items) self.now.parts.items (option_map (λ p. p.now.path.items) result) }
     {
         for part in &self.parts {

@@ -4,7 +4,7 @@ use Rattle.imap_grammar.specs.Meaning.{Denies}
 use Rattle.imap_grammar.specs.Rule.{Rule, meaning}
 use Rattle.imap_grammar.specs.Text.{Bytes}
 use Rattle.imap_grammar.specs.Pieces.{Pieces, written, space, ◌then◌, each}
-use Rattle.imap_grammar.specs.ReadBack.{ReadsBack, Spells, Keeps, Apart, Any, Closes}
+use Rattle.imap_grammar.specs.ReadBack.{ReadsBack, Spells, SpellsAndReadsBack, Apart, Any, Closes}
 use Rattle.imap_grammar.specs.Spelling.{each_of}
 use Rattle.imap_grammar.proofs.Reading.{first, reads-seq, reads-gives, reads-same, reads-never, reads-before, reads-some1, reads-follow, apart-gives, apart-alt, denies-gives, denials, denies-after, denies-tag, Begins, begun, ◌⨾ʳ◌, ◌▹ʳ◌}
 use Rattle.imap_grammar.proofs.ReadingLists.{takes-text, takes-word}
@@ -168,9 +168,9 @@ body_spells (suc level) = spells-tag "(" ▹ˢ type_spells (body level) (body_sp
 
 -- ---- both laws
 
-pub keeps_body : (level : ℕ) → Keeps (body level) lent_body canonical_body spells_body Closes
+pub keeps_body : (level : ℕ) → SpellsAndReadsBack (body level) lent_body canonical_body spells_body Closes
 keeps_body level = record { spelled = body_spells level; back = reads-follow (reads_body level) (λ t g. tt) }
 
-pub keeps_body_structure : Keeps body_structure lent_body canonical_body spells_body Closes
+pub keeps_body_structure : SpellsAndReadsBack body_structure lent_body canonical_body spells_body Closes
 unfolding body_structure
 keeps_body_structure = keeps_body 100

@@ -7,7 +7,7 @@ use Rattle.imap_grammar.specs.Lists.{nonempty_list_of, flat}
 use Rattle.imap_grammar.specs.Text.{Bytes, Text, lent_text}
 use Rattle.imap_grammar.specs.Tags.{sp}
 use Rattle.imap_grammar.specs.Pieces.{Pieces, Fits, written, words, space, ◌then◌, each, separated, ntext, literal_text, list_text}
-use Rattle.imap_grammar.specs.ReadBack.{Texts, ReadsBack, Spells, Keeps, Apart, Any, Starts, Closes}
+use Rattle.imap_grammar.specs.ReadBack.{Texts, ReadsBack, Spells, SpellsAndReadsBack, Apart, Any, BeginsWith, Closes}
 use Rattle.imap_grammar.specs.Spelling.{exactly, ◌and◌, each_of, with_between, spells_ntext}
 use Rattle.imap_grammar.proofs.Reading.{reads-alt, reads-gives, reads-same, reads-never, reads-opt, reads-follow, apart-gives, apart-alt, denials, denies-gives, denies-after, closes-in, after-on, tag-on, gives-has, gives-on, written_on, ◌⨾ʳ◌, ◌▹ʳ◌, ◌◃ʳ◌}
 use Rattle.imap_grammar.proofs.ReadingLists.{reads-nonempty_list_of, takes-text, list_on_one}
@@ -107,14 +107,14 @@ lent_members : (es : List ExtensionValue) → lent_extensions (extensions_of es)
 lent_members [] = refl
 lent_members (e ∷ es) = ap (λ x. one_extension (lent_extension e) x) (lent_members es)
 
-text_no_digit : (s : Option Text) (t : Bytes) → Starts not_digit (written (ntext s) ++ t)
+text_no_digit : (s : Option Text) (t : Bytes) → BeginsWith not_digit (written (ntext s) ++ t)
 text_no_digit None t = refl
 text_no_digit (Some b) t = refl
 
-number_denied : (m : Bytes) → Starts not_digit m → Denies (meaning (gives Num number)) m
+number_denied : (m : Bytes) → BeginsWith not_digit m → Denies (meaning (gives Num number)) m
 number_denied m s = denies-gives Num number m (denies-number m s)
 
-number_apart : (level : ℕ) → Apart (gives Num number) (extension_list level) canonical_extension (Starts not_digit)
+number_apart : (level : ℕ) → Apart (gives Num number) (extension_list level) canonical_extension (BeginsWith not_digit)
 unfolding meaning extension_list bracketed_extensions
 number_apart zero = record { denied = λ m v rest d y f t g. absurd y }
 number_apart (suc level) = apart-gives _ listed (λ es t g. number_denied _ refl)
@@ -122,12 +122,12 @@ number_apart (suc level) = apart-gives _ listed (λ es t g. number_denied _ refl
 listed_denied : (t : Bytes) → Denies (meaning (gives Str nstring_utf8)) (40 ∷ t)
 listed_denied t = denies-gives Str nstring_utf8 (40 ∷ t) (text_denied t)
 
-text_apart : (level : ℕ) → Apart (gives Str nstring_utf8) (extension_list level) canonical_extension (Starts not_digit)
+text_apart : (level : ℕ) → Apart (gives Str nstring_utf8) (extension_list level) canonical_extension (BeginsWith not_digit)
 unfolding meaning extension_list bracketed_extensions
 text_apart zero = record { denied = λ m v rest d y f t g. absurd y }
 text_apart (suc level) = apart-gives _ listed (λ es t g. listed_denied _)
 
-over : (level : ℕ) → ReadsBack (extension_list level) lent_extension canonical_extension Any → ReadsBack (extension level) lent_extension canonical_extension (Starts not_digit)
+over : (level : ℕ) → ReadsBack (extension_list level) lent_extension canonical_extension Any → ReadsBack (extension level) lent_extension canonical_extension (BeginsWith not_digit)
 unfolding extension_over
 over level lists =
     reads-alt (reads-gives Num reads-number (λ x. refl))
@@ -143,7 +143,7 @@ reads_extension_list (suc level) =
     (λ es. ap (λ p. words "(" then p then words ")") (sym (same_members es))))
     (λ es. ap Listed (sym (lent_members es)))
 
-pub reads_extension : (level : ℕ) → ReadsBack (extension level) lent_extension canonical_extension (Starts not_digit)
+pub reads_extension : (level : ℕ) → ReadsBack (extension level) lent_extension canonical_extension (BeginsWith not_digit)
 reads_extension level = over level (reads_extension_list level)
 
 further_spell : (es : List ExtensionValue) (c : Bytes) → each_of (λ e. exactly " " and spells_extension e) es c → spells_further (extensions_of es) c
@@ -233,21 +233,21 @@ ext_mpart_spells =
 
 -- ---- both laws
 
-pub keeps_disposition : Keeps body_fld_dsp (option_map lent_disposition) canonical_disposition spells_disposition Closes
+pub keeps_disposition : SpellsAndReadsBack body_fld_dsp (option_map lent_disposition) canonical_disposition spells_disposition Closes
 keeps_disposition = record { spelled = disposition_spells; back = reads-follow reads_disposition (λ t g. tt) }
 
-pub keeps_language : Keeps body_fld_lang lent_languages canonical_languages spells_languages Closes
+pub keeps_language : SpellsAndReadsBack body_fld_lang lent_languages canonical_languages spells_languages Closes
 keeps_language = record { spelled = language_spells; back = reads-follow reads_language (λ t g. tt) }
 
-pub keeps_extension : (level : ℕ) → Keeps (extension level) lent_extension canonical_extension spells_extension Closes
+pub keeps_extension : (level : ℕ) → SpellsAndReadsBack (extension level) lent_extension canonical_extension spells_extension Closes
 keeps_extension level = record { spelled = extension_spells level; back = reads-follow (reads_extension level) (closes-in not_digit refl refl) }
 
-pub keeps_body_extension : Keeps body_extension lent_extension canonical_extension spells_extension Closes
+pub keeps_body_extension : SpellsAndReadsBack body_extension lent_extension canonical_extension spells_extension Closes
 unfolding body_extension
 keeps_body_extension = keeps_extension 100
 
-pub keeps_ext_1part : Keeps body_ext_1part lent_ext_1part canonical_ext_1part spells_ext_1part Closes
+pub keeps_ext_1part : SpellsAndReadsBack body_ext_1part lent_ext_1part canonical_ext_1part spells_ext_1part Closes
 keeps_ext_1part = record { spelled = ext_1part_spells; back = reads_ext_1part }
 
-pub keeps_ext_mpart : Keeps body_ext_mpart lent_ext_mpart canonical_ext_mpart spells_ext_mpart Closes
+pub keeps_ext_mpart : SpellsAndReadsBack body_ext_mpart lent_ext_mpart canonical_ext_mpart spells_ext_mpart Closes
 keeps_ext_mpart = record { spelled = ext_mpart_spells; back = reads_ext_mpart }

@@ -4,7 +4,7 @@ use Rattle.imap_grammar.specs.Meaning.{Denies}
 use Rattle.imap_grammar.specs.Rule.{Rule, meaning, gives, nothing, ◌▹◌, ◌or◌}
 use Rattle.imap_grammar.specs.Text.{Bytes}
 use Rattle.imap_grammar.specs.Pieces.{Pieces, ◌then◌, words, written}
-use Rattle.imap_grammar.specs.ReadBack.{Texts, ReadsBack, Spells, Keeps, Apart, Any, Starts, Closes}
+use Rattle.imap_grammar.specs.ReadBack.{Texts, ReadsBack, Spells, SpellsAndReadsBack, Apart, Any, BeginsWith, Closes}
 use Rattle.imap_grammar.specs.Spelling.{exactly, ◌and◌, in_any_case}
 use Rattle.imap_grammar.proofs.Yields.{Yields, either_yields, named_yields, left_yields, right_yields}
 use Rattle.imap_grammar.proofs.Reading.{first, reads-word, reads-gives, reads-where, reads-follow, apart_forms, denies-after, denies-tag, closes-in, ◌⨾ʳ◌, ◌▹ʳ◌, ◌◃ʳ◌, apart-where}
@@ -128,7 +128,7 @@ encoding_spells = spells-names SevenBit (spells-wider (spells-word "NIL") (λ v 
 
 -- ---- fields
 
-pub reads_fields : ReadsBack body_fields lent_fields canonical_fields (Starts not_digit)
+pub reads_fields : ReadsBack body_fields lent_fields canonical_fields (BeginsWith not_digit)
 unfolding body_fields
 reads_fields =
     let text = reads_spaced reads-nstring_utf8 in
@@ -142,11 +142,11 @@ fields_spell =
 
 -- ---- both laws
 
-pub keeps_params : Keeps body_fld_param lent_params canonical_params spells_params Closes
+pub keeps_params : SpellsAndReadsBack body_fld_param lent_params canonical_params spells_params Closes
 keeps_params = record { spelled = params_spell; back = reads-follow reads_params (λ t g. tt) }
 
-pub keeps_encoding : Keeps body_fld_enc lent_encoding canonical_encoding spells_encoding Closes
+pub keeps_encoding : SpellsAndReadsBack body_fld_enc lent_encoding canonical_encoding spells_encoding Closes
 keeps_encoding = record { spelled = encoding_spells; back = reads-follow reads_encoding (λ t g. tt) }
 
-pub keeps_fields : Keeps body_fields lent_fields canonical_fields spells_fields Closes
+pub keeps_fields : SpellsAndReadsBack body_fields lent_fields canonical_fields spells_fields Closes
 keeps_fields = record { spelled = fields_spell; back = reads-follow reads_fields (closes-in not_digit refl refl) }

@@ -60,8 +60,8 @@ static TEXTS_AND_BYTES: Rows = &[
         r#"Fetch(1, [Rfc822Header(Some([104])), ModSeq(5), EmailId("M1"), ThreadId(None)])"#,
     ),
     (
-        b"* 1 FETCH (RFC822 NIL RFC822.HEADER NIL RFC822.TEXT NIL BODY[] NIL)\r\n",
-        "Fetch(1, [Rfc822(None), Rfc822Header(None), Rfc822Text(None), BodySection { section: None, index: None, contents: None }])",
+        b"* 1 FETCH (RFC822 NIL RFC822.HEADER NIL RFC822.TEXT NIL BODY[] NIL THREADID NIL)\r\n",
+        "Fetch(1, [Rfc822(None), Rfc822Header(None), Rfc822Text(None), BodySection { section: None, index: None, contents: None }, ThreadId(None)])",
     ),
     (
         b"* 1 FETCH (rfc822 {3}\r\na)\xff rfc822.text \"\\\\\")\r\n",
@@ -119,8 +119,8 @@ static STRUCTURES: Rows = &[
 
 static UNKNOWN: Rows = &[
     (
-        b"* 2 FETCH (X-Y (q) UID 4 )\r\n",
-        "Fetch(2, [Unknown, Uid(4)])",
+        b"* 1 FETCH (X-Y (q) UID 4 )\r\n",
+        "Fetch(1, [Unknown, Uid(4)])",
     ),
     (b"* 1 FETCH (X a\r\nb)\r\n", "Fetch(1, [Unknown])"),
     (b"* 1 FETCH (SAVEDATE NIL)\r\n", "Fetch(1, [Unknown])"),

@@ -137,7 +137,23 @@ fn says_owned(alloc: Global, answer: IResult<&[u8], Response<'_>>, want: &str) -
     }
 }
 
-// Asserts that each line of the tables is told as its row says when its response is made owned.
+// The response at the front of a copy of these bytes, made owned: the copy is gone when it is answered.
+fn response_alone(alloc: Global, line: &[u8]) -> Result<Response<'static>, Err> {
+    let copy = Vec::from_slice(alloc, line)?;
+    let (_, response) = Response::parse(alloc, copy.as_slice())?;
+    Ok(response.into_owned(alloc)?)
+}
+
+// Whether a line's response equals what a second reading gives, made owned, if there is a response.
+fn equals_owned(alloc: Global, line: &'static [u8]) -> bool {
+    match (Response::parse(alloc, line), response_alone(alloc, line)) {
+        (Ok((_, response)), Ok(owned)) => response == owned,
+        (Err(_), Err(_)) => true,
+        _ => false,
+    }
+}
+
+// Asserts of each line of the tables that its response made owned is told as its row says, and equals the borrowed one.
 fn assert_owned(rt: &impl Abort, alloc: Global, tables: &[Rows]) {
     for rows in tables {
         for (line, want) in *rows {
@@ -145,6 +161,7 @@ fn assert_owned(rt: &impl Abort, alloc: Global, tables: &[Rows]) {
                 says_owned(alloc, Response::parse(alloc, line), want),
                 "{want}"
             );
+            assert!(rt; equals_owned(alloc, *line), "{want}");
         }
     }
 }
@@ -157,13 +174,6 @@ fn whole_lines(rt: HostRuntime) {
     assert_owned(&rt, rt.alloc(), &mailboxes::lines());
     assert_owned(&rt, rt.alloc(), &extensions::lines());
     assert_owned(&rt, rt.alloc(), &fetches::lines());
-}
-
-// The response at the front of a copy of these bytes, made owned: the copy is gone when it is answered.
-fn response_alone(alloc: Global, line: &[u8]) -> Result<Response<'static>, Err> {
-    let copy = Vec::from_slice(alloc, line)?;
-    let (_, response) = Response::parse(alloc, copy.as_slice())?;
-    Ok(response.into_owned(alloc)?)
 }
 
 static READ: Rows = &[

@@ -246,32 +246,54 @@ fn reports_of_bytes(rt: HostRuntime) {
     }
 }
 
-// How many bytes come before the reader fails, and what was written by then: a line as soon as its response is whole.
-static BEFORE_A_FAILURE: &[(usize, &[u8])] = &[
-    (0, b""),
-    (8, b""),
-    (9, b"data 9\n"),
-    (10, b"data 9\n"),
-    (15, b"data 9\n"),
-    (16, b"data 9\ndone 7\n"),
-    (20, b"data 9\ndone 7\n"),
-];
+const GREETED: &[u8] = b"* OK hi\r\na1 OK\r\n";
 
+const GREETED_REPORT: &[u8] = b"data 9\ndone 7\nend\n";
+
+// What is written of that report where the reader fails behind so many bytes: a line as soon as its response is whole.
+fn written_behind(bytes: usize) -> &'static [u8] {
+    match bytes {
+        0..=8 => b"",
+        9..=15 => b"data 9\n",
+        _ => b"data 9\ndone 7\n",
+    }
+}
+
+// Each place of failure in turn, up to the one behind all bytes.
 #[test]
-fn writes_before_the_next_read(rt: HostRuntime) {
-    for (reads, writes) in BEFORE_A_FAILURE {
+fn reader_fails_anywhere(rt: HostRuntime) {
+    for reads in 0..=GREETED.len() {
         let limits = Limits {
             read_size: 1,
-            reads: *reads,
+            reads,
             ..WHOLE
         };
         let want = Run {
-            bytes: b"* OK hi\r\na1 OK\r\n* X\r\n",
+            bytes: GREETED,
             limits,
             ends: Err(Fault::Read),
-            writes,
+            writes: written_behind(reads),
         };
         assert!(rt; goes(rt.alloc(), &want), "{reads}");
+    }
+}
+
+// Each place of failure in turn, up to the one before the last byte.
+#[test]
+fn writer_fails_anywhere(rt: HostRuntime) {
+    for writes in 0..GREETED_REPORT.len() {
+        let limits = Limits {
+            write_size: 1,
+            writes,
+            ..WHOLE
+        };
+        let want = Run {
+            bytes: GREETED,
+            limits,
+            ends: Err(Fault::Write),
+            writes: GREETED_REPORT.split_at(writes).0,
+        };
+        assert!(rt; goes(rt.alloc(), &want), "{writes}");
     }
 }
 

@@ -2,49 +2,14 @@
 
 ghost use Rattle.std.specs.Prelude.{◌<◌};
 
-use crate::answers::{Rows, assert_lines, parses};
+use crate::answers::parses;
+use crate::kept::is_kept;
 use imap_proto::Response;
 use imap_proto::imap_core::{Err, IResult};
 use imap_proto::stream::{Feed, read_pieces};
 use std::alloc::{AllocError, Global};
 use std::fmt::Debug;
 use std::test::*;
-
-// What is announced as a literal: as long as a number of 32 bits tells, or longer, which is no literal; and a line that is whole only with what
-// is behind it, where the literal that it announces doesn't come.
-static LITERALS: Rows = &[
-    (
-        b"* 1 FETCH (RFC822 {4294967295}\r\n",
-        "Incomplete(Size(4294967295))",
-    ),
-    (b"* 1 FETCH (RFC822 {4294967296}\r\n", "Incomplete(Unknown)"),
-    (
-        b"* 1 FETCH (RFC822 {4294967296}\r\n)\r\n",
-        "Fetch(1, [Unknown])",
-    ),
-    (b"* 1 FETCH (ENVELOPE ({5}\r\n))\r\n", "Incomplete(Size(1))"),
-    (
-        b"* 1 FETCH (ENVELOPE ({5}\r\n))\r\nxy",
-        r#"Fetch(1, [Unknown]) then "xy""#,
-    ),
-];
-
-// NIL where an attribute has it, and where it doesn't.
-static NULLS: Rows = &[
-    (
-        b"* 1 FETCH (UID NIL FLAGS NIL ENVELOPE NIL EMAILID NIL MODSEQ NIL)\r\n",
-        "Fetch(1, [Unknown, Unknown, Unknown, Unknown, Unknown])",
-    ),
-    (
-        b"* 1 FETCH (RFC822 NIL RFC822.HEADER NIL RFC822.TEXT NIL BODY[] NIL THREADID NIL)\r\n",
-        "Fetch(1, [Rfc822(None), Rfc822Header(None), Rfc822Text(None), BodySection { section: None, index: None, contents: None }, ThreadId(None)])",
-    ),
-];
-
-#[test]
-fn hostile_lines(rt: HostRuntime) {
-    assert_lines(&rt, rt.alloc(), &[LITERALS, NULLS]);
-}
 
 // These lines are not cut: each cut reads the line anew, so its time grows with the square of its length.
 #[test]
@@ -57,6 +22,7 @@ fn open_brackets(rt: HostRuntime) -> Result<(), Fail> {
     assert!(rt; parses(alloc, &line, "Incomplete(Unknown)"));
     line.extend_from_slice(b"))\r\n")?;
     assert!(rt; parses(alloc, &line, "Fetch(1, [Unknown])"));
+    assert!(rt; is_kept(alloc, &line, "Fetch(1, [Unknown])"));
     Ok(())
 }
 

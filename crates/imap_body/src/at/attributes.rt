@@ -54,7 +54,7 @@ fn section_contents<K: KeepAttribute>(
     m: &[u8],
     p: usize,
 ) -> Reached<AttributeKept<K::Text, K::Bytes>>
-    requires inside { p ≤ length m.now }
+    requires start { p ≤ length m.now }
     requires serves { K.serves keep.now m.now }
     ensures steps { GivesAt (λ x. parts_said K.text_said K.bytes_said (named_in m.now) x) m.now result (step rules.section_contents (drop p m.now)) }
     ensures ahead { Ahead m.now p result }
@@ -83,7 +83,7 @@ pub(crate) fn msg_att_body_section<K: KeepAttribute>(
     m: &[u8],
     p: usize,
 ) -> Reached<AttributeKept<K::Text, K::Bytes>>
-    requires inside { p ≤ length m.now }
+    requires start { p ≤ length m.now }
     requires serves { K.serves keep.now m.now }
     ensures steps { GivesAt (λ x. parts_said K.text_said K.bytes_said (named_in m.now) x) m.now result (step rules.msg_att_body_section (drop p m.now)) }
     ensures ahead { Ahead m.now p result }
@@ -100,7 +100,7 @@ fn structure<K: KeepAttribute>(
     m: &[u8],
     p: usize,
 ) -> Reached<AttributeKept<K::Text, K::Bytes>>
-    requires inside { p ≤ length m.now }
+    requires start { p ≤ length m.now }
     requires serves { K.serves keep.now m.now }
     ensures steps { GivesAt (λ x. parts_said K.text_said K.bytes_said (named_in m.now) x) m.now result (step rules.structure (drop p m.now)) }
     ensures ahead { Ahead m.now p result }
@@ -119,7 +119,7 @@ fn body_attribute<K: KeepAttribute>(
     m: &[u8],
     p: usize,
 ) -> Reached<AttributeKept<K::Text, K::Bytes>>
-    requires inside { p ≤ length m.now }
+    requires start { p ≤ length m.now }
     requires serves { K.serves keep.now m.now }
     ensures steps { GivesAt (λ x. parts_said K.text_said K.bytes_said (named_in m.now) x) m.now result (step rules.body_attribute (drop p m.now)) }
     ensures ahead { Ahead m.now p result }
@@ -136,7 +136,7 @@ fn whole_message<K: KeepAttribute>(
     m: &[u8],
     p: usize,
 ) -> Reached<AttributeKept<K::Text, K::Bytes>>
-    requires inside { p ≤ length m.now }
+    requires start { p ≤ length m.now }
     requires serves { K.serves keep.now m.now }
     ensures steps { ExactlyAt (λ x. parts_said K.text_said K.bytes_said (named_in m.now) x) m.now result (step rules.whole_message (drop p m.now)) }
     ensures ahead { Ahead m.now p result }
@@ -153,7 +153,7 @@ fn message_header<K: KeepAttribute>(
     m: &[u8],
     p: usize,
 ) -> Reached<AttributeKept<K::Text, K::Bytes>>
-    requires inside { p ≤ length m.now }
+    requires start { p ≤ length m.now }
     requires serves { K.serves keep.now m.now }
     ensures steps { ExactlyAt (λ x. parts_said K.text_said K.bytes_said (named_in m.now) x) m.now result (step rules.message_header (drop p m.now)) }
     ensures ahead { Ahead m.now p result }
@@ -183,7 +183,7 @@ fn message_text<K: KeepAttribute>(
     m: &[u8],
     p: usize,
 ) -> Reached<AttributeKept<K::Text, K::Bytes>>
-    requires inside { p ≤ length m.now }
+    requires start { p ≤ length m.now }
     requires serves { K.serves keep.now m.now }
     ensures steps { ExactlyAt (λ x. parts_said K.text_said K.bytes_said (named_in m.now) x) m.now result (step rules.message_text (drop p m.now)) }
     ensures ahead { Ahead m.now p result }
@@ -200,7 +200,7 @@ fn message_part<K: KeepAttribute>(
     m: &[u8],
     p: usize,
 ) -> Reached<AttributeKept<K::Text, K::Bytes>>
-    requires inside { p ≤ length m.now }
+    requires start { p ≤ length m.now }
     requires serves { K.serves keep.now m.now }
     ensures steps { ExactlyAt (λ x. parts_said K.text_said K.bytes_said (named_in m.now) x) m.now result (step rules.message_part (drop p m.now)) }
     ensures ahead { Ahead m.now p result }
@@ -219,7 +219,7 @@ fn message_attribute<K: KeepAttribute>(
     m: &[u8],
     p: usize,
 ) -> Reached<AttributeKept<K::Text, K::Bytes>>
-    requires inside { p ≤ length m.now }
+    requires start { p ≤ length m.now }
     requires serves { K.serves keep.now m.now }
     ensures steps { ExactlyAt (λ x. parts_said K.text_said K.bytes_said (named_in m.now) x) m.now result (step rules.message_attribute (drop p m.now)) }
     ensures ahead { Ahead m.now p result }
@@ -238,7 +238,7 @@ fn msg_att_envelope<K: KeepAttribute>(
     m: &[u8],
     p: usize,
 ) -> Reached<AttributeKept<K::Text, K::Bytes>>
-    requires inside { p ≤ length m.now }
+    requires start { p ≤ length m.now }
     requires serves { K.serves keep.now m.now }
     ensures steps { GivesAt (λ x. parts_said K.text_said K.bytes_said (named_in m.now) x) m.now result (step rules.msg_att_envelope (drop p m.now)) }
     ensures ahead { Ahead m.now p result }
@@ -265,7 +265,7 @@ fn msg_att_internal_date<K: KeepAttribute>(
     m: &[u8],
     p: usize,
 ) -> Reached<AttributeKept<K::Text, K::Bytes>>
-    requires inside { p ≤ length m.now }
+    requires start { p ≤ length m.now }
     requires serves { K.serves keep.now m.now }
     ensures steps { GivesAt (λ x. parts_said K.text_said K.bytes_said (named_in m.now) x) m.now result (step rules.msg_att_internal_date (drop p m.now)) }
     ensures ahead { Ahead m.now p result }
@@ -284,7 +284,7 @@ fn msg_att_flags<K: KeepAttribute>(
     m: &[u8],
     p: usize,
 ) -> Reached<AttributeKept<K::Text, K::Bytes>>
-    requires inside { p ≤ length m.now }
+    requires start { p ≤ length m.now }
     requires serves { K.serves keep.now m.now }
     ensures steps { GivesAt (λ x. parts_said K.text_said K.bytes_said (named_in m.now) x) m.now result (step rules.msg_att_flags (drop p m.now)) }
     ensures ahead { Ahead m.now p result }
@@ -331,7 +331,7 @@ fn msg_att_gmail_labels<K: KeepAttribute>(
     m: &[u8],
     p: usize,
 ) -> Reached<AttributeKept<K::Text, K::Bytes>>
-    requires inside { p ≤ length m.now }
+    requires start { p ≤ length m.now }
     requires serves { K.serves keep.now m.now }
     ensures steps { GivesAt (λ x. parts_said K.text_said K.bytes_said (named_in m.now) x) m.now result (step rules.msg_att_gmail_labels (drop p m.now)) }
     ensures ahead { Ahead m.now p result }
@@ -412,7 +412,7 @@ fn msg_att_email_id<K: KeepAttribute>(
     m: &[u8],
     p: usize,
 ) -> Reached<AttributeKept<K::Text, K::Bytes>>
-    requires inside { p ≤ length m.now }
+    requires start { p ≤ length m.now }
     requires serves { K.serves keep.now m.now }
     ensures steps { GivesAt (λ x. parts_said K.text_said K.bytes_said (named_in m.now) x) m.now result (step rules.msg_att_email_id (drop p m.now)) }
     ensures ahead { Ahead m.now p result }
@@ -430,7 +430,7 @@ fn msg_att_thread_id<K: KeepAttribute>(
     m: &[u8],
     p: usize,
 ) -> Reached<AttributeKept<K::Text, K::Bytes>>
-    requires inside { p ≤ length m.now }
+    requires start { p ≤ length m.now }
     requires serves { K.serves keep.now m.now }
     ensures steps { GivesAt (λ x. parts_said K.text_said K.bytes_said (named_in m.now) x) m.now result (step rules.msg_att_thread_id (drop p m.now)) }
     ensures ahead { Ahead m.now p result }
@@ -554,7 +554,7 @@ fn attribute_of_b<K: KeepAttribute>(
     m: &[u8],
     p: usize,
 ) -> Reached<AttributeKept<K::Text, K::Bytes>>
-    requires inside { p ≤ length m.now }
+    requires start { p ≤ length m.now }
     requires serves { K.serves keep.now m.now }
     ensures steps { GivesAt (λ x. parts_said K.text_said K.bytes_said (named_in m.now) x) m.now result (step rules.attribute_of_b (drop p m.now)) }
     ensures ahead { Ahead m.now p result }
@@ -572,7 +572,7 @@ fn attribute_of_e<K: KeepAttribute>(
     m: &[u8],
     p: usize,
 ) -> Reached<AttributeKept<K::Text, K::Bytes>>
-    requires inside { p ≤ length m.now }
+    requires start { p ≤ length m.now }
     requires serves { K.serves keep.now m.now }
     ensures steps { GivesAt (λ x. parts_said K.text_said K.bytes_said (named_in m.now) x) m.now result (step rules.attribute_of_e (drop p m.now)) }
     ensures ahead { Ahead m.now p result }
@@ -591,7 +591,7 @@ fn attribute_of_f<K: KeepAttribute>(
     m: &[u8],
     p: usize,
 ) -> Reached<AttributeKept<K::Text, K::Bytes>>
-    requires inside { p ≤ length m.now }
+    requires start { p ≤ length m.now }
     requires serves { K.serves keep.now m.now }
     ensures steps { GivesAt (λ x. parts_said K.text_said K.bytes_said (named_in m.now) x) m.now result (step rules.attribute_of_f (drop p m.now)) }
     ensures ahead { Ahead m.now p result }
@@ -608,7 +608,7 @@ fn attribute_of_i<K: KeepAttribute>(
     m: &[u8],
     p: usize,
 ) -> Reached<AttributeKept<K::Text, K::Bytes>>
-    requires inside { p ≤ length m.now }
+    requires start { p ≤ length m.now }
     requires serves { K.serves keep.now m.now }
     ensures steps { GivesAt (λ x. parts_said K.text_said K.bytes_said (named_in m.now) x) m.now result (step rules.attribute_of_i (drop p m.now)) }
     ensures ahead { Ahead m.now p result }
@@ -637,7 +637,7 @@ fn attribute_of_r<K: KeepAttribute>(
     m: &[u8],
     p: usize,
 ) -> Reached<AttributeKept<K::Text, K::Bytes>>
-    requires inside { p ≤ length m.now }
+    requires start { p ≤ length m.now }
     requires serves { K.serves keep.now m.now }
     ensures steps { GivesAt (λ x. parts_said K.text_said K.bytes_said (named_in m.now) x) m.now result (step rules.attribute_of_r (drop p m.now)) }
     ensures ahead { Ahead m.now p result }
@@ -654,7 +654,7 @@ fn attribute_of_t<K: KeepAttribute>(
     m: &[u8],
     p: usize,
 ) -> Reached<AttributeKept<K::Text, K::Bytes>>
-    requires inside { p ≤ length m.now }
+    requires start { p ≤ length m.now }
     requires serves { K.serves keep.now m.now }
     ensures steps { GivesAt (λ x. parts_said K.text_said K.bytes_said (named_in m.now) x) m.now result (step rules.attribute_of_t (drop p m.now)) }
     ensures ahead { Ahead m.now p result }
@@ -684,7 +684,7 @@ fn attribute_of_x<K: KeepAttribute>(
     m: &[u8],
     p: usize,
 ) -> Reached<AttributeKept<K::Text, K::Bytes>>
-    requires inside { p ≤ length m.now }
+    requires start { p ≤ length m.now }
     requires serves { K.serves keep.now m.now }
     ensures steps { GivesAt (λ x. parts_said K.text_said K.bytes_said (named_in m.now) x) m.now result (step rules.attribute_of_x (drop p m.now)) }
     ensures ahead { Ahead m.now p result }
@@ -708,7 +708,7 @@ pub(crate) fn attribute<K: KeepAttribute>(
     m: &[u8],
     p: usize,
 ) -> Reached<AttributeKept<K::Text, K::Bytes>>
-    requires inside { p ≤ length m.now }
+    requires start { p ≤ length m.now }
     requires serves { K.serves keep.now m.now }
     ensures steps { GivesAt (λ x. parts_said K.text_said K.bytes_said (named_in m.now) x) m.now result (step rules.attribute (drop p m.now)) }
     ensures ahead { Ahead m.now p result }

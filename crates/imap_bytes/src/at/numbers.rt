@@ -8,7 +8,7 @@ ghost use Rattle.imap_grammar.specs.Meaning.{outside};
 ghost use Rattle.imap_grammar.specs.Rule.{only};
 ghost use Rattle.imap_grammar.specs.Classes as classes;
 ghost use Rattle.imap_bytes.specs.Numbers as numbers;
-ghost use Rattle.imap_bytes.specs.Numbers.{InFront};
+ghost use Rattle.imap_bytes.specs.Numbers.{DigitsInFront};
 
 use imap_grammar::at::Reached;
 use imap_grammar::classes::is_digit;
@@ -32,7 +32,7 @@ fn digit_value(b: u8) -> u64
 // The same as `digits_in_front`, for any number of digits.
 #[inline(always)]
 fn many_digits_in_front(i: &[u8]) -> Option<(usize, Option<u32>)>
-    ensures at { InFront (2 ^ 32) i.now result }
+    ensures at { DigitsInFront (2 ^ 32) i.now result }
     ensures within { IfSome result (λ x. x.0 < length i.now) }
 {
     let mut left = i;
@@ -56,7 +56,7 @@ fn many_digits_in_front(i: &[u8]) -> Option<(usize, Option<u32>)>
 // Eleven digits are read with no look at the size of their number, since 64 bits hold any of so many: the compiler writes these turns out one by one.
 #[inline(always)]
 fn digits_in_front(i: &[u8]) -> Option<(usize, Option<u32>)>
-    ensures at { InFront (2 ^ 32) i.now result }
+    ensures at { DigitsInFront (2 ^ 32) i.now result }
     ensures within { IfSome result (λ x. x.0 < length i.now) }
 {
     let mut number: u64 = 0;
@@ -83,7 +83,7 @@ fn with_digit(number: u64, byte: u8) -> Option<u64>
 
 // How many digits stand in front, and the number that they write, if 64 bits hold it. `None` where nothing follows them.
 fn digits_in_front_64(i: &[u8]) -> Option<(usize, Option<u64>)>
-    ensures at { InFront (2 ^ 64) i.now result }
+    ensures at { DigitsInFront (2 ^ 64) i.now result }
     ensures within { IfSome result (λ x. x.0 < length i.now) }
 {
     let mut count = 0;

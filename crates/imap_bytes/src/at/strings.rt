@@ -1,12 +1,12 @@
 //! Strings at a position, as spans of their content. None takes memory.
 
-ghost use Rattle.std.specs.Prelude.{◌≡◌, ◌==◌, ◌||◌, ◌≤◌, ◌<◌, ◌+◌, length, drop, IfOk, IfSome, Ok};
-ghost use Rattle.imap_grammar.specs.Positions.{AnswersAt, ExactlyAt, Ahead, Inside, MaybeInside, Lies, between, maybe_in, named_in};
+ghost use Rattle.std.specs.Prelude.{◌≡◌, ◌==◌, ◌≤◌, ◌+◌, length, drop, IfOk, IfSome, Ok};
+ghost use Rattle.imap_grammar.specs.Positions.{AnswersAt, ExactlyAt, Ahead, Inside, MaybeInside, Lies, maybe_in, named_in};
 ghost use Rattle.imap_grammar.specs.Memory.{NeverFails};
 ghost use Rattle.imap_grammar.specs.Step.{step, take_step};
 ghost use Rattle.imap_grammar.specs.Meaning.{begins};
 ghost use Rattle.imap_grammar.specs.Rule.{run0, run1, opt};
-ghost use Rattle.imap_grammar.specs.Ascii.{quote, open_brace};
+ghost use Rattle.imap_grammar.specs.Ascii.{quote};
 ghost use Rattle.imap_grammar.specs.Classes as classes;
 ghost use Rattle.imap_bytes.specs.Strings as strings;
 

@@ -13,6 +13,7 @@ ghost use Rattle.imap_shapes.specs.EnvelopeValues.{address_seen, addresses_seen,
 ghost use Rattle.imap_shapes.specs.Spans.{RestsOn};
 
 use crate::Keep;
+use crate::at::lists::ROOM;
 use crate::at::texts::{byte_string, spaced_byte_string};
 use crate::kept::kept_bytes;
 use imap_bytes::at::Reached;
@@ -32,13 +33,10 @@ struct LastFields<B> {
     message_id: Option<B>,
 }
 
-// How many addresses a list gets room for.
-const ROOM: usize = 4;
-
 // A byte string, if there is one, as it is kept.
 #[inline(always)]
 fn kept_string<K: Keep>(keep: &K, m: &[u8], p: usize) -> Reached<Option<K::Bytes>>
-    requires inside { p ≤ length m.now }
+    requires start { p ≤ length m.now }
     requires serves { K.serves keep.now m.now }
     ensures steps { ExactlyAt (λ x. option_map (K.bytes_said (named_in m.now)) x) m.now result (step envelopes.byte_string (drop p m.now)) }
     ensures ahead { Ahead m.now p result }
@@ -52,7 +50,7 @@ fn kept_string<K: Keep>(keep: &K, m: &[u8], p: usize) -> Reached<Option<K::Bytes
 // A space, then the same.
 #[inline(always)]
 fn spaced_string<K: Keep>(keep: &K, m: &[u8], p: usize) -> Reached<Option<K::Bytes>>
-    requires inside { p ≤ length m.now }
+    requires start { p ≤ length m.now }
     requires serves { K.serves keep.now m.now }
     ensures steps { ExactlyAt (λ x. option_map (K.bytes_said (named_in m.now)) x) m.now result (step (spaced envelopes.byte_string) (drop p m.now)) }
     ensures ahead { Ahead m.now p result }
@@ -66,7 +64,7 @@ fn spaced_string<K: Keep>(keep: &K, m: &[u8], p: usize) -> Reached<Option<K::Byt
 /// An address (RFC 3501, section 9: address). No memory.
 #[tactic(auto, unfolding(crate::specs::Envelopes::address))]
 pub fn address<K: Keep>(keep: &K, m: &[u8], p: usize) -> Reached<Address<K::Bytes>>
-    requires inside { p ≤ length m.now }
+    requires start { p ≤ length m.now }
     requires serves { K.serves keep.now m.now }
     ensures steps { ExactlyAt (λ x. address_seen (K.bytes_said (named_in m.now)) x) m.now result (step envelopes.address (drop p m.now)) }
     ensures ahead { Ahead m.now p result }
@@ -93,7 +91,7 @@ pub fn address<K: Keep>(keep: &K, m: &[u8], p: usize) -> Reached<Address<K::Byte
 // An address, and maybe a space.
 #[tactic(auto, unfolding(crate::specs::Envelopes::listed_address))]
 fn listed_address<K: Keep>(keep: &K, m: &[u8], p: usize) -> Reached<Address<K::Bytes>>
-    requires inside { p ≤ length m.now }
+    requires start { p ≤ length m.now }
     requires serves { K.serves keep.now m.now }
     ensures steps { ExactlyAt (λ x. address_seen (K.bytes_said (named_in m.now)) x) m.now result (step envelopes.listed_address (drop p m.now)) }
     ensures ahead { Ahead m.now p result }
@@ -111,7 +109,7 @@ fn some_addresses<K: Keep>(
     m: &[u8],
     p: usize,
 ) -> Reached<Vec<Address<K::Bytes>>>
-    requires inside { p ≤ length m.now }
+    requires start { p ≤ length m.now }
     requires serves { K.serves keep.now m.now }
     ensures steps { GivesAt (λ x. map (address_seen (K.bytes_said (named_in m.now))) x.items) m.now result (step envelopes.some_addresses (drop p m.now)) }
     ensures ahead { Ahead m.now p result }
@@ -155,7 +153,7 @@ fn addresses<K: Keep>(
     m: &[u8],
     p: usize,
 ) -> Reached<Option<Vec<Address<K::Bytes>>>>
-    requires inside { p ≤ length m.now }
+    requires start { p ≤ length m.now }
     requires serves { K.serves keep.now m.now }
     ensures steps { GivesAt (λ x. addresses_seen (K.bytes_said (named_in m.now)) x) m.now result (step envelopes.addresses (drop p m.now)) }
     ensures ahead { Ahead m.now p result }
@@ -177,7 +175,7 @@ fn spaced_addresses<K: Keep>(
     m: &[u8],
     p: usize,
 ) -> Reached<Option<Vec<Address<K::Bytes>>>>
-    requires inside { p ≤ length m.now }
+    requires start { p ≤ length m.now }
     requires serves { K.serves keep.now m.now }
     ensures steps { GivesAt (λ x. addresses_seen (K.bytes_said (named_in m.now)) x) m.now result (step (spaced envelopes.addresses) (drop p m.now)) }
     ensures ahead { Ahead m.now p result }
@@ -197,7 +195,7 @@ fn last_fields<K: Keep>(
     m: &[u8],
     p: usize,
 ) -> Reached<LastFields<K::Bytes>>
-    requires inside { p ≤ length m.now }
+    requires start { p ≤ length m.now }
     requires serves { K.serves keep.now m.now }
     ensures steps { GivesAt (λ x. last_fields_seen (K.bytes_said (named_in m.now)) x) m.now result (step envelopes.last_fields (drop p m.now)) }
     ensures ahead { Ahead m.now p result }
@@ -224,7 +222,7 @@ fn last_fields<K: Keep>(
 /// An envelope (RFC 3501, section 9: envelope). It takes memory for its lists of addresses.
 #[tactic(auto, unfolding(crate::specs::Envelopes::envelope, imap_shapes::specs::EnvelopeValues::envelope_seen))]
 pub fn envelope<K: Keep>(keep: &K, alloc: Global, m: &[u8], p: usize) -> Reached<Envelope<K::Bytes>>
-    requires inside { p ≤ length m.now }
+    requires start { p ≤ length m.now }
     requires serves { K.serves keep.now m.now }
     ensures steps { GivesAt (λ x. envelope_seen (K.bytes_said (named_in m.now)) x) m.now result (step envelopes.envelope (drop p m.now)) }
     ensures ahead { Ahead m.now p result }

@@ -4,8 +4,8 @@ ghost use Rattle.std.specs.Prelude.{◌≡◌, ◌∷◌, [], IfOk};
 
 use std::alloc::{AllocError, Global};
 
-// How many elements it gets room for, so that a list of a few does not grow.
-const ROOM: usize = 4;
+// How many elements a list gets room for, so that one of a few does not grow.
+pub(crate) const ROOM: usize = 4;
 
 /// A list of one. It takes memory; `Err`: memory ran out.
 pub fn list_of_one<T: Drop>(alloc: Global, first: T) -> Result<Vec<T>, AllocError>

@@ -1,4 +1,4 @@
-//! Flags at a position, as spans of their texts.
+//! Flags at a position, as texts; lists of them as the spans of these.
 
 ghost use Rattle.std.specs.Prelude.{◌≤◌, length, drop, codes, map};
 ghost use Rattle.imap_grammar.specs.Positions.{AnswersAt, ExactlyAt, GivesAt, Ahead, Inside, EachInside, named_in};
@@ -6,7 +6,7 @@ ghost use Rattle.imap_grammar.specs.Memory.{NeverFails};
 ghost use Rattle.imap_grammar.specs.Step.{step};
 ghost use Rattle.imap_grammar.specs.Tags.{exactly_names};
 ghost use Rattle.imap_items.specs.Flags as flags;
-ghost use Rattle.imap_items.specs.Spanned.{text_in};
+ghost use Rattle.imap_items.specs.Spanned.{decoded_in};
 
 use imap_bytes::at::span::Span;
 use imap_bytes::at::strings::{astring_chars, atom_chars0};
@@ -98,7 +98,7 @@ pub(crate) fn flag_perm(m: &[u8], p: usize) -> Reached<&str>
 #[tactic(auto, using(crate::proofs::Spanned::flag_perm_there), unfolding(crate::specs::Flags::flag_text))]
 fn flag_text(m: &[u8], p: usize) -> Reached<Span>
     requires { p ≤ length m.now }
-    ensures steps { ExactlyAt (λ x. text_in m.now x) m.now result (step flags.flag_text (drop p m.now)) }
+    ensures steps { ExactlyAt (λ x. decoded_in m.now x) m.now result (step flags.flag_text (drop p m.now)) }
     ensures inside { Inside m.now p result }
 {
     let (q, _) = flag_perm(m, p)?;
@@ -110,14 +110,14 @@ fn flag_text(m: &[u8], p: usize) -> Reached<Span>
 /// It takes memory for the list, and for no text. Bytes that are not UTF-8 are `Error`.
 pub fn flag_list(alloc: Global, m: &[u8], p: usize) -> Reached<Vec<Span>>
     requires { p ≤ length m.now }
-    ensures steps { GivesAt (λ x. map (text_in m.now) x.items) m.now result (step flags.flag_list (drop p m.now)) }
-    ensures answer { AnswersAt flags.flag_list (λ x. map (text_in m.now) x.items) m.now p result }
+    ensures steps { GivesAt (λ x. map (decoded_in m.now) x.items) m.now result (step flags.flag_list (drop p m.now)) }
+    ensures answer { AnswersAt flags.flag_list (λ x. map (decoded_in m.now) x.items) m.now p result }
     ensures ahead { Ahead m.now p result }
     ensures inside { EachInside p result }
 {
     let item = |k: usize|
         requires { k ≤ length m.now }
-        ensures steps { ExactlyAt (λ x. text_in m.entry.now x) m.entry.now result (step flags.flag_text (drop k m.entry.now)) }
+        ensures steps { ExactlyAt (λ x. decoded_in m.entry.now x) m.entry.now result (step flags.flag_text (drop k m.entry.now)) }
         ensures inside { Inside m.entry.now k result }
     { flag_text(m, k) };
     parenthesized_list(alloc, item, m, p)

@@ -5,7 +5,7 @@ ghost use Rattle.imap_grammar.specs.Positions.{AnswersAt, ExactlyAt, GivesAt, Ah
 ghost use Rattle.imap_grammar.specs.Step.{step};
 ghost use Rattle.imap_bytes.specs.Texts as texts;
 ghost use Rattle.imap_items.specs.Gmail as rules;
-ghost use Rattle.imap_items.specs.Spanned.{text_in};
+ghost use Rattle.imap_items.specs.Spanned.{decoded_in};
 
 use super::flags::flag;
 use imap_bytes::at::span::Span;
@@ -17,7 +17,7 @@ use std::alloc::Global;
 #[tactic(auto, using(crate::proofs::Spanned::flag_there))]
 fn flag_label(m: &[u8], p: usize) -> Reached<Span>
     requires { p ≤ length m.now }
-    ensures steps { ExactlyAt (λ x. text_in m.now x) m.now result (step rules.flag_label (drop p m.now)) }
+    ensures steps { ExactlyAt (λ x. decoded_in m.now x) m.now result (step rules.flag_label (drop p m.now)) }
     ensures inside { Inside m.now p result }
 {
     let (q, _) = flag(m, p)?;
@@ -27,7 +27,7 @@ fn flag_label(m: &[u8], p: usize) -> Reached<Span>
 #[tactic(auto, unfolding(imap_bytes::specs::Texts::quoted_utf8))]
 fn quoted_label(m: &[u8], p: usize) -> Reached<Span>
     requires { p ≤ length m.now }
-    ensures steps { ExactlyAt (λ x. text_in m.now x) m.now result (step texts.quoted_utf8 (drop p m.now)) }
+    ensures steps { ExactlyAt (λ x. decoded_in m.now x) m.now result (step texts.quoted_utf8 (drop p m.now)) }
     ensures inside { Inside m.now p result }
 {
     quoted(m, p)
@@ -37,7 +37,7 @@ fn quoted_label(m: &[u8], p: usize) -> Reached<Span>
 #[tactic(auto, unfolding(crate::specs::Gmail::gmail_label))]
 pub(crate) fn gmail_label(m: &[u8], p: usize) -> Reached<Span>
     requires { p ≤ length m.now }
-    ensures steps { ExactlyAt (λ x. text_in m.now x) m.now result (step rules.gmail_label (drop p m.now)) }
+    ensures steps { ExactlyAt (λ x. decoded_in m.now x) m.now result (step rules.gmail_label (drop p m.now)) }
     ensures inside { Inside m.now p result }
 {
     first!(flag_label(m, p));
@@ -46,13 +46,13 @@ pub(crate) fn gmail_label(m: &[u8], p: usize) -> Reached<Span>
 
 fn gmail_labels(alloc: Global, m: &[u8], p: usize) -> Reached<Vec<Span>>
     requires { p ≤ length m.now }
-    ensures steps { GivesAt (λ x. map (text_in m.now) x.items) m.now result (step rules.gmail_labels (drop p m.now)) }
+    ensures steps { GivesAt (λ x. map (decoded_in m.now) x.items) m.now result (step rules.gmail_labels (drop p m.now)) }
     ensures ahead { Ahead m.now p result }
     ensures inside { EachInside p result }
 {
     let label = |k: usize|
         requires { k ≤ length m.now }
-        ensures steps { ExactlyAt (λ x. text_in m.entry.now x) m.entry.now result (step rules.gmail_label (drop k m.entry.now)) }
+        ensures steps { ExactlyAt (λ x. decoded_in m.entry.now x) m.entry.now result (step rules.gmail_label (drop k m.entry.now)) }
         ensures inside { Inside m.entry.now k result }
     { gmail_label(m, k) };
     parenthesized_list(alloc, label, m, p)
@@ -61,7 +61,7 @@ fn gmail_labels(alloc: Global, m: &[u8], p: usize) -> Reached<Vec<Span>>
 #[tactic(auto, unfolding(crate::specs::Gmail::gmail_label_list))]
 fn labels(alloc: Global, m: &[u8], p: usize) -> Reached<Vec<Span>>
     requires { p ≤ length m.now }
-    ensures steps { GivesAt (λ x. map (text_in m.now) x.items) m.now result (step rules.gmail_label_list (drop p m.now)) }
+    ensures steps { GivesAt (λ x. map (decoded_in m.now) x.items) m.now result (step rules.gmail_label_list (drop p m.now)) }
     ensures ahead { Ahead m.now p result }
     ensures inside { EachInside p result }
 {
@@ -75,8 +75,8 @@ fn labels(alloc: Global, m: &[u8], p: usize) -> Reached<Vec<Span>>
 #[tactic(auto, using(imap_grammar::proofs::Agreement::answered_at))]
 pub fn gmail_label_list(alloc: Global, m: &[u8], p: usize) -> Reached<Vec<Span>>
     requires { p ≤ length m.now }
-    ensures steps { GivesAt (λ x. map (text_in m.now) x.items) m.now result (step rules.gmail_label_list (drop p m.now)) }
-    ensures answer { AnswersAt rules.gmail_label_list (λ x. map (text_in m.now) x.items) m.now p result }
+    ensures steps { GivesAt (λ x. map (decoded_in m.now) x.items) m.now result (step rules.gmail_label_list (drop p m.now)) }
+    ensures answer { AnswersAt rules.gmail_label_list (λ x. map (decoded_in m.now) x.items) m.now p result }
     ensures ahead { Ahead m.now p result }
     ensures inside { EachInside p result }
 {

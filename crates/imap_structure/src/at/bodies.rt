@@ -64,7 +64,7 @@ fn body_type_text<K: Keep>(
     p: usize,
     others: &mut Bodies<K::Text, K::Bytes>,
 ) -> Result<usize, Err>
-    requires inside { p ≤ length m.now }
+    requires start { p ≤ length m.now }
     requires serves { K.serves keep.now m.now }
     ensures puts { PutsAt (λ n x. body_seen (K.text_said n) (K.bytes_said n) x) m.now others.old.items others.new.items result (step bodies.body_type_text (drop p m.now)) }
     ensures leaves { Leaves others.old.items others.new.items result }
@@ -111,7 +111,7 @@ fn body_type_basic<K: Keep>(
     p: usize,
     others: &mut Bodies<K::Text, K::Bytes>,
 ) -> Result<usize, Err>
-    requires inside { p ≤ length m.now }
+    requires start { p ≤ length m.now }
     requires serves { K.serves keep.now m.now }
     ensures puts { PutsAt (λ n x. body_seen (K.text_said n) (K.bytes_said n) x) m.now others.old.items others.new.items result (step bodies.body_type_basic (drop p m.now)) }
     ensures leaves { Leaves others.old.items others.new.items result }
@@ -147,14 +147,13 @@ fn body_type_basic<K: Keep>(
     Ok(p)
 }
 
-#[inline(always)]
 fn spaced_envelope<K: Keep>(
     keep: &K,
     alloc: Global,
     m: &[u8],
     p: usize,
 ) -> Reached<Envelope<K::Bytes>>
-    requires inside { p ≤ length m.now }
+    requires start { p ≤ length m.now }
     requires serves { K.serves keep.now m.now }
     ensures steps { GivesAt (λ x. envelope_seen (K.bytes_said (named_in m.now)) x) m.now result (step (spaced envelopes.envelope) (drop p m.now)) }
     ensures ahead { Ahead m.now p result }
@@ -187,7 +186,7 @@ pub fn body<K: Keep>(
     p: usize,
     others: &mut Bodies<K::Text, K::Bytes>,
 ) -> Result<usize, Err>
-    requires inside { p ≤ length m.now }
+    requires start { p ≤ length m.now }
     requires serves { K.serves keep.now m.now }
     ensures puts { PutsAt (λ n x. body_seen (K.text_said n) (K.bytes_said n) x) m.now others.old.items others.new.items result (step (bodies.body level) (drop p m.now)) }
     ensures leaves { Leaves others.old.items others.new.items result }
@@ -209,7 +208,7 @@ fn bracketed_body<K: Keep>(
     p: usize,
     others: &mut Bodies<K::Text, K::Bytes>,
 ) -> Result<usize, Err>
-    requires inside { p ≤ length m.now }
+    requires start { p ≤ length m.now }
     requires serves { K.serves keep.now m.now }
     ensures puts { PutsAt (λ n x. body_seen (K.text_said n) (K.bytes_said n) x) m.now others.old.items others.new.items result (step (bodies.bracketed_body (bodies.body level)) (drop p m.now)) }
     ensures leaves { Leaves others.old.items others.new.items result }
@@ -237,7 +236,7 @@ fn body_type<K: Keep>(
     p: usize,
     others: &mut Bodies<K::Text, K::Bytes>,
 ) -> Result<usize, Err>
-    requires inside { p ≤ length m.now }
+    requires start { p ≤ length m.now }
     requires serves { K.serves keep.now m.now }
     ensures puts { PutsAt (λ n x. body_seen (K.text_said n) (K.bytes_said n) x) m.now others.old.items others.new.items result (step (bodies.body_type (bodies.body level)) (drop p m.now)) }
     ensures leaves { Leaves others.old.items others.new.items result }
@@ -263,7 +262,7 @@ fn quoted_type<K: Keep>(
     p: usize,
     others: &mut Bodies<K::Text, K::Bytes>,
 ) -> Result<usize, Err>
-    requires inside { p ≤ length m.now }
+    requires start { p ≤ length m.now }
     requires serves { K.serves keep.now m.now }
     ensures puts { PutsAt (λ n x. body_seen (K.text_said n) (K.bytes_said n) x) m.now others.old.items others.new.items result (step (bodies.quoted_type (bodies.body level)) (drop p m.now)) }
     ensures leaves { Leaves others.old.items others.new.items result }
@@ -285,7 +284,7 @@ fn body_type_msg<K: Keep>(
     p: usize,
     others: &mut Bodies<K::Text, K::Bytes>,
 ) -> Result<usize, Err>
-    requires inside { p ≤ length m.now }
+    requires start { p ≤ length m.now }
     requires serves { K.serves keep.now m.now }
     ensures puts { PutsAt (λ n x. body_seen (K.text_said n) (K.bytes_said n) x) m.now others.old.items others.new.items result (step (bodies.body_type_msg (bodies.body level)) (drop p m.now)) }
     ensures leaves { Leaves others.old.items others.new.items result }
@@ -334,7 +333,7 @@ fn spaced_body<K: Keep>(
     m: &[u8],
     p: usize,
 ) -> Reached<Boxed<K::Text, K::Bytes>>
-    requires inside { p ≤ length m.now }
+    requires start { p ≤ length m.now }
     requires serves { K.serves keep.now m.now }
     ensures steps { GivesAt (λ x. boxed_seen (K.text_said (named_in m.now)) (K.bytes_said (named_in m.now)) x) m.now result (step (spaced (bodies.body level)) (drop p m.now)) }
     ensures ahead { Ahead m.now p result }
@@ -355,7 +354,7 @@ fn body_type_mpart<K: Keep>(
     p: usize,
     others: &mut Bodies<K::Text, K::Bytes>,
 ) -> Result<usize, Err>
-    requires inside { p ≤ length m.now }
+    requires start { p ≤ length m.now }
     requires serves { K.serves keep.now m.now }
     ensures puts { PutsAt (λ n x. body_seen (K.text_said n) (K.bytes_said n) x) m.now others.old.items others.new.items result (step (bodies.body_type_mpart (bodies.body level)) (drop p m.now)) }
     ensures leaves { Leaves others.old.items others.new.items result }
@@ -393,7 +392,7 @@ fn some_bodies<K: Keep>(
     m: &[u8],
     p: usize,
 ) -> Reached<Vec<BodyStructure<K::Text, K::Bytes>>>
-    requires inside { p ≤ length m.now }
+    requires start { p ≤ length m.now }
     requires serves { K.serves keep.now m.now }
     ensures steps { GivesAt (λ x. map (body_seen (K.text_said (named_in m.now)) (K.bytes_said (named_in m.now))) x.items) m.now result (step (bodies.some_bodies (bodies.body level)) (drop p m.now)) }
     ensures ahead { Ahead m.now p result }
@@ -423,7 +422,7 @@ fn one_body<K: Keep>(
     m: &[u8],
     p: usize,
 ) -> Reached<Boxed<K::Text, K::Bytes>>
-    requires inside { p ≤ length m.now }
+    requires start { p ≤ length m.now }
     requires serves { K.serves keep.now m.now }
     ensures steps { GivesAt (λ x. boxed_seen (K.text_said (named_in m.now)) (K.bytes_said (named_in m.now)) x) m.now result (step (bodies.body level) (drop p m.now)) }
     ensures ahead { Ahead m.now p result }
@@ -442,7 +441,7 @@ pub fn body_structure<K: Keep>(
     m: &[u8],
     p: usize,
 ) -> Reached<Boxed<K::Text, K::Bytes>>
-    requires inside { p ≤ length m.now }
+    requires start { p ≤ length m.now }
     requires serves { K.serves keep.now m.now }
     ensures steps { GivesAt (λ x. boxed_seen (K.text_said (named_in m.now)) (K.bytes_said (named_in m.now)) x) m.now result (step bodies.body_structure (drop p m.now)) }
     ensures ahead { Ahead m.now p result }

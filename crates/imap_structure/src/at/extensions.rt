@@ -42,7 +42,7 @@ fn spaced_params<K: Keep>(
     m: &[u8],
     p: usize,
 ) -> Reached<BodyParams<K::Text>>
-    requires inside { p ≤ length m.now }
+    requires start { p ≤ length m.now }
     requires serves { K.serves keep.now m.now }
     ensures steps { GivesAt (λ x. params_seen (K.text_said (named_in m.now)) x) m.now result (step (spaced fields.body_fld_param) (drop p m.now)) }
     ensures ahead { Ahead m.now p result }
@@ -60,7 +60,7 @@ fn body_fld_dsp<K: Keep>(
     m: &[u8],
     p: usize,
 ) -> Reached<Option<ContentDisposition<K::Text>>>
-    requires inside { p ≤ length m.now }
+    requires start { p ≤ length m.now }
     requires serves { K.serves keep.now m.now }
     ensures steps { GivesAt (λ x. option_map (disposition_seen (K.text_said (named_in m.now))) x) m.now result (step extensions.body_fld_dsp (drop p m.now)) }
     ensures ahead { Ahead m.now p result }
@@ -79,7 +79,7 @@ fn body_fld_dsp<K: Keep>(
 
 #[tactic(auto, unfolding(crate::specs::Extensions::some_languages))]
 fn some_languages<K: Keep>(keep: &K, alloc: Global, m: &[u8], p: usize) -> Reached<Vec<K::Text>>
-    requires inside { p ≤ length m.now }
+    requires start { p ≤ length m.now }
     requires serves { K.serves keep.now m.now }
     ensures steps { GivesAt (λ x. map (K.text_said (named_in m.now)) x.items) m.now result (step extensions.some_languages (drop p m.now)) }
     ensures ahead { Ahead m.now p result }
@@ -102,7 +102,7 @@ fn language_list<K: Keep>(
     m: &[u8],
     p: usize,
 ) -> Reached<Option<Vec<K::Text>>>
-    requires inside { p ≤ length m.now }
+    requires start { p ≤ length m.now }
     requires serves { K.serves keep.now m.now }
     ensures steps { GivesAt (λ x. languages_seen (K.text_said (named_in m.now)) x) m.now result (step extensions.language_list (drop p m.now)) }
     ensures ahead { Ahead m.now p result }
@@ -133,7 +133,7 @@ fn body_fld_lang<K: Keep>(
     m: &[u8],
     p: usize,
 ) -> Reached<Option<Vec<K::Text>>>
-    requires inside { p ≤ length m.now }
+    requires start { p ≤ length m.now }
     requires serves { K.serves keep.now m.now }
     ensures steps { GivesAt (λ x. languages_seen (K.text_said (named_in m.now)) x) m.now result (step extensions.body_fld_lang (drop p m.now)) }
     ensures ahead { Ahead m.now p result }
@@ -158,7 +158,7 @@ fn number_extension<K: Keep>(m: &[u8], p: usize) -> Reached<BodyExtension<K::Tex
 
 #[tactic(auto, using(crate::proofs::Seeing::string_seen), unfolding(crate::specs::Extensions::string_extension))]
 fn string_extension<K: Keep>(keep: &K, m: &[u8], p: usize) -> Reached<BodyExtension<K::Text>>
-    requires inside { p ≤ length m.now }
+    requires start { p ≤ length m.now }
     requires serves { K.serves keep.now m.now }
     ensures steps { GivesAt (λ x. extension_seen (K.text_said (named_in m.now)) x) m.now result (step extensions.string_extension (drop p m.now)) }
     ensures ahead { Ahead m.now p result }
@@ -181,7 +181,7 @@ pub fn extension<K: Keep>(
     m: &[u8],
     p: usize,
 ) -> Reached<BodyExtension<K::Text>>
-    requires inside { p ≤ length m.now }
+    requires start { p ≤ length m.now }
     requires serves { K.serves keep.now m.now }
     ensures steps { GivesAt (λ x. extension_seen (K.text_said (named_in m.now)) x) m.now result (step (extensions.extension level) (drop p m.now)) }
     ensures ahead { Ahead m.now p result }
@@ -206,7 +206,7 @@ fn extension_list<K: Keep>(
     m: &[u8],
     p: usize,
 ) -> Reached<BodyExtension<K::Text>>
-    requires inside { p ≤ length m.now }
+    requires start { p ≤ length m.now }
     requires serves { K.serves keep.now m.now }
     ensures steps { GivesAt (λ x. extension_seen (K.text_said (named_in m.now)) x) m.now result (step (extensions.extension_list level) (drop p m.now)) }
     ensures ahead { Ahead m.now p result }
@@ -227,7 +227,7 @@ fn bracketed_extensions<K: Keep>(
     m: &[u8],
     p: usize,
 ) -> Reached<BodyExtension<K::Text>>
-    requires inside { p ≤ length m.now }
+    requires start { p ≤ length m.now }
     requires serves { K.serves keep.now m.now }
     ensures steps { GivesAt (λ x. extension_seen (K.text_said (named_in m.now)) x) m.now result (step (extensions.bracketed_extensions (extensions.extension_list level)) (drop p m.now)) }
     ensures ahead { Ahead m.now p result }
@@ -249,7 +249,7 @@ fn some_extensions<K: Keep>(
     m: &[u8],
     p: usize,
 ) -> Reached<Vec<BodyExtension<K::Text>>>
-    requires inside { p ≤ length m.now }
+    requires start { p ≤ length m.now }
     requires serves { K.serves keep.now m.now }
     ensures steps { GivesAt (λ x. map (extension_seen (K.text_said (named_in m.now))) x.items) m.now result (step (extensions.some_extensions (extensions.extension_list level)) (drop p m.now)) }
     ensures ahead { Ahead m.now p result }
@@ -275,7 +275,7 @@ fn spaced_extension<K: Keep>(
     m: &[u8],
     p: usize,
 ) -> Reached<BodyExtension<K::Text>>
-    requires inside { p ≤ length m.now }
+    requires start { p ≤ length m.now }
     requires serves { K.serves keep.now m.now }
     ensures steps { GivesAt (λ x. extension_seen (K.text_said (named_in m.now)) x) m.now result (step (spaced (extensions.extension level)) (drop p m.now)) }
     ensures ahead { Ahead m.now p result }
@@ -294,7 +294,7 @@ pub fn body_extension<K: Keep>(
     m: &[u8],
     p: usize,
 ) -> Reached<BodyExtension<K::Text>>
-    requires inside { p ≤ length m.now }
+    requires start { p ≤ length m.now }
     requires serves { K.serves keep.now m.now }
     ensures steps { GivesAt (λ x. extension_seen (K.text_said (named_in m.now)) x) m.now result (step extensions.body_extension (drop p m.now)) }
     ensures ahead { Ahead m.now p result }
@@ -322,7 +322,7 @@ fn maybe_params<K: Keep>(
     m: &[u8],
     p: usize,
 ) -> Reached<BodyParams<K::Text>>
-    requires inside { p ≤ length m.now }
+    requires start { p ≤ length m.now }
     requires serves { K.serves keep.now m.now }
     ensures steps { GivesAt (λ x. params_seen (K.text_said (named_in m.now)) x) m.now result (step (maybe_spaced fields.body_fld_param) (drop p m.now)) }
     ensures ahead { Ahead m.now p result }
@@ -338,7 +338,7 @@ fn spaced_disposition<K: Keep>(
     m: &[u8],
     p: usize,
 ) -> Reached<Option<ContentDisposition<K::Text>>>
-    requires inside { p ≤ length m.now }
+    requires start { p ≤ length m.now }
     requires serves { K.serves keep.now m.now }
     ensures steps { GivesAt (λ x. option_map (disposition_seen (K.text_said (named_in m.now))) x) m.now result (step (spaced extensions.body_fld_dsp) (drop p m.now)) }
     ensures ahead { Ahead m.now p result }
@@ -355,7 +355,7 @@ fn maybe_disposition<K: Keep>(
     m: &[u8],
     p: usize,
 ) -> Reached<Option<ContentDisposition<K::Text>>>
-    requires inside { p ≤ length m.now }
+    requires start { p ≤ length m.now }
     requires serves { K.serves keep.now m.now }
     ensures steps { GivesAt (λ x. option_map (disposition_seen (K.text_said (named_in m.now))) x) m.now result (step (maybe_spaced extensions.body_fld_dsp) (drop p m.now)) }
     ensures ahead { Ahead m.now p result }
@@ -371,7 +371,7 @@ fn spaced_languages<K: Keep>(
     m: &[u8],
     p: usize,
 ) -> Reached<Option<Vec<K::Text>>>
-    requires inside { p ≤ length m.now }
+    requires start { p ≤ length m.now }
     requires serves { K.serves keep.now m.now }
     ensures steps { GivesAt (λ x. languages_seen (K.text_said (named_in m.now)) x) m.now result (step (spaced extensions.body_fld_lang) (drop p m.now)) }
     ensures ahead { Ahead m.now p result }
@@ -388,7 +388,7 @@ fn maybe_languages<K: Keep>(
     m: &[u8],
     p: usize,
 ) -> Reached<Option<Vec<K::Text>>>
-    requires inside { p ≤ length m.now }
+    requires start { p ≤ length m.now }
     requires serves { K.serves keep.now m.now }
     ensures steps { GivesAt (λ x. languages_seen (K.text_said (named_in m.now)) x) m.now result (step (maybe_spaced extensions.body_fld_lang) (drop p m.now)) }
     ensures ahead { Ahead m.now p result }
@@ -406,7 +406,7 @@ fn last_extension<K: Keep>(
     m: &[u8],
     p: usize,
 ) -> Reached<Option<BodyExtension<K::Text>>>
-    requires inside { p ≤ length m.now }
+    requires start { p ≤ length m.now }
     requires serves { K.serves keep.now m.now }
     ensures steps { GivesAt (λ x. option_map (extension_seen (K.text_said (named_in m.now))) x) m.now result (step extensions.last_extension (drop p m.now)) }
     ensures ahead { Ahead m.now p result }
@@ -426,7 +426,7 @@ pub fn body_ext_1part<K: Keep>(
     m: &[u8],
     p: usize,
 ) -> Reached<BodyExt1Part<K::Text>>
-    requires inside { p ≤ length m.now }
+    requires start { p ≤ length m.now }
     requires serves { K.serves keep.now m.now }
     ensures steps { GivesAt (λ x. ext_1part_seen (K.text_said (named_in m.now)) x) m.now result (step extensions.body_ext_1part (drop p m.now)) }
     ensures ahead { Ahead m.now p result }
@@ -460,7 +460,7 @@ pub fn body_ext_mpart<K: Keep>(
     m: &[u8],
     p: usize,
 ) -> Reached<BodyExtMPart<K::Text>>
-    requires inside { p ≤ length m.now }
+    requires start { p ≤ length m.now }
     requires serves { K.serves keep.now m.now }
     ensures steps { GivesAt (λ x. ext_mpart_seen (K.text_said (named_in m.now)) x) m.now result (step extensions.body_ext_mpart (drop p m.now)) }
     ensures ahead { Ahead m.now p result }

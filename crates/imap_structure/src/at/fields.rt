@@ -56,7 +56,7 @@ fn some_params<K: Keep>(
     m: &[u8],
     p: usize,
 ) -> Reached<Vec<(K::Text, K::Text)>>
-    requires inside { p ≤ length m.now }
+    requires start { p ≤ length m.now }
     requires serves { K.serves keep.now m.now }
     ensures steps { GivesAt (λ x. map (pair_seen (K.text_said (named_in m.now))) x.items) m.now result (step fields.some_params (drop p m.now)) }
     ensures ahead { Ahead m.now p result }
@@ -82,7 +82,7 @@ pub fn body_fld_param<K: Keep>(
     m: &[u8],
     p: usize,
 ) -> Reached<BodyParams<K::Text>>
-    requires inside { p ≤ length m.now }
+    requires start { p ≤ length m.now }
     requires serves { K.serves keep.now m.now }
     ensures steps { GivesAt (λ x. params_seen (K.text_said (named_in m.now)) x) m.now result (step fields.body_fld_param (drop p m.now)) }
     ensures ahead { Ahead m.now p result }
@@ -244,7 +244,7 @@ pub fn body_fields<K: Keep>(
     m: &[u8],
     p: usize,
 ) -> Reached<BodyFields<K::Text>>
-    requires inside { p ≤ length m.now }
+    requires start { p ≤ length m.now }
     requires serves { K.serves keep.now m.now }
     ensures steps { GivesAt (λ x. fields_seen (K.text_said (named_in m.now)) x) m.now result (step fields.body_fields (drop p m.now)) }
     ensures ahead { Ahead m.now p result }
@@ -276,7 +276,7 @@ pub fn spaced_fields<K: Keep>(
     m: &[u8],
     p: usize,
 ) -> Reached<BodyFields<K::Text>>
-    requires inside { p ≤ length m.now }
+    requires start { p ≤ length m.now }
     requires serves { K.serves keep.now m.now }
     ensures steps { GivesAt (λ x. fields_seen (K.text_said (named_in m.now)) x) m.now result (step (spaced fields.body_fields) (drop p m.now)) }
     ensures ahead { Ahead m.now p result }

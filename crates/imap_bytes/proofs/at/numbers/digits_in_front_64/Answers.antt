@@ -1,13 +1,13 @@
 use Rattle.std.proofs.Common.{rules, ◌≡◌, ◌≤◌, ◌^◌, ◌+◌, ◌*◌, ◌-◌, None, take, sym, ap, subst, ◌∙◌, arith}
 use Rattle.std.specs.Str.Parse.{digits_value}
-use Rattle.imap_bytes.specs.Numbers.{InFront}
+use Rattle.imap_bytes.specs.Numbers.{DigitsInFront}
 use Rattle.imap_bytes.proofs.Digits.{one_more, bounded, unbounded, all_digits, too_large}
 use Rattle.imap_bytes.proofs.at.numbers.digits_in_front_64.Goals as goal
 
 pub returns-in_err-digits_end-in-None-clause-at : goal.returns-in_err-digits_end-in-None-clause-at
 returns-in_err-digits_end-in-None-clause-at c =
     let none : c.from_residual.result ≡ None = search rules in
-    subst (InFront (2 ^ 64) c.args.i.now) (sym none) (all_digits c.args.i.now c.in_err-digits_end-in-None.ensures.at)
+    subst (DigitsInFront (2 ^ 64) c.args.i.now) (sym none) (all_digits c.args.i.now c.in_err-digits_end-in-None.ensures.at)
 
 pub returns-in-None-clause-at : goal.returns-in-None-clause-at
 returns-in-None-clause-at c =

@@ -2,14 +2,14 @@ use Rattle.std.proofs.Common.{rules, ◌≡◌, ◌≤◌, ◌^◌, ◌+◌, ◌
 use Rattle.std.specs.List.{list_all}
 use Rattle.std.specs.Str.Parse.{digits_value}
 use Rattle.imap_grammar.specs.Classes.{is_digit}
-use Rattle.imap_bytes.specs.Numbers.{InFront}
+use Rattle.imap_bytes.specs.Numbers.{DigitsInFront}
 use Rattle.imap_bytes.proofs.Digits.{one_more, next_left, is_a_digit, all_digits, too_large}
 use Rattle.imap_bytes.proofs.at.numbers.many_digits_in_front.Goals as goal
 
 pub returns-in_err-digits_end-clause-at : goal.returns-in_err-digits_end-clause-at
 returns-in_err-digits_end-clause-at c =
     let none : c.from_residual.result ≡ None = search rules in
-    subst (InFront (2 ^ 32) c.args.i.now) (sym none) (all_digits c.args.i.now c.in_err-digits_end.ensures.at)
+    subst (DigitsInFront (2 ^ 32) c.args.i.now) (sym none) (all_digits c.args.i.now c.in_err-digits_end.ensures.at)
 
 pub returns-then-number-from-clause-at : goal.returns-then-number-from-clause-at
 returns-then-number-from-clause-at c =

@@ -14,7 +14,7 @@ addresses-init g c = record {
   gathered = rw c.in_ok-items.ensures.items (record { so_far = onto_nothing _ });
   rests = rw c.in_ok-items.ensures.items (record { same = λ n k alike. refl });
   ahead = omega arith;
-  within = c.requires.inside;
+  within = c.requires.start;
 }
 
 pub addresses-smaller : goal.addresses-smaller
