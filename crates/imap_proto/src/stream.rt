@@ -171,7 +171,7 @@ pub struct Whole {
     pub end: End,
 }
 
-// TakesAll the responses that a feed has, puts them behind the others, and tells why it gives no more.
+// Takes the responses that a feed has, puts them behind the others, and tells why it gives no more.
 fn take_all(feed: &mut Feed, responses: &mut Vec<Response<'static>>) -> Result<End, AllocError>
     ensures { IfOk result (TakesAll feed.old responses.old.items feed.new responses.new.items) }
 {
