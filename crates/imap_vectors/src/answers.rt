@@ -41,6 +41,21 @@ pub fn says<T: Debug + Drop>(alloc: Global, answer: IResult<&[u8], T>, want: &st
     }
 }
 
+/// Asserts what a row says; where it fails, the row is told by its text.
+pub fn assert_row(rt: &impl Abort, holds: bool, want: &str) {
+    assert!(rt; holds, "{want}");
+}
+
+/// Asserts that a reader's answer is told so.
+pub fn assert_says<T: Debug + Drop>(
+    rt: &impl Abort,
+    alloc: Global,
+    answer: IResult<&[u8], T>,
+    want: &str,
+) {
+    assert_row(rt, says(alloc, answer, want), want);
+}
+
 /// Whether a reader at a position reached this one, and told the value so.
 pub fn says_at<T: Debug + Drop>(alloc: Global, answer: Reached<T>, want: &str) -> bool {
     let text = match answer {
@@ -77,13 +92,18 @@ pub fn displays<T: Display + Drop>(alloc: Global, value: T, want: &str) -> bool 
     }
 }
 
+// Asserts that `Response::parse` answers each line of the table as its row says, and that the line may be cut anywhere.
+fn assert_rows(rt: &impl Abort, alloc: Global, rows: Rows) {
+    for (line, want) in rows {
+        assert_row(rt, parses(alloc, line, want), want);
+        assert_row(rt, may_be_cut(alloc, line), want);
+    }
+}
+
 /// Asserts that `Response::parse` answers each line of the tables as its row says, and that the line may be cut anywhere.
 pub fn assert_lines(rt: &impl Abort, alloc: Global, tables: &[Rows]) {
     for rows in tables {
-        for (line, want) in *rows {
-            assert!(rt; parses(alloc, line, want), "{want}");
-            assert!(rt; may_be_cut(alloc, line), "{want}");
-        }
+        assert_rows(rt, alloc, *rows);
     }
 }
 

@@ -1,6 +1,6 @@
 //! Body structures, their fields and extension data, as they are read and with all texts owned.
 
-use crate::answers::{Rows, says};
+use crate::answers::{Rows, assert_says};
 use imap_body::readers::{body_extension, body_fields, body_structure};
 use imap_proto::imap_core::IResult;
 use imap_proto::rfc3501::body_structure::{
@@ -179,8 +179,8 @@ static MESSAGES_AND_MULTIPARTS: Rows = &[
 fn fields_of_bodies(rt: HostRuntime) {
     let alloc = rt.alloc();
     for (input, want) in FIELDS {
-        assert!(rt; says(alloc, fields(alloc, input), want), "{want}");
-        assert!(rt; says(alloc, owned_fields(alloc, input), want), "{want}");
+        assert_says(&rt, alloc, fields(alloc, input), want);
+        assert_says(&rt, alloc, owned_fields(alloc, input), want);
     }
 }
 
@@ -188,15 +188,15 @@ fn fields_of_bodies(rt: HostRuntime) {
 fn extensions_of_bodies(rt: HostRuntime) {
     let alloc = rt.alloc();
     for (input, want) in EXTENSIONS {
-        assert!(rt; says(alloc, body_extension(alloc, input), want), "{want}");
-        assert!(rt; says(alloc, owned_extension(alloc, input), want), "{want}");
+        assert_says(&rt, alloc, body_extension(alloc, input), want);
+        assert_says(&rt, alloc, owned_extension(alloc, input), want);
     }
 }
 
 fn assert_bodies(rt: &impl Abort, alloc: Global, rows: Rows) {
     for (input, want) in rows {
-        assert!(rt; says(alloc, body_structure(alloc, input), want), "{want}");
-        assert!(rt; says(alloc, owned_body(alloc, input), want), "{want}");
+        assert_says(rt, alloc, body_structure(alloc, input), want);
+        assert_says(rt, alloc, owned_body(alloc, input), want);
     }
 }
 

@@ -1,6 +1,6 @@
 //! Bytes: classes, numbers, strings and sets.
 
-use crate::answers::{Rows, WAITS, says, says_bytes};
+use crate::answers::{Rows, WAITS, assert_row, assert_says, says_bytes};
 use imap_proto::imap_core::{
     astring, atom, is_astring_char, is_atom_char, is_atom_specials, is_char, is_list_wildcards,
     is_quoted_specials, is_resp_specials, is_text_char, literal, nil, nstring, number, number_64,
@@ -78,23 +78,29 @@ static SETS: Rows = &[
 #[test]
 fn numbers(rt: HostRuntime) {
     for (input, want) in NUMBERS {
-        assert!(rt; says(rt.alloc(), number(input), want), "{want}");
+        assert_says(&rt, rt.alloc(), number(input), want);
     }
+}
+
+#[test]
+fn large_numbers(rt: HostRuntime) {
     for (input, want) in LARGE_NUMBERS {
-        assert!(rt; says(rt.alloc(), number_64(input), want), "{want}");
+        assert_says(&rt, rt.alloc(), number_64(input), want);
+    }
+}
+
+#[test]
+fn ranges(rt: HostRuntime) {
+    for (input, want) in RANGES {
+        assert_says(&rt, rt.alloc(), sequence_range(input), want);
     }
 }
 
 #[test]
 fn sets(rt: HostRuntime) {
-    for (input, want) in RANGES {
-        assert!(rt; says(rt.alloc(), sequence_range(input), want), "{want}");
-    }
+    let alloc = rt.alloc();
     for (input, want) in SETS {
-        assert!(rt;
-            says(rt.alloc(), sequence_set(rt.alloc(), input), want),
-            "{want}"
-        );
+        assert_says(&rt, alloc, sequence_set(alloc, input), want);
     }
 }
 
@@ -140,22 +146,30 @@ static ASTRINGS: Rows = &[
 ];
 
 #[test]
-fn quoted_strings_and_literals(rt: HostRuntime) {
+fn quoted_strings(rt: HostRuntime) {
     for (input, want) in QUOTED {
-        assert!(rt; says_bytes(rt.alloc(), quoted(input), want), "{want}");
+        assert_row(&rt, says_bytes(rt.alloc(), quoted(input), want), want);
     }
+}
+
+#[test]
+fn literals(rt: HostRuntime) {
     for (input, want) in LITERALS {
-        assert!(rt; says_bytes(rt.alloc(), literal(input), want), "{want}");
+        assert_row(&rt, says_bytes(rt.alloc(), literal(input), want), want);
     }
 }
 
 #[test]
 fn strings(rt: HostRuntime) {
     for (input, want) in STRINGS {
-        assert!(rt; says_bytes(rt.alloc(), string(input), want), "{want}");
+        assert_row(&rt, says_bytes(rt.alloc(), string(input), want), want);
     }
+}
+
+#[test]
+fn astrings(rt: HostRuntime) {
     for (input, want) in ASTRINGS {
-        assert!(rt; says_bytes(rt.alloc(), astring(input), want), "{want}");
+        assert_row(&rt, says_bytes(rt.alloc(), astring(input), want), want);
     }
 }
 
@@ -184,18 +198,22 @@ static MAYBE_STRINGS: Rows = &[
 ];
 
 #[test]
-fn atoms_and_nil(rt: HostRuntime) {
+fn atoms(rt: HostRuntime) {
     for (input, want) in ATOMS {
-        assert!(rt; says(rt.alloc(), atom(input), want), "{want}");
+        assert_says(&rt, rt.alloc(), atom(input), want);
     }
+}
+
+#[test]
+fn nils(rt: HostRuntime) {
     for (input, want) in NILS {
-        assert!(rt; says_bytes(rt.alloc(), nil(input), want), "{want}");
+        assert_row(&rt, says_bytes(rt.alloc(), nil(input), want), want);
     }
 }
 
 #[test]
 fn maybe_strings(rt: HostRuntime) {
     for (input, want) in MAYBE_STRINGS {
-        assert!(rt; says(rt.alloc(), nstring(input), want), "{want}");
+        assert_says(&rt, rt.alloc(), nstring(input), want);
     }
 }

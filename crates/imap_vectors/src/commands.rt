@@ -1,6 +1,6 @@
 //! Commands.
 
-use crate::answers::displays;
+use crate::answers::{assert_row, displays};
 use imap_proto::builders::command::{
     AttrMacro, Attribute, BuildError, Command, CommandBuilder, State,
 };
@@ -151,6 +151,6 @@ fn texts_of_refusals(rt: HostRuntime) {
         (BuildError::OutOfMemory, "out of memory"),
     ];
     for (refusal, want) in rows {
-        assert!(rt; displays(rt.alloc(), refusal, want), "{want}");
+        assert_row(&rt, displays(rt.alloc(), refusal, want), want);
     }
 }

@@ -1,6 +1,6 @@
 //! Envelopes and addresses, as they are read and with all texts owned. Their byte strings are told as numbers.
 
-use crate::answers::{Rows, says};
+use crate::answers::{Rows, assert_says};
 use imap_body::readers::{address, envelope};
 use imap_body::{Address, Envelope};
 use imap_proto::imap_core::IResult;
@@ -58,8 +58,8 @@ fn owned_envelope(alloc: Global, i: &[u8]) -> IResult<&[u8], Envelope<'static>> 
 fn addresses(rt: HostRuntime) {
     let alloc = rt.alloc();
     for (input, want) in ADDRESSES {
-        assert!(rt; says(alloc, address(input), want), "{want}");
-        assert!(rt; says(alloc, owned_address(alloc, input), want), "{want}");
+        assert_says(&rt, alloc, address(input), want);
+        assert_says(&rt, alloc, owned_address(alloc, input), want);
     }
 }
 
@@ -67,7 +67,7 @@ fn addresses(rt: HostRuntime) {
 fn envelopes(rt: HostRuntime) {
     let alloc = rt.alloc();
     for (input, want) in ENVELOPES {
-        assert!(rt; says(alloc, envelope(alloc, input), want), "{want}");
-        assert!(rt; says(alloc, owned_envelope(alloc, input), want), "{want}");
+        assert_says(&rt, alloc, envelope(alloc, input), want);
+        assert_says(&rt, alloc, owned_envelope(alloc, input), want);
     }
 }

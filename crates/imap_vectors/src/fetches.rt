@@ -1,6 +1,6 @@
 //! Lines that tell of a message, and the readers of attributes by themselves.
 
-use crate::answers::{Rows, assert_lines, says};
+use crate::answers::{Rows, assert_lines, assert_says};
 use imap_body::readers::{attribute, attribute_list};
 use imap_proto::rfc3501::body::msg_att_body_section;
 use std::test::*;
@@ -215,10 +215,7 @@ static LISTS: Rows = &[
 fn sections_of_bodies(rt: HostRuntime) {
     let alloc = rt.alloc();
     for (input, want) in SECTIONS {
-        assert!(rt;
-            says(alloc, msg_att_body_section(alloc, input), want),
-            "{want}"
-        );
+        assert_says(&rt, alloc, msg_att_body_section(alloc, input), want);
     }
 }
 
@@ -226,7 +223,7 @@ fn sections_of_bodies(rt: HostRuntime) {
 fn single_attributes(rt: HostRuntime) {
     let alloc = rt.alloc();
     for (input, want) in SINGLE {
-        assert!(rt; says(alloc, attribute(alloc, input), want), "{want}");
+        assert_says(&rt, alloc, attribute(alloc, input), want);
     }
 }
 
@@ -234,6 +231,6 @@ fn single_attributes(rt: HostRuntime) {
 fn lists_of_attributes(rt: HostRuntime) {
     let alloc = rt.alloc();
     for (input, want) in LISTS {
-        assert!(rt; says(alloc, attribute_list(alloc, input), want), "{want}");
+        assert_says(&rt, alloc, attribute_list(alloc, input), want);
     }
 }

@@ -1,6 +1,6 @@
 //! Fetches that are kept, and attributes as positions: what they tell of their message, and of another one in its place.
 
-use crate::answers::{Rows, parses, says, says_at};
+use crate::answers::{Rows, assert_row, parses, says, says_at, told};
 use crate::{codes, extensions, fetches, mailboxes, statuses};
 use imap_body::AttributeValue;
 use imap_body::spanned::{SpannedAttribute, attribute_list_at};
@@ -11,6 +11,8 @@ use std::alloc::{AllocError, Global};
 use std::fmt;
 use std::process::Abort;
 use std::test::*;
+
+const NOTHING: &[u8] = b"";
 
 // What an attribute says, in its place.
 #[derive(Drop)]
@@ -28,9 +30,8 @@ fn tell_one(
     value: AttributeValue<'_>,
     attributes: &mut Vec<Told>,
 ) -> Result<(), AllocError> {
-    let text = format!(in alloc; "{value:?}");
-    drop(value);
-    attributes.push(Told(text?))?;
+    let text = told(alloc, Ok((NOTHING, value)))?;
+    attributes.push(Told(text))?;
     Ok(())
 }
 
@@ -76,21 +77,30 @@ fn is_not_kept(alloc: Global, line: &[u8], want: &str) -> bool {
     }
 }
 
-// Each line is told so, and nothing is kept of it.
+// Each line of the table is told so, and nothing is kept of it.
+fn assert_none_of(rt: &impl Abort, alloc: Global, rows: Rows) {
+    for (line, want) in rows {
+        assert_row(rt, is_not_kept(alloc, line, want), want);
+    }
+}
+
+// Each line of the tables is told so, and nothing is kept of it.
 fn assert_none_kept(rt: &impl Abort, alloc: Global, tables: &[Rows]) {
     for rows in tables {
-        for (line, want) in *rows {
-            assert!(rt; is_not_kept(alloc, line, want), "{want}");
-        }
+        assert_none_of(rt, alloc, *rows);
+    }
+}
+
+fn assert_kept(rt: &impl Abort, alloc: Global, rows: Rows) {
+    for (line, want) in rows {
+        assert_row(rt, is_kept(alloc, line, want), want);
     }
 }
 
 #[test]
 fn kept_as_parsed(rt: HostRuntime) {
     for rows in &fetches::lines() {
-        for (line, want) in *rows {
-            assert!(rt; is_kept(rt.alloc(), line, want), "{want}");
-        }
+        assert_kept(&rt, rt.alloc(), *rows);
     }
 }
 
@@ -260,8 +270,6 @@ fn told_values(
     }
     Ok(values)
 }
-
-const NOTHING: &[u8] = b"";
 
 #[test]
 fn positions(rt: HostRuntime) -> Result<(), Fail> {

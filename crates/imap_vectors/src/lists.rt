@@ -8,7 +8,7 @@ ghost use Rattle.imap_grammar.specs.Step.{step};
 ghost use Rattle.imap_grammar.specs.Lists.{delimited, list_of, nonempty_list_of};
 ghost use Rattle.imap_bytes.specs.Numbers as rules;
 
-use crate::answers::{Rows, WAITS, says};
+use crate::answers::{Rows, WAITS, assert_says};
 use imap_proto::imap_core::{
     IResult, literal, number, opt_opt, paren_delimited, parenthesized_list,
     parenthesized_nonempty_list,
@@ -95,11 +95,8 @@ static NONEMPTY_LISTS: Rows = &[
 fn lists(rt: HostRuntime) {
     let alloc = rt.alloc();
     for (input, want) in LISTS {
-        assert!(rt; says(alloc, numbers(alloc, input), want), "{want}");
-        assert!(rt;
-            says(alloc, numbers_by_closure(alloc, input), want),
-            "{want}"
-        );
+        assert_says(&rt, alloc, numbers(alloc, input), want);
+        assert_says(&rt, alloc, numbers_by_closure(alloc, input), want);
     }
 }
 
@@ -107,20 +104,24 @@ fn lists(rt: HostRuntime) {
 fn nonempty_lists(rt: HostRuntime) {
     let alloc = rt.alloc();
     for (input, want) in NONEMPTY_LISTS {
-        assert!(rt; says(alloc, some_numbers(alloc, input), want), "{want}");
+        assert_says(&rt, alloc, some_numbers(alloc, input), want);
     }
 }
 
 #[test]
 fn lists_of_literals(rt: HostRuntime) {
     let alloc = rt.alloc();
-    assert!(rt; says(alloc, literals(alloc, b"({3}\r\nab"), "Incomplete(Size(1))"));
-    assert!(rt;
-        says(
-            alloc,
-            literals(alloc, b"({1}\r\n) {2}\r\n"),
-            "Incomplete(Size(2))"
-        )
+    assert_says(
+        &rt,
+        alloc,
+        literals(alloc, b"({3}\r\nab"),
+        "Incomplete(Size(1))",
+    );
+    assert_says(
+        &rt,
+        alloc,
+        literals(alloc, b"({1}\r\n) {2}\r\n"),
+        "Incomplete(Size(2))",
     );
 }
 
@@ -142,8 +143,8 @@ static MAYBE_NUMBERS: Rows = &[
 fn brackets(rt: HostRuntime) {
     let alloc = rt.alloc();
     for (input, want) in DELIMITED {
-        assert!(rt; says(alloc, delimited_number(input), want), "{want}");
-        assert!(rt; says(alloc, delimited_by_closure(input), want), "{want}");
+        assert_says(&rt, alloc, delimited_number(input), want);
+        assert_says(&rt, alloc, delimited_by_closure(input), want);
     }
 }
 
@@ -151,6 +152,6 @@ fn brackets(rt: HostRuntime) {
 fn choices(rt: HostRuntime) {
     let alloc = rt.alloc();
     for (input, want) in MAYBE_NUMBERS {
-        assert!(rt; says(alloc, maybe_number(input), want), "{want}");
+        assert_says(&rt, alloc, maybe_number(input), want);
     }
 }

@@ -8,6 +8,7 @@ use imap_proto::Response;
 use imap_proto::imap_core::{Err, IResult};
 use imap_proto::rfc3501::body_structure::{MAX_BODY_DEPTH, MAX_EXTENSION_DEPTH};
 use std::alloc::{AllocError, Global};
+use std::process::Abort;
 use std::test::*;
 
 /// What stands before, in and behind what is nested.
@@ -15,6 +16,13 @@ struct Nest {
     before: &'static [u8],
     inside: &'static [u8],
     behind: &'static [u8],
+}
+
+fn push_times(line: &mut Vec<u8>, bytes: &[u8], times: u32) -> Result<(), AllocError> {
+    for _ in 0..times {
+        line.extend_from_slice(bytes)?;
+    }
+    Ok(())
 }
 
 // So many levels, the inside being the last.
@@ -25,14 +33,11 @@ fn nested(
     levels: u32,
     end: &[u8],
 ) -> Result<Vec<u8>, AllocError> {
+    let around = levels.saturating_sub(1);
     let mut line = Vec::from_slice(alloc, start)?;
-    for _ in 1..levels {
-        line.extend_from_slice(nest.before)?;
-    }
+    push_times(&mut line, nest.before, around)?;
     line.extend_from_slice(nest.inside)?;
-    for _ in 1..levels {
-        line.extend_from_slice(nest.behind)?;
-    }
+    push_times(&mut line, nest.behind, around)?;
     line.extend_from_slice(end)?;
     Ok(line)
 }
@@ -141,15 +146,24 @@ fn line_ends(alloc: Global, line: &[u8], want: Ending) -> Result<bool, AllocErro
     )
 }
 
+fn assert_nested(
+    rt: &impl Abort,
+    alloc: Global,
+    levels: u32,
+    want: Ending,
+) -> Result<(), AllocError> {
+    for (start, nest, end) in LINES {
+        let line = nested(alloc, start, nest, levels, end)?;
+        assert!(rt; line_ends(alloc, &line, want)?, "{levels}");
+    }
+    Ok(())
+}
+
 // A body that nests too deep is tried as an unknown attribute, which ends at the first closing bracket: so the line is denied.
 #[test]
 fn nesting_in_lines(rt: HostRuntime) -> Result<(), Fail> {
-    let alloc = rt.alloc();
     for (levels, want) in DEPTHS {
-        for (start, nest, end) in LINES {
-            let line = nested(alloc, start, nest, levels, end)?;
-            assert!(rt; line_ends(alloc, &line, want)?, "{levels}");
-        }
+        assert_nested(&rt, rt.alloc(), levels, want)?;
     }
     Ok(())
 }

@@ -1,6 +1,6 @@
 //! Whole lines, and parts of body structures made by hand, with all texts owned.
 
-use crate::answers::{Rows, says};
+use crate::answers::{Rows, assert_row, assert_says, says};
 use crate::{codes, extensions, fetches, mailboxes, statuses};
 use imap_body::{
     BodyContentCommon, BodyContentSinglePart, BodyExt1Part, BodyExtMPart, ContentDisposition,
@@ -137,11 +137,15 @@ fn says_owned(alloc: Global, answer: IResult<&[u8], Response<'_>>, want: &str) -
     }
 }
 
+fn owned_response(alloc: Global, line: &[u8]) -> Result<Response<'static>, Err> {
+    let (_, response) = Response::parse(alloc, line)?;
+    Ok(response.into_owned(alloc)?)
+}
+
 // The response at the front of a copy of these bytes, made owned: the copy is gone when it is answered.
 fn response_alone(alloc: Global, line: &[u8]) -> Result<Response<'static>, Err> {
     let copy = Vec::from_slice(alloc, line)?;
-    let (_, response) = Response::parse(alloc, copy.as_slice())?;
-    Ok(response.into_owned(alloc)?)
+    owned_response(alloc, copy.as_slice())
 }
 
 // Whether a line's response equals what a second reading gives, made owned, if there is a response.
@@ -153,16 +157,19 @@ fn equals_owned(alloc: Global, line: &'static [u8]) -> bool {
     }
 }
 
-// Asserts of each line of the tables that its response made owned is told as its row says, and equals the borrowed one.
+// Asserts of each line of the table that its response made owned is told as its row says, and equals the borrowed one.
+fn assert_rows(rt: &impl Abort, alloc: Global, rows: Rows) {
+    for (line, want) in rows {
+        let answer = Response::parse(alloc, line);
+        assert_row(rt, says_owned(alloc, answer, want), want);
+        assert_row(rt, equals_owned(alloc, *line), want);
+    }
+}
+
+// The same of each line of the tables.
 fn assert_owned(rt: &impl Abort, alloc: Global, tables: &[Rows]) {
     for rows in tables {
-        for (line, want) in *rows {
-            assert!(rt;
-                says_owned(alloc, Response::parse(alloc, line), want),
-                "{want}"
-            );
-            assert!(rt; equals_owned(alloc, *line), "{want}");
-        }
+        assert_rows(rt, alloc, *rows);
     }
 }
 
@@ -198,7 +205,7 @@ fn bytes_that_are_gone(rt: HostRuntime) -> Result<(), Fail> {
     let alloc = rt.alloc();
     for (line, want) in READ {
         let response = response_alone(alloc, line)?;
-        assert!(rt; says(alloc, Ok((NOTHING, response)), want), "{want}");
+        assert_says(&rt, alloc, Ok((NOTHING, response)), want);
     }
     Ok(())
 }

@@ -1,6 +1,6 @@
 //! Part search over trees that are read.
 
-use crate::answers::says;
+use crate::answers::assert_says;
 use imap_body::readers::body_structure;
 use imap_proto::bodystructure::{BodyStructParser, PartsError};
 use imap_proto::rfc3501::body_structure::BodyStructure;
@@ -87,7 +87,7 @@ fn parts(rt: HostRuntime) -> Result<(), Fail> {
     for (input, sought, want) in SEARCHES {
         let (_, root) = body_structure(alloc, input)?;
         let path = searched(alloc, &root, *sought)?;
-        assert!(rt; says(alloc, Ok((NOTHING, path)), want), "{want}");
+        assert_says(&rt, alloc, Ok((NOTHING, path)), want);
     }
     Ok(())
 }

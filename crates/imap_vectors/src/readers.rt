@@ -1,6 +1,6 @@
 //! The readers of data, called by themselves.
 
-use crate::answers::{Rows, says, says_at, says_marked};
+use crate::answers::{Rows, assert_says, says_at, says_marked};
 use imap_data::at;
 use imap_data::readers::{
     acl, capability_data, enabled_data, flag, flag_list, flag_perm, gmail_label_list, gmail_msgid,
@@ -12,16 +12,15 @@ use std::test::*;
 #[test]
 fn statuses_and_flags(rt: HostRuntime) {
     let alloc = rt.alloc();
-    assert!(rt; says(alloc, status(b"PreAuth "), r#"PreAuth then " ""#));
-    assert!(rt; says(alloc, status(b"FINE "), "Error"));
-    assert!(rt; says(alloc, flag(b"\\Seen)"), r#""\\Seen" then ")""#));
-    assert!(rt; says(alloc, flag_perm(b"\\*)"), r#""\\*" then ")""#));
-    assert!(rt;
-        says(
-            alloc,
-            flag_list(alloc, b"(\\Answered $Forwarded )x"),
-            r#"["\\Answered", "$Forwarded"] then "x""#
-        )
+    assert_says(&rt, alloc, status(b"PreAuth "), r#"PreAuth then " ""#);
+    assert_says(&rt, alloc, status(b"FINE "), "Error");
+    assert_says(&rt, alloc, flag(b"\\Seen)"), r#""\\Seen" then ")""#);
+    assert_says(&rt, alloc, flag_perm(b"\\*)"), r#""\\*" then ")""#);
+    assert_says(
+        &rt,
+        alloc,
+        flag_list(alloc, b"(\\Answered $Forwarded )x"),
+        r#"["\\Answered", "$Forwarded"] then "x""#,
     );
 }
 
@@ -43,12 +42,11 @@ fn mailboxes_and_sets(rt: HostRuntime) {
         )
     );
     assert!(rt; says_marked(alloc, mailbox(alloc, b"\"\xff\""), r#"Owned("�")"#));
-    assert!(rt;
-        says(
-            alloc,
-            uid_set(alloc, b"3,9:9,8:1,x"),
-            r#"[Uid(3), UidRange(9..=9), UidRange(1..=8)] then ",x""#
-        )
+    assert_says(
+        &rt,
+        alloc,
+        uid_set(alloc, b"3,9:9,8:1,x"),
+        r#"[Uid(3), UidRange(9..=9), UidRange(1..=8)] then ",x""#,
     );
 }
 
@@ -56,10 +54,10 @@ fn mailboxes_and_sets(rt: HostRuntime) {
 fn items_of_gmail(rt: HostRuntime) {
     let alloc = rt.alloc();
     let labels = gmail_label_list(alloc, b"X-GM-LABELS (\"\\\\\")\r");
-    assert!(rt; says(alloc, labels, r#"["\\\\"] then "\r""#));
+    assert_says(&rt, alloc, labels, r#"["\\\\"] then "\r""#);
     let number = gmail_msgid(b"X-GM-MSGID 1278455344230334865)");
-    assert!(rt; says(alloc, number, r#"1278455344230334865 then ")""#));
-    assert!(rt; says(alloc, gmail_thrid(b"x-gm-thrid 7)"), r#"7 then ")""#));
+    assert_says(&rt, alloc, number, r#"1278455344230334865 then ")""#);
+    assert_says(&rt, alloc, gmail_thrid(b"x-gm-thrid 7)"), r#"7 then ")""#);
 }
 
 #[test]
@@ -98,15 +96,14 @@ static NO_WHOLE_CODES: Rows = &[
 #[test]
 fn codes(rt: HostRuntime) {
     let alloc = rt.alloc();
-    assert!(rt;
-        says(
-            alloc,
-            response_code(alloc, b"[appenduid 38505 4:2]x"),
-            r#"AppendUid(38505, [UidRange(2..=4)]) then "x""#
-        )
+    assert_says(
+        &rt,
+        alloc,
+        response_code(alloc, b"[appenduid 38505 4:2]x"),
+        r#"AppendUid(38505, [UidRange(2..=4)]) then "x""#,
     );
     for (input, want) in NO_WHOLE_CODES {
-        assert!(rt; says(alloc, response_code(alloc, input), want), "{want}");
+        assert_says(&rt, alloc, response_code(alloc, input), want);
     }
 }
 
@@ -114,10 +111,10 @@ fn codes(rt: HostRuntime) {
 fn capabilities(rt: HostRuntime) {
     let alloc = rt.alloc();
     let found = capability_data(alloc, b"CAPABILITY IMAP4rev12\r");
-    assert!(rt; says(alloc, found, r#"[Imap4rev1] then "2\r""#));
-    assert!(rt; says(alloc, capability_data(alloc, b"CAPABILITY\r"), "Error"));
+    assert_says(&rt, alloc, found, r#"[Imap4rev1] then "2\r""#);
+    assert_says(&rt, alloc, capability_data(alloc, b"CAPABILITY\r"), "Error");
     let found = enabled_data(alloc, b"ENABLED IMAP4rev1\r");
-    assert!(rt; says(alloc, found, r#"[Atom("IMAP4rev1")] then "\r""#));
+    assert_says(&rt, alloc, found, r#"[Atom("IMAP4rev1")] then "\r""#);
 }
 
 static DATA_OF_MAILBOXES: Rows = &[
@@ -141,10 +138,15 @@ static LISTED: Rows = &[
 fn data_of_mailboxes(rt: HostRuntime) {
     let alloc = rt.alloc();
     for (input, want) in DATA_OF_MAILBOXES {
-        assert!(rt; says(alloc, mailbox_datum(alloc, input), want), "{want}");
+        assert_says(&rt, alloc, mailbox_datum(alloc, input), want);
     }
+}
+
+#[test]
+fn listed_mailboxes(rt: HostRuntime) {
+    let alloc = rt.alloc();
     for (input, want) in LISTED {
-        assert!(rt; says(alloc, list_or_lsub(alloc, input), want), "{want}");
+        assert_says(&rt, alloc, list_or_lsub(alloc, input), want);
     }
 }
 
@@ -154,21 +156,26 @@ fn annotations(rt: HostRuntime) {
     let found = metadata_solicited(alloc, b"METADATA \"x\" (/shared/comment NIL)\r");
     let want =
         r#"MetadataSolicited { mailbox: "x", values: [Metadata { entry: "/shared/comment", value: None }] } then "\r""#;
-    assert!(rt; says(alloc, found, want));
+    assert_says(&rt, alloc, found, want);
     let found = metadata_unsolicited(alloc, b"METADATA \"x\" /shared/comment\r");
     let want = r#"MetadataUnsolicited { mailbox: "x", values: ["/shared/comment"] } then "\r""#;
-    assert!(rt; says(alloc, found, want));
+    assert_says(&rt, alloc, found, want);
 }
 
 #[test]
 fn vanished_and_quotas(rt: HostRuntime) {
     let alloc = rt.alloc();
     let found = vanished(alloc, b"VANISHED (EARLIER) 41,43:116\r");
-    assert!(rt; says(alloc, found, r#"(true, [41..=41, 43..=116]) then "\r""#));
+    assert_says(
+        &rt,
+        alloc,
+        found,
+        r#"(true, [41..=41, 43..=116]) then "\r""#,
+    );
     let found = quota(alloc, b"QUOTA \"\" (STORAGE 1 2)\r");
     let want =
         r#"Quota { root_name: "", resources: [QuotaResource { name: Storage, usage: 1, limit: 2 }] } then "\r""#;
-    assert!(rt; says(alloc, found, want));
+    assert_says(&rt, alloc, found, want);
 }
 
 #[test]
@@ -176,9 +183,9 @@ fn quota_roots_and_identities(rt: HostRuntime) {
     let alloc = rt.alloc();
     let found = quota_root(alloc, b"QUOTAROOT INBOX user\r");
     let want = r#"QuotaRoot { mailbox_name: "INBOX", quota_root_names: ["user"] } then "\r""#;
-    assert!(rt; says(alloc, found, want));
+    assert_says(&rt, alloc, found, want);
     let found = id(alloc, b"id\t(\"a\" {1}\r\n1  \"b\" nil )\r");
-    assert!(rt; says(alloc, found, r#"Some({"a": "1"}) then "\r""#));
+    assert_says(&rt, alloc, found, r#"Some({"a": "1"}) then "\r""#);
 }
 
 #[test]
@@ -187,12 +194,12 @@ fn rights(rt: HostRuntime) {
     let found = acl(alloc, b"acl inbox Fred lr \"My Name\" a\r");
     let want =
         r#"Acl { mailbox: "INBOX", acls: [AclEntry { identifier: "Fred", rights: [Lookup, Read] }, AclEntry { identifier: "My Name", rights: [Administer] }] } then "\r""#;
-    assert!(rt; says(alloc, found, want));
+    assert_says(&rt, alloc, found, want);
     let found = list_rights(alloc, b"LISTRIGHTS INBOX smith \"\" la\r");
     let want =
         r#"ListRights { mailbox: "INBOX", identifier: "smith", required: [], optional: [Lookup, Administer] } then "\r""#;
-    assert!(rt; says(alloc, found, want));
+    assert_says(&rt, alloc, found, want);
     let found = my_rights(alloc, b"MYRIGHTS INBOX rw\r");
     let want = r#"MyRights { mailbox: "INBOX", rights: [Read, Write] } then "\r""#;
-    assert!(rt; says(alloc, found, want));
+    assert_says(&rt, alloc, found, want);
 }

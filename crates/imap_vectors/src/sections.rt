@@ -1,6 +1,6 @@
 //! Sections of bodies: which part of a message is meant.
 
-use crate::answers::{Rows, WAITS, says};
+use crate::answers::{Rows, WAITS, assert_says};
 use imap_proto::rfc3501::body::{
     MessageSection, SectionPath, section, section_msgtext, section_part,
 };
@@ -59,30 +59,45 @@ static PATHS: Rows = &[
 fn sections(rt: HostRuntime) {
     let alloc = rt.alloc();
     for (input, want) in SECTIONS {
-        assert!(rt; says(alloc, section(alloc, input), want), "{want}");
+        assert_says(&rt, alloc, section(alloc, input), want);
     }
-    for (input, want) in PARTS {
-        assert!(rt; says(alloc, section_part(alloc, input), want), "{want}");
-    }
-    for (input, want) in TEXTS {
-        assert!(rt; says(alloc, section_msgtext(input), want), "{want}");
-    }
-    assert!(rt; says(alloc, section_msgtext(b"MIME]"), "Error"));
 }
 
 #[test]
-fn types_of_sections(rt: HostRuntime) {
+fn parts(rt: HostRuntime) {
     let alloc = rt.alloc();
+    for (input, want) in PARTS {
+        assert_says(&rt, alloc, section_part(alloc, input), want);
+    }
+}
+
+// `MIME` is of parts alone.
+#[test]
+fn texts(rt: HostRuntime) {
     for (input, want) in TEXTS {
-        assert!(rt; says(alloc, MessageSection::parse(input), want), "{want}");
+        assert_says(&rt, rt.alloc(), section_msgtext(input), want);
     }
+    assert_says(&rt, rt.alloc(), section_msgtext(b"MIME]"), "Error");
+}
+
+#[test]
+fn sections_of_messages(rt: HostRuntime) {
+    for (input, want) in TEXTS {
+        assert_says(&rt, rt.alloc(), MessageSection::parse(input), want);
+    }
+}
+
+#[test]
+fn sections_of_parts(rt: HostRuntime) {
     for (input, want) in TEXTS_OF_PARTS {
-        assert!(rt; says(alloc, MessageSection::parse(input), want), "{want}");
+        assert_says(&rt, rt.alloc(), MessageSection::parse(input), want);
     }
+}
+
+#[test]
+fn paths(rt: HostRuntime) {
+    let alloc = rt.alloc();
     for (input, want) in PATHS {
-        assert!(rt;
-            says(alloc, SectionPath::parse(alloc, input), want),
-            "{want}"
-        );
+        assert_says(&rt, alloc, SectionPath::parse(alloc, input), want);
     }
 }

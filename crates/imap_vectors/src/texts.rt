@@ -1,6 +1,8 @@
 //! Texts that bytes are decoded to, each with its mark, and the texts of faults.
 
-use crate::answers::{Marked, Rows, displays, says, says_marked, with_mark};
+use crate::answers::{
+    Marked, Rows, assert_row, assert_says, displays, says, says_marked, with_mark,
+};
 use imap_proto::Response;
 use imap_proto::bodystructure::PartsError;
 use imap_proto::imap_core::{
@@ -38,16 +40,19 @@ static ASTRINGS: Rows = &[
 ];
 
 #[test]
-fn decoded(rt: HostRuntime) {
+fn decoded_texts(rt: HostRuntime) {
     let alloc = rt.alloc();
     for (input, want) in TEXTS {
-        assert!(rt; says_marked(alloc, text(alloc, input), want), "{want}");
+        assert_row(&rt, says_marked(alloc, text(alloc, input), want), want);
     }
+}
+
+#[test]
+fn decoded_astrings(rt: HostRuntime) {
+    let alloc = rt.alloc();
     for (input, want) in ASTRINGS {
-        assert!(rt;
-            says_marked(alloc, astring_utf8(alloc, input), want),
-            "{want}"
-        );
+        let answer = astring_utf8(alloc, input);
+        assert_row(&rt, says_marked(alloc, answer, want), want);
     }
 }
 
@@ -55,36 +60,35 @@ fn decoded(rt: HostRuntime) {
 fn decoded_strings(rt: HostRuntime) {
     let alloc = rt.alloc();
     for (input, want) in STRINGS {
-        assert!(rt;
-            says_marked(alloc, string_utf8(alloc, input), want),
-            "{want}"
-        );
+        let answer = string_utf8(alloc, input);
+        assert_row(&rt, says_marked(alloc, answer, want), want);
     }
+}
+
+#[test]
+fn decoded_quoted_strings(rt: HostRuntime) {
+    let alloc = rt.alloc();
     for (input, want) in QUOTED {
-        assert!(rt;
-            says_marked(alloc, quoted_utf8(alloc, input), want),
-            "{want}"
-        );
+        let answer = quoted_utf8(alloc, input);
+        assert_row(&rt, says_marked(alloc, answer, want), want);
     }
 }
 
 #[test]
 fn decoded_or_nil(rt: HostRuntime) {
-    assert!(rt;
-        says(
-            rt.alloc(),
-            nstring_utf8(rt.alloc(), b"nil "),
-            r#"None then " ""#
-        )
+    assert_says(
+        &rt,
+        rt.alloc(),
+        nstring_utf8(rt.alloc(), b"nil "),
+        r#"None then " ""#,
     );
-    assert!(rt;
-        says(
-            rt.alloc(),
-            nstring_utf8(rt.alloc(), b"\"nil\""),
-            r#"Some("nil")"#
-        )
+    assert_says(
+        &rt,
+        rt.alloc(),
+        nstring_utf8(rt.alloc(), b"\"nil\""),
+        r#"Some("nil")"#,
     );
-    assert!(rt; says(rt.alloc(), nstring_utf8(rt.alloc(), b"a"), "Error"));
+    assert_says(&rt, rt.alloc(), nstring_utf8(rt.alloc(), b"a"), "Error");
 }
 
 // Adds the texts of a list.
@@ -246,7 +250,7 @@ fn has_owned_texts(alloc: Global, answer: IResult<&[u8], Response<'_>>, want: &s
 fn lent_and_owned(rt: HostRuntime) {
     for (line, want) in MARKED_LINES {
         let answer = Response::parse(rt.alloc(), line);
-        assert!(rt; has_texts(rt.alloc(), answer, want), "{want}");
+        assert_row(&rt, has_texts(rt.alloc(), answer, want), want);
     }
 }
 
@@ -254,7 +258,7 @@ fn lent_and_owned(rt: HostRuntime) {
 fn made_owned(rt: HostRuntime) {
     for (line, want) in OWNED_LINES {
         let answer = Response::parse(rt.alloc(), line);
-        assert!(rt; has_owned_texts(rt.alloc(), answer, want), "{want}");
+        assert_row(&rt, has_owned_texts(rt.alloc(), answer, want), want);
     }
 }
 
@@ -267,7 +271,7 @@ fn texts_of_faults(rt: HostRuntime) {
         (Err::Failure, "out of memory"),
     ];
     for (fault, want) in rows {
-        assert!(rt; displays(rt.alloc(), fault, want), "{want}");
+        assert_row(&rt, displays(rt.alloc(), fault, want), want);
     }
 }
 
@@ -278,7 +282,7 @@ fn texts_of_faults_of_parts(rt: HostRuntime) {
         (PartsError::TooManyParts, "too many parts"),
     ];
     for (fault, want) in rows {
-        assert!(rt; displays(rt.alloc(), fault, want), "{want}");
+        assert_row(&rt, displays(rt.alloc(), fault, want), want);
     }
 }
 
@@ -289,6 +293,6 @@ fn texts_of_faults_of_feeds(rt: HostRuntime) {
         (FeedError::OutOfMemory, "out of memory"),
     ];
     for (fault, want) in rows {
-        assert!(rt; displays(rt.alloc(), fault, want), "{want}");
+        assert_row(&rt, displays(rt.alloc(), fault, want), want);
     }
 }
