@@ -4,12 +4,12 @@ use crate::answers::Rows;
 use imap_data::readers::{
     id, mailbox_datum, metadata_solicited, metadata_unsolicited, quota, quota_root,
 };
-use imap_proto::Response;
 use imap_proto::rfc2087::{Quota, QuotaResource, QuotaResourceName, QuotaRoot};
 use imap_proto::rfc3501::{MailboxDatum, MailboxListData, NameAttribute, Outcome};
 use imap_proto::rfc4314::AclRight;
 use imap_proto::rfc4315::UidSetMember;
 use imap_proto::rfc5464::Metadata;
+use imap_proto::{RequestId, Response};
 use std::alloc::{AllocError, Global};
 use std::borrow::CowStr;
 use std::collections::HashSet;
@@ -155,10 +155,21 @@ fn letters_of_rights(rt: HostRuntime) {
     assert!(rt; AclRight::from(char::from(AclRight::Custom('l'))) == AclRight::Lookup);
 }
 
+// The tag and the outcome of a tagged line.
+fn tagged(response: Response<'_>) -> Option<(RequestId, Outcome<'_>)> {
+    match response {
+        Response::Done { tag, outcome, .. } => Some((tag, outcome)),
+        other => {
+            drop(other);
+            None
+        }
+    }
+}
+
 #[test]
 fn parts_of_status_lines(rt: HostRuntime) -> Result<(), Fail> {
     let (_, response) = Response::parse(rt.alloc(), b"a1 OK\r\n")?;
-    let Response::Done { tag, outcome, .. } = response else {
+    let Some((tag, outcome)) = tagged(response) else {
         return Err(Fail::new("no tagged response"));
     };
     assert!(rt; tag.as_bytes() == b"a1".as_slice());

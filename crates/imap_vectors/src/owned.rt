@@ -126,42 +126,47 @@ fn extension_data_of_a_multipart(rt: HostRuntime) -> Result<(), Fail> {
     Ok(())
 }
 
-// Whether an answer is told so when its response is made owned.
-fn says_owned(alloc: Global, answer: IResult<&[u8], Response<'_>>, want: &str) -> bool {
-    match answer {
-        Ok((rest, response)) => match response.into_owned(alloc) {
-            Ok(owned) => says(alloc, Ok((rest, owned)), want),
-            Err(_) => false,
-        },
-        Err(error) => says(alloc, Err::<(&[u8], Response<'static>), _>(error), want),
-    }
-}
-
-fn owned_response(alloc: Global, line: &[u8]) -> Result<Response<'static>, Err> {
-    let (_, response) = Response::parse(alloc, line)?;
-    Ok(response.into_owned(alloc)?)
+/// The answer of `Response::parse` to a line, its response made owned.
+pub fn owned_answer(alloc: Global, line: &[u8]) -> IResult<&[u8], Response<'static>> {
+    let (rest, response) = Response::parse(alloc, line)?;
+    Ok((rest, response.into_owned(alloc)?))
 }
 
 // The response at the front of a copy of these bytes, made owned: the copy is gone when it is answered.
 fn response_alone(alloc: Global, line: &[u8]) -> Result<Response<'static>, Err> {
     let copy = Vec::from_slice(alloc, line)?;
-    owned_response(alloc, copy.as_slice())
+    match owned_answer(alloc, copy.as_slice()) {
+        Ok((_, response)) => Ok(response),
+        Err(error) => Err(error),
+    }
+}
+
+// Whether two responses are equal. They are dropped by calls: in place, each part of each kind would be proved to be.
+fn are_equal(response: Response<'static>, other: Response<'static>) -> bool {
+    let is_equal = response == other;
+    drop(response);
+    drop(other);
+    is_equal
 }
 
 // Whether a line's response equals what a second reading gives, made owned, if there is a response.
 fn equals_owned(alloc: Global, line: &'static [u8]) -> bool {
-    match (Response::parse(alloc, line), response_alone(alloc, line)) {
-        (Ok((_, response)), Ok(owned)) => response == owned,
-        (Err(_), Err(_)) => true,
-        _ => false,
+    match response_alone(alloc, line) {
+        Ok(owned) => match Response::parse(alloc, line) {
+            Ok((_, response)) => are_equal(response, owned),
+            Err(_) => {
+                drop(owned);
+                false
+            }
+        },
+        Err(_) => Response::parse(alloc, line).is_err(),
     }
 }
 
 // Asserts of each line of the table that its response made owned is told as its row says, and equals the borrowed one.
 fn assert_rows(rt: &impl Abort, alloc: Global, rows: Rows) {
     for (line, want) in rows {
-        let answer = Response::parse(alloc, line);
-        assert_row(rt, says_owned(alloc, answer, want), want);
+        assert_says(rt, alloc, owned_answer(alloc, line), want);
         assert_row(rt, equals_owned(alloc, *line), want);
     }
 }

@@ -3,6 +3,7 @@
 use crate::answers::{
     Marked, Rows, assert_row, assert_says, displays, says, says_marked, with_mark,
 };
+use crate::owned::owned_answer;
 use imap_proto::Response;
 use imap_proto::bodystructure::PartsError;
 use imap_proto::imap_core::{
@@ -235,17 +236,6 @@ fn has_texts<T: Telling + Drop>(alloc: Global, answer: IResult<&[u8], T>, want: 
     }
 }
 
-// Whether the texts of a response are told so when it is made owned.
-fn has_owned_texts(alloc: Global, answer: IResult<&[u8], Response<'_>>, want: &str) -> bool {
-    match answer {
-        Ok((rest, response)) => match response.into_owned(alloc) {
-            Ok(owned) => has_texts(alloc, Ok((rest, owned)), want),
-            Err(_) => false,
-        },
-        Err(_) => false,
-    }
-}
-
 #[test]
 fn lent_and_owned(rt: HostRuntime) {
     for (line, want) in MARKED_LINES {
@@ -257,8 +247,8 @@ fn lent_and_owned(rt: HostRuntime) {
 #[test]
 fn made_owned(rt: HostRuntime) {
     for (line, want) in OWNED_LINES {
-        let answer = Response::parse(rt.alloc(), line);
-        assert_row(&rt, has_owned_texts(rt.alloc(), answer, want), want);
+        let answer = owned_answer(rt.alloc(), line);
+        assert_row(&rt, has_texts(rt.alloc(), answer, want), want);
     }
 }
 
