@@ -22,7 +22,7 @@ use Rattle.imap_shapes.specs.declared.shapes.fields.ContentEncoding.TheVariants 
 use Rattle.imap_shapes.specs.BodyValues as body
 use Rattle.imap_sections.specs.SectionValues as path
 use Rattle.imap_sections.specs.declared.types.sections.MessageSection.TheVariants as section
-use Rattle.imap_body.specs.AttributeValues as attribute
+use Rattle.imap_attributes.specs.AttributeValues as attribute
 use Rattle.imap_proto.specs.Responses as response
 use Rattle.imap_proto.specs.LineTexts.{canonical_bytes}
 """

@@ -31,7 +31,7 @@ use Rattle.imap_structure.specs.BodyTexts.{canonical_body, spells_body}
 use Rattle.imap_sections.proofs.SectionTexts.{reads_section, section_spells}
 use Rattle.imap_body.proofs.Behind.{Alike, given_behind, alike_behind, alike_through, reads-alike, spells-alike, reads-behind, apart-alike, apart-behind, spells-behind}
 use Rattle.imap_sections.specs.Sections.{section}
-use Rattle.imap_body.specs.AttributeValues.{BodyStructure, Envelope, Flags, InternalDate, ModSeq, Rfc822, Rfc822Header, Rfc822Size, Rfc822Text, Uid, GmailLabels, GmailMsgId, GmailThrId, EmailId, ThreadId, Unknown, lent_attribute}
+use Rattle.imap_attributes.specs.AttributeValues.{BodyStructure, Envelope, Flags, InternalDate, ModSeq, Rfc822, Rfc822Header, Rfc822Size, Rfc822Text, Uid, GmailLabels, GmailMsgId, GmailThrId, EmailId, ThreadId, Unknown, lent_attribute}
 use Rattle.imap_body.specs.Attributes.{origin, section_of, section_contents, msg_att_body_section, msg_att_body_structure, msg_att_envelope, date, msg_att_internal_date, msg_att_flags, msg_att_mod_seq, msg_att_rfc822, msg_att_rfc822_header, msg_att_rfc822_size, msg_att_rfc822_text, msg_att_uid, msg_att_gmail_labels, msg_att_gmail_msgid, msg_att_gmail_thrid, id_bytes, object_id, bracketed_id, msg_att_email_id, msg_att_thread_id, is_inside, is_bare, skipped_brackets, skipped_nstring, skipped_bare, skipped_value, msg_att_unknown, attribute, attribute_list}
 use Rattle.imap_body.specs.AttributeTexts.{canonical_origin, canonical_id, canonical_nid, canonical_attribute, canonical_attributes, spells_origin, spells_id, is_name, is_any_value, spells_attribute, spells_attributes}
 

@@ -5,6 +5,4 @@ pub mod Standing
 pub mod Placing
 pub mod Behind
 pub mod AttributeTexts
-pub mod Changed
-pub mod Putting
 pub mod Equality

@@ -11,9 +11,9 @@ use Rattle.imap_shapes.specs.Spans.{Lookup, Rests}
 use Rattle.imap_shapes.specs.declared.shapes.envelopes.Envelope.{Envelope as Kept}
 use Rattle.imap_shapes.specs.declared.shapes.bodies.BodyStructure.{BodyStructure as Structure}
 use Rattle.imap_shapes.specs.EnvelopeValues.{envelope_seen}
-use Rattle.imap_structure.specs.Kept.{boxed_seen}
-use Rattle.imap_body.specs.declared.types.attributes.AttributeParts.TheVariants as parts
-use Rattle.imap_body.specs.AttributeValues.{BodyStructure, Envelope, parts_said}
+use Rattle.imap_shapes.specs.BodyValues.{boxed_seen}
+use Rattle.imap_attributes.specs.declared.attributes.AttributeParts.TheVariants as parts
+use Rattle.imap_attributes.specs.AttributeValues.{BodyStructure, Envelope, parts_said}
 use Rattle.imap_body.specs.Attributes.{id_bytes}
 
 pub structure_rests : {S B : Type 0} (text : Lookup → S → Text) (bytes : Lookup → B → Text) (q : ℕ) (b : Box (Structure S B) Global) → Rests (λ n x. boxed_seen (text n) (bytes n) x) q b → Rests (λ n x. parts_said text bytes n x) q (parts.BodyStructure b)

@@ -15,7 +15,7 @@ use Rattle.imap_sections.specs.Sections.{section}
 use Rattle.imap_sections.specs.SectionValues.{PathValue}
 use Rattle.imap_envelopes.specs.Envelopes.{spaced, byte_string, envelope}
 use Rattle.imap_structure.specs.Bodies.{body_structure}
-use Rattle.imap_body.specs.AttributeValues.{AttributeValue, BodySection, BodyStructure, Envelope, Flags, InternalDate, ModSeq, Rfc822, Rfc822Header, Rfc822Size, Rfc822Text, Uid, GmailLabels, GmailMsgId, GmailThrId, EmailId, ThreadId, Unknown}
+use Rattle.imap_attributes.specs.AttributeValues.{AttributeValue, BodySection, BodyStructure, Envelope, Flags, InternalDate, ModSeq, Rfc822, Rfc822Header, Rfc822Size, Rfc822Text, Uid, GmailLabels, GmailMsgId, GmailThrId, EmailId, ThreadId, Unknown}
 
 -- ---- bodies
 

@@ -1,5 +1,3 @@
-pub mod AttributeValues
 pub mod Attributes
 pub mod SpannedAttributes
 pub mod AttributeTexts
-pub mod Changed

@@ -14,7 +14,7 @@ use Rattle.imap_shapes.specs.Spans.{Lookup, Rests, bytes_in, text_in}
 use Rattle.imap_shapes.specs.declared.shapes.bodies.BodyStructure.{BodyStructure as Structure}
 use Rattle.imap_shapes.specs.declared.spans.SpannedText.{SpannedText}
 use Rattle.imap_shapes.specs.declared.spans.SpannedText.TheVariants as spanned
-use Rattle.imap_body.specs.AttributeValues.{AttributeValue, AttributeSpans, attribute_seen, parts_said, lent_attribute}
+use Rattle.imap_attributes.specs.AttributeValues.{AttributeValue, AttributeSpans, attribute_seen, parts_said, lent_attribute}
 use Rattle.imap_body.specs.Attributes.{attribute}
 
 -- The value that the attribute stands for in m, by the values of its texts and byte strings. Its positions count from

@@ -9,7 +9,7 @@ ghost use Rattle.imap_grammar.specs.declared.at.span.Span.{Span};
 ghost use Rattle.imap_shapes.specs.declared.spans.SpannedText.{SpannedText};
 ghost use Rattle.imap_shapes.specs.declared.spans.SpannedText.TheVariants.{Part};
 ghost use Rattle.imap_body.specs.declared.spanned.SpannedAttribute.{SpannedAttribute};
-ghost use Rattle.imap_body.specs.AttributeValues.{attribute_value};
+ghost use Rattle.imap_attributes.specs.AttributeValues.{attribute_value};
 ghost use Rattle.imap_grammar.specs.Text.{text_of};
 ghost use Rattle.imap_items.specs.Flags as flags;
 ghost use Rattle.imap_items.specs.Gmail as gmail;
@@ -18,7 +18,7 @@ ghost use Rattle.imap_body.specs.SpannedAttributes.{attribute_said, EndsAt, Keep
 ghost use Rattle.imap_body.specs.Attributes as rules;
 
 use crate::spanned::{SpannedAttribute, spanned_attribute};
-use crate::types::attributes::AttributeValue;
+use imap_attributes::AttributeValue;
 use imap_bytes::at::Reached;
 use imap_bytes::at::tags::{blanks0, tag};
 use imap_bytes::lists::tried;

@@ -1,5 +1,5 @@
-//! Laws of the rules of this crate, of `imap_envelopes`, of `imap_structure` and of `imap_sections`, and of `==` of what they read
-//! and of the shapes of `imap_shapes`, as contracts of functions that do nothing.
+//! Laws of the rules of this crate, of `imap_envelopes`, of `imap_structure` and of `imap_sections`, and of `==` of what
+//! they read, as contracts of functions that do nothing.
 
 ghost use Rattle.imap_grammar.specs.Text.{Text, text_of, lent_text};
 ghost use Rattle.imap_grammar.specs.Equality.{Tells};
@@ -22,7 +22,7 @@ ghost use Rattle.std.specs.Prelude.{ℕ, map};
 ghost use Rattle.imap_grammar.specs.ReadBack.{SpellsAndReadsBack, Closes, EndsItem, as_is};
 ghost use Rattle.imap_shapes.specs.Lent.{lent_address, lent_addresses, lent_envelope, lent_params, lent_encoding, lent_fields, lent_disposition, lent_languages, lent_extension, lent_ext_1part, lent_ext_mpart, lent_type, lent_common, lent_single, lent_body};
 ghost use Rattle.imap_sections.specs.SectionTexts.{canonical_text, canonical_part, canonical_path, canonical_section, spells_message_text, spells_text, spells_part, spells_path, spells_section};
-ghost use Rattle.imap_body.specs.AttributeValues.{attribute_seen, attribute_value, lent_attribute};
+ghost use Rattle.imap_attributes.specs.AttributeValues.{attribute_value, lent_attribute};
 ghost use Rattle.imap_body.specs.SpannedAttributes.{places_of_body, places_of, spanned_value};
 ghost use Rattle.imap_body.specs.AttributeTexts.{canonical_attribute, canonical_attributes, spells_attribute, spells_attributes};
 ghost use Rattle.imap_envelopes.specs.EnvelopeTexts.{canonical_address, canonical_addresses, canonical_envelope, spells_address, spells_addresses, spells_envelope};
@@ -31,7 +31,8 @@ ghost use Rattle.imap_structure.specs.ExtensionTexts.{canonical_disposition, can
 ghost use Rattle.imap_structure.specs.BodyTexts.{canonical_body, spells_body};
 
 use crate::spanned::SpannedAttribute;
-use crate::types::attributes::{AttributeParts, AttributeSpans, AttributeValue};
+use imap_attributes::laws::attributes_equality;
+use imap_attributes::{AttributeSpans, AttributeValue};
 use imap_sections::{MessageSection, SectionPath};
 use imap_shapes::shapes::bodies::BodyStructure as Structure;
 use imap_shapes::spans::{Span, SpannedText};
@@ -135,11 +136,6 @@ pub fn read_back()
     ensures msg_att_unknown { SpellsAndReadsBack attributes.msg_att_unknown lent_attribute canonical_attribute spells_attribute EndsItem }
     ensures attribute { SpellsAndReadsBack attributes.attribute lent_attribute canonical_attribute spells_attribute EndsItem }
     ensures attribute_list { SpellsAndReadsBack attributes.attribute_list (map lent_attribute) canonical_attributes spells_attributes Closes }
-{}
-
-// Where `==` tells texts and bodies by what f, g and h say of them, it tells attributes of these so too.
-fn attributes_equality<S: PartialEq, B: PartialEq, Y: PartialEq>()
-    ensures { (f : S → Text) (g : B → Text) (h : Y → BodyValue) → Tells S.eq (λ s. lent_text (f s)) → Tells B.eq (λ b. lent_text (g b)) → Tells Y.eq (λ y. lent_body (h y)) → Tells ⟦<AttributeParts<S, B, Y> as PartialEq>⟧.eq (λ x. lent_attribute (attribute_seen f g h x)) }
 {}
 
 // `==` tells body structures and attributes of spans by their positions.

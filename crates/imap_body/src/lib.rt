@@ -4,12 +4,10 @@
 pub mod at;
 mod keeping;
 pub mod laws;
-mod maps;
-mod owned;
 pub mod readers;
 pub mod spanned;
-mod types;
 
+pub use imap_attributes::{AttributeValue, owned_attributes};
 pub use imap_sections::{MessageSection, SectionPath, section, section_msgtext, section_part};
 pub use imap_shapes::{
     Address, BodyContentCommon, BodyContentSinglePart, BodyExt1Part, BodyExtMPart, BodyExtension,
@@ -17,6 +15,4 @@ pub use imap_shapes::{
     ContentType, Envelope, PartsError, search, shapes, spans,
 };
 pub use imap_structure::{MAX_BODY_DEPTH, MAX_EXTENSION_DEPTH};
-pub use owned::owned_attributes;
 pub use readers::attributes::msg_att_body_section;
-pub use types::attributes::AttributeValue;

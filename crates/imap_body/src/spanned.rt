@@ -1,19 +1,18 @@
 //! Attributes of a message as positions in it: they keep no bytes, and tell their values of any message that has bytes in these places.
 
 ghost use Rattle.std.specs.Prelude.{◌≡◌, ◌≤◌, ◌+◌, ◌++◌, ◌∷◌, [], length, drop, map, All, IfOk, OnOk};
-ghost use Rattle.imap_grammar.specs.Positions.{AnswersAt, GivesAt, Ahead, named_in};
+ghost use Rattle.imap_grammar.specs.Positions.{AnswersAt, GivesAt, Ahead};
 ghost use Rattle.imap_grammar.specs.Step.{step};
-ghost use Rattle.imap_body.specs.AttributeValues.{attribute_value, kept_value, parts_in};
+ghost use Rattle.imap_attributes.specs.AttributeValues.{attribute_value, kept_value};
 ghost use Rattle.imap_body.specs.SpannedAttributes.{attribute_in, attribute_said, EndsAt, InFront, InTurn, WithinItsSpan};
 ghost use Rattle.imap_body.specs.Attributes as rules;
 
 use crate::at::attributes::attribute;
 use crate::keeping::{KeepAttribute, kept_list};
-use crate::types::attributes::{AttributeKept, AttributeSpans, AttributeValue};
+use imap_attributes::{AttributeKept, AttributeValue};
 use imap_bytes::at::Reached;
 use imap_envelopes::Positions;
 use imap_shapes::made;
-use imap_shapes::maps::changes::{NamedBytes, NamedTexts};
 use imap_shapes::spans::{Span, SpannedText};
 use std::alloc::{AllocError, Global};
 use std::borrow::{CowSlice, CowStr};
@@ -78,21 +77,6 @@ fn make_first_room(
     match m.get(end) {
         Some(b' ') => values.reserve_exact(2),
         _ => values.reserve_exact(1),
-    }
-}
-
-impl AttributeSpans {
-    /// The attribute that its spans name in m. It always takes memory, at least for one attribute; `Err`: memory ran
-    /// out.
-    pub(crate) fn value<'a>(
-        &self,
-        alloc: Global,
-        m: &'a [u8],
-    ) -> Result<AttributeValue<'a>, AllocError>
-        ensures { IfOk result (λ v. attribute_value v ≡ parts_in (named_in m.now) self.now) }
-    {
-        let texts = NamedTexts { alloc, m };
-        self.try_map(alloc, &texts, &NamedBytes { m }, &texts)
     }
 }
 

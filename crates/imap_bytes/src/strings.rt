@@ -39,6 +39,8 @@ pub fn literal(i: &[u8]) -> IResult<&[u8], &[u8]>
 }
 
 /// A string: quoted, or a literal (RFC 3501, section 9: string). No memory.
+///
+/// What begins with neither a quote nor a brace is `Error`.
 #[tactic(auto, using(imap_grammar::proofs::Agreement::exact_answered), unfolding(crate::specs::Strings::string))]
 #[inline(always)]
 pub fn string(i: &[u8]) -> IResult<&[u8], &[u8]>
@@ -50,6 +52,8 @@ pub fn string(i: &[u8]) -> IResult<&[u8], &[u8]>
 }
 
 /// Bare astring-chars, or a string (RFC 3501, section 9: astring). No memory.
+///
+/// What begins with neither an astring-char nor a quote nor a brace is `Error`.
 #[tactic(auto, using(imap_grammar::proofs::Agreement::exact_answered), unfolding(crate::specs::Strings::astring))]
 pub fn astring(i: &[u8]) -> IResult<&[u8], &[u8]>
     ensures steps { Exactly (λ x. x.now) result (step strings.astring i.now) }
@@ -60,6 +64,8 @@ pub fn astring(i: &[u8]) -> IResult<&[u8], &[u8]>
 }
 
 /// `NIL` in any case: the three bytes, whatever follows them (RFC 3501, section 9: nil). No memory.
+///
+/// Any other bytes are `Error`.
 #[tactic(auto, using(imap_grammar::proofs::Agreement::exact_answered), unfolding(crate::specs::Strings::nil))]
 pub fn nil(i: &[u8]) -> IResult<&[u8], &[u8]>
     ensures steps { Exactly (λ x. x.now) result (step strings.nil i.now) }
@@ -70,6 +76,8 @@ pub fn nil(i: &[u8]) -> IResult<&[u8], &[u8]>
 }
 
 /// `NIL`, or a string (RFC 3501, section 9: nstring). No memory.
+///
+/// What is neither is `Error`.
 #[tactic(auto, using(imap_grammar::proofs::Agreement::exact_answered), unfolding(crate::specs::Strings::nstring))]
 pub fn nstring(i: &[u8]) -> IResult<&[u8], Option<&[u8]>>
     ensures steps { Exactly (λ x. option_map (λ y. y.now) x) result (step strings.nstring i.now) }

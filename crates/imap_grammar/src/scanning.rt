@@ -22,7 +22,8 @@ pub trait Class {
 
 /// A class whose runs are mostly long: sixteen bytes are looked at at once.
 pub trait LongRuns: Class {
-    /// Which of the first sixteen bytes is the first that is not of the class; 16 where each is of it. No memory.
+    /// Which of the first sixteen bytes, so many there must be, is the first that is not of the class; 16 where each
+    /// is of it. No memory.
     fn sixteen_end(i: &[u8]) -> usize
         requires { 16 ≤ length i.now }
         ensures { result ≡ position_or_len (outside Self.class) (take 16 i.now) };

@@ -21,14 +21,14 @@ use Rattle.imap_extensions.specs.Ids.{id_value, lent_id}
 use Rattle.imap_extensions.proofs.Ids.{tables_tell}
 use Rattle.imap_extensions.proofs.Quotas.{quotas_tell, roots_tell}
 use Rattle.imap_extensions.proofs.Acls.{acl_tells, list_rights_tell, my_rights_tell}
-use Rattle.imap_body.specs.AttributeValues.{attribute_value, lent_attribute}
+use Rattle.imap_attributes.specs.AttributeValues.{attribute_value, lent_attribute}
 use Rattle.imap_data.specs.Codes.{code_value, lent_code}
 use Rattle.imap_data.proofs.Codes.{code_tells}
 use Rattle.imap_data.specs.contracts.types.codes.ResponseCodePartialEq.TheImpl as code_eq
 use Rattle.imap_data.proofs.MailboxData.{data_tell}
 use Rattle.imap_shapes.proofs.Equality.{both_tell, named_tell, field}
 use Rattle.imap_shapes.specs.declared.shapes.bodies.BodyStructure.{BodyStructure}
-use Rattle.imap_body.specs.declared.types.attributes.AttributeParts.{AttributeParts}
+use Rattle.imap_attributes.specs.declared.attributes.AttributeParts.{AttributeParts}
 use Rattle.imap_proto.specs.Responses.{ResponseValue, Capabilities, Continue, Done, Data, Expunge, Vanished, Fetch, MailboxData, Quota, QuotaRoot, Id, Acl, ListRights, MyRights, outcome_value, response_value, lent_outcome, lent_response}
 use Rattle.imap_proto.specs.Feeds.{lent_whole}
 use Rattle.imap_proto.specs.declared.response.Response.{Response}

@@ -16,7 +16,7 @@ use Rattle.imap_shapes.specs.declared.shapes.fields.ContentEncoding.TheVariants.
 use Rattle.imap_shapes.specs.ExtensionValues.{Num, Str, Listed as Members, no_extensions, one_extension}
 use Rattle.imap_shapes.specs.BodyValues.{Basic, TextBody, Message, Multipart, no_bodies, one_body}
 use Rattle.imap_shapes.specs.Lent.{lent_ntext, lent_address, lent_addresses, lent_envelope, lent_pair, lent_params, lent_encoding, lent_disposition, lent_extension, lent_extensions, lent_type, lent_common, lent_single, lent_last, lent_body, lent_bodies}
-use Rattle.imap_body.specs.AttributeValues.{BodySection, BodyStructure, Envelope, Flags as FlagsAttribute, InternalDate, ModSeq, Rfc822, Rfc822Header, Rfc822Size, Rfc822Text, Uid, GmailLabels as LabelsAttribute, GmailMsgId as MsgIdAttribute, GmailThrId as ThrIdAttribute, EmailId, ThreadId, Unknown, lent_attribute}
+use Rattle.imap_attributes.specs.AttributeValues.{BodySection, BodyStructure, Envelope, Flags as FlagsAttribute, InternalDate, ModSeq, Rfc822, Rfc822Header, Rfc822Size, Rfc822Text, Uid, GmailLabels as LabelsAttribute, GmailMsgId as MsgIdAttribute, GmailThrId as ThrIdAttribute, EmailId, ThreadId, Unknown, lent_attribute}
 use Rattle.imap_proto.specs.Responses.{ResponseValue, Capabilities, Continue, Done, Data, Expunge, Vanished, Fetch, MailboxData, Quota, QuotaRoot, Id, Acl, ListRights, MyRights, lent_outcome, lent_response}
 use Rattle.imap_proto.specs.LineTexts.{Same}
 

@@ -4,7 +4,7 @@ use Rattle.imap_grammar.specs.declared.answer.Err.{Err as Fault}
 use Rattle.imap_grammar.specs.Text.{Bytes}
 use Rattle.imap_grammar.specs.Rule.{meaning}
 use Rattle.imap_grammar.specs.Answer.{Refuses, Returned}
-use Rattle.imap_body.specs.AttributeValues.{AttributeValue}
+use Rattle.imap_attributes.specs.AttributeValues.{AttributeValue}
 use Rattle.imap_body.specs.SpannedAttributes.{attribute_in}
 use Rattle.imap_proto.specs.declared.kept.KeptFetch.{KeptFetch}
 use Rattle.imap_proto.specs.Responses.{ResponseValue, Fetch, IsFetch}

@@ -18,7 +18,7 @@ use Rattle.imap_extensions.specs.Vanishings.{vanished}
 use Rattle.imap_extensions.specs.Quotas.{quota, quota_root}
 use Rattle.imap_extensions.specs.Ids.{id}
 use Rattle.imap_extensions.specs.Acls.{acl, list_rights, my_rights}
-use Rattle.imap_body.specs.AttributeValues.{AttributeValue}
+use Rattle.imap_attributes.specs.AttributeValues.{AttributeValue}
 use Rattle.imap_body.specs.Attributes.{attribute_list}
 use Rattle.imap_proto.specs.Responses.{OutcomeValue, ResponseValue, Capabilities, Continue, Done, Data, Expunge, Vanished, Fetch, MailboxData, Quota, QuotaRoot, Id, Acl, ListRights, MyRights}
 use Rattle.imap_proto.specs.Outcomes.{outcome, spaced_outcome}

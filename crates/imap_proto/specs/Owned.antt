@@ -3,7 +3,7 @@ use Rattle.std.specs.Prelude.{option_map, map}
 use Rattle.imap_items.specs.Owned.{owned_text, owned_capability}
 use Rattle.imap_data.specs.Owned.{owned_code, owned_mailbox}
 use Rattle.imap_extensions.specs.Owned.{owned_quota, owned_quota_root, owned_id, owned_acl, owned_list_rights, owned_my_rights}
-use Rattle.imap_body.specs.Changed.{owned_attribute}
+use Rattle.imap_attributes.specs.Changed.{owned_attribute}
 use Rattle.imap_proto.specs.Responses.{OutcomeValue, ResponseValue, Capabilities, Continue, Done, Data, Expunge, Vanished, Fetch, MailboxData, Quota, QuotaRoot, Id, Acl, ListRights, MyRights}
 
 abbrev pub owned_outcome : OutcomeValue → OutcomeValue

@@ -10,7 +10,7 @@ ghost use Rattle.imap_grammar.specs.Memory.{SucceedsFor};
 ghost use Rattle.imap_grammar.specs.Rule.{◌⨾◌};
 ghost use Rattle.imap_grammar.specs.Step.{step};
 ghost use Rattle.imap_grammar.specs.Tags.{crlf};
-ghost use Rattle.imap_body.specs.AttributeValues.{attribute_value};
+ghost use Rattle.imap_attributes.specs.AttributeValues.{attribute_value};
 ghost use Rattle.imap_proto.specs.Memory.{TakesNone};
 ghost use Rattle.imap_proto.specs.Responses.{response_value};
 ghost use Rattle.imap_proto.specs.Lines as rule;

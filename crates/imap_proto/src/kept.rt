@@ -3,7 +3,7 @@
 ghost use Rattle.std.specs.Prelude.{◌≡◌, ◌≤◌, ◌<◌, Some, drop, length, map, slice_get, IfOk};
 ghost use Rattle.imap_grammar.specs.Positions.{Ahead, ExactlyAt, GivesAt, Inside, named_in};
 ghost use Rattle.imap_grammar.specs.Step.{step};
-ghost use Rattle.imap_body.specs.AttributeValues.{attribute_value};
+ghost use Rattle.imap_attributes.specs.AttributeValues.{attribute_value};
 ghost use Rattle.imap_body.specs.SpannedAttributes.{InFront, attribute_in};
 ghost use Rattle.imap_proto.specs.Kept.{Keeps, attributes_of, without_value};
 ghost use Rattle.imap_proto.specs.Responses.{fetch_in};
@@ -122,8 +122,8 @@ impl KeptFetch {
         &self.bytes
     }
 
-    /// The attribute at k, which must be below `len`: the same as in the parsed list, texts borrowed from the kept
-    /// bytes where these are UTF-8.
+    /// The attribute at k, which must be below `len`: the same as in the parsed list, each text borrowed from the
+    /// kept bytes where its own bytes are UTF-8.
     ///
     /// It reads no rule again. It always takes memory, at least for one attribute; more for section paths, lists,
     /// envelopes, body structures and texts that are not UTF-8. `Err`: memory ran out.

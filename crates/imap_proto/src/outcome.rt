@@ -34,7 +34,8 @@ fn owned_code(
 }
 
 impl<'a> Outcome<'a> {
-    /// The same outcome with all texts owned. It takes memory; `Err`: memory ran out.
+    /// The same outcome with all texts owned. It takes memory for lists of texts and of capabilities, and for borrowed
+    /// texts; `Err`: memory ran out.
     pub fn into_owned(self, alloc: Global) -> Result<Outcome<'static>, AllocError>
         ensures { IfOk result (λ o. outcome_value o ≡ owned_outcome (outcome_value self.entry)) }
     {

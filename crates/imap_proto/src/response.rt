@@ -6,8 +6,8 @@ ghost use Rattle.imap_grammar.specs.Memory.{SucceedsFor};
 ghost use Rattle.imap_grammar.specs.Step.{step};
 ghost use Rattle.imap_extensions.specs.Ids.{id_value};
 ghost use Rattle.imap_extensions.specs.Owned.{owned_id as owned_map};
-ghost use Rattle.imap_body.specs.AttributeValues.{attribute_value};
-ghost use Rattle.imap_body.specs.Changed.{owned_attribute};
+ghost use Rattle.imap_attributes.specs.AttributeValues.{attribute_value};
+ghost use Rattle.imap_attributes.specs.Changed.{owned_attribute};
 ghost use Rattle.imap_proto.specs.Responses.{response_value, EndsLine};
 ghost use Rattle.imap_proto.specs.Owned.{owned_response};
 ghost use Rattle.imap_proto.specs.LineTexts.{Spelled};
@@ -100,7 +100,7 @@ pub enum Response<'a> {
 /// What `Response::parse` answers.
 pub type ParseResult<'a> = IResult<&'a [u8], Response<'a>>;
 
-#[tactic(auto, using(imap_body::proofs::Changed::attributes_are_owned))]
+#[tactic(auto, using(imap_attributes::proofs::Changed::attributes_are_owned))]
 fn owned_attributes(
     alloc: Global,
     attributes: Vec<AttributeValue<'_>>,
@@ -122,8 +122,10 @@ fn owned_id(alloc: Global, id: Option<IdMap<'_>>) -> Result<Option<IdMap<'static
 }
 
 impl<'a> Response<'a> {
-    /// The same response with all texts owned, so that the bytes which it was read from need not be kept. It takes
-    /// memory; `Err`: memory ran out.
+    /// The same response with all texts owned, so that the bytes which it was read from need not be kept.
+    ///
+    /// It takes memory for lists, for the map of an ID and for borrowed texts, in a `Fetch` also for texts that are owned
+    /// already; lists without texts are moved. `Err`: memory ran out.
     pub fn into_owned(self, alloc: Global) -> Result<Response<'static>, AllocError>
         ensures { IfOk result (λ r. response_value r ≡ owned_response (response_value self.entry)) }
     {

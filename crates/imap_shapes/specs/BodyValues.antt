@@ -1,6 +1,8 @@
 -- What the structure of a body says (RFC 3501, section 9: body).
 use Rattle.std.specs.Prelude.{ℕ, List, [], ◌∷◌, Option}
 use Rattle.std.specs.Option.{option_map}
+use Rattle.std.specs.declared.alloc.Global.{Global}
+use Rattle.std.specs.declared.boxed.Box.{Box}
 use Rattle.imap_grammar.specs.Text.{Text}
 use Rattle.imap_shapes.specs.EnvelopeValues.{EnvelopeValue, envelope_seen}
 use Rattle.imap_shapes.specs.FieldValues.{ParamsValue, params_seen, EncodingValue, encoding_seen}
@@ -88,3 +90,7 @@ body_step f g (BodyStructure-F.Multipart common bodies extension) = Multipart (c
 
 abbrev pub body_seen : {S B : Type 0} → (S → Text) → (B → Text) → BodyStructure S B → BodyValue
 body_seen {S} {B} f g = fold-BodyStructure S B BodyValue (body_step f g)
+
+-- of one in its box
+abbrev pub boxed_seen : {S B : Type 0} → (S → Text) → (B → Text) → Box (BodyStructure S B) Global → BodyValue
+boxed_seen f g b = body_seen f g b.value

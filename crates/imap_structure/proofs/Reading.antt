@@ -12,7 +12,7 @@ use Rattle.imap_shapes.specs.declared.shapes.bodies.BodyStructure.TheVariants as
 use Rattle.imap_shapes.specs.EnvelopeValues.{EnvelopeValue, envelope_seen}
 use Rattle.imap_shapes.specs.FieldValues.{FieldsValue, fields_seen}
 use Rattle.imap_shapes.specs.ExtensionValues.{Ext1PartValue, ext_1part_seen, ExtMPartValue, ext_mpart_seen}
-use Rattle.imap_shapes.specs.BodyValues.{BodyValue, TextBody, Message, Multipart, bodies_of, common_seen, single_seen, body_seen}
+use Rattle.imap_shapes.specs.BodyValues.{BodyValue, TextBody, Message, Multipart, bodies_of, common_seen, single_seen, body_seen, boxed_seen}
 use Rattle.imap_shapes.proofs.Trees.{text_seen, basic_seen, message_seen, multipart_seen}
 use Rattle.imap_grammar.specs.Step.{step}
 use Rattle.imap_grammar.specs.Tags.{word}
@@ -21,7 +21,6 @@ use Rattle.imap_bytes.specs.Texts.{string_utf8}
 use Rattle.imap_envelopes.specs.Envelopes.{spaced, envelope}
 use Rattle.imap_structure.specs.Fields.{body_fields}
 use Rattle.imap_structure.specs.Extensions.{body_ext_1part, body_ext_mpart}
-use Rattle.imap_structure.specs.Kept.{boxed_seen}
 use Rattle.imap_structure.specs.Bodies.{common_of, single_of, basic_of, message_word, body_type_text, body_type_basic, body_type_msg, body_type_mpart, some_bodies, body as body_at}
 use Rattle.imap_shapes.specs.Spans.{Lookup, Rests}
 

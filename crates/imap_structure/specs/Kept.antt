@@ -1,19 +1,11 @@
--- What a structure that is kept says, and how a reader puts one behind others.
+-- How a reader puts what it keeps behind others.
 use Rattle.std.specs.Prelude.{◌≡◌, ◌≤◌, ℕ, List, [], ◌∷◌, ◌++◌, length, drop, Result, Ok, Err, IfOk}
-use Rattle.std.specs.declared.alloc.Global.{Global}
-use Rattle.std.specs.declared.boxed.Box.{Box}
 use Rattle.imap_grammar.specs.declared.answer.Err.{Err as Fault}
-use Rattle.imap_grammar.specs.Text.{Bytes, Text}
+use Rattle.imap_grammar.specs.Text.{Bytes}
 use Rattle.imap_grammar.specs.Answer.{Stops}
 use Rattle.imap_grammar.specs.Positions.{named_in}
 use Rattle.imap_grammar.specs.Step.{Step}
-use Rattle.imap_shapes.specs.declared.shapes.bodies.BodyStructure.{BodyStructure}
-use Rattle.imap_shapes.specs.BodyValues.{BodyValue, body_seen}
 use Rattle.imap_shapes.specs.Spans.{Lookup, Rests}
-
--- in its box
-abbrev pub boxed_seen : {S B : Type 0} → (S → Text) → (B → Text) → Box (BodyStructure S B) Global → BodyValue
-boxed_seen f g b = body_seen f g b.value
 
 -- The new list is the old one and one element more, whose value in m is what the step yields. Its spans lie before q.
 pub record OneMore {A V : Type 0} (view : Lookup → A → V) (m : Bytes) (old new : List A) (q : ℕ) (s : Step V) : Type 0 where

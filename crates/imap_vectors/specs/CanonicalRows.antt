@@ -4,6 +4,7 @@ use Prim.Native.String.{String}
 use Rattle.imap_grammar.specs.Text.{Text, as_text}
 use Rattle.imap_grammar.specs.Ranges.{fresh}
 use Rattle.imap_items.specs.Capabilities.{Atom as AtomCapability}
+use Rattle.imap_items.specs.declared.types.statuses.Status.TheVariants.{Ok}
 use Rattle.imap_data.specs.Names.{Extension}
 use Rattle.imap_data.specs.MailboxValues.{Listed}
 use Rattle.imap_extensions.specs.Quotas.{Atom, Storage}
@@ -13,8 +14,8 @@ use Rattle.imap_shapes.specs.FieldValues.{EncodingValue}
 use Rattle.imap_shapes.specs.ExtensionValues.{DispositionValue}
 use Rattle.imap_shapes.specs.EnvelopeValues.{AddressValue, EnvelopeValue}
 use Rattle.imap_shapes.specs.BodyValues.{CommonValue, SingleValue, Basic, TextBody}
-use Rattle.imap_body.specs.AttributeValues.{Envelope, BodyStructure, GmailLabels, Uid, Unknown}
-use Rattle.imap_proto.specs.Responses.{ResponseValue, MailboxData, Quota, Capabilities, Fetch, Vanished, Id}
+use Rattle.imap_attributes.specs.AttributeValues.{Envelope, BodyStructure, GmailLabels, Uid, Unknown}
+use Rattle.imap_proto.specs.Responses.{ResponseValue, Data, MailboxData, Quota, Capabilities, Fetch, Vanished, Id}
 
 abbrev lent : String → Text
 lent k = as_text (codes k)
@@ -44,6 +45,10 @@ a_quota = Quota (record { root_name = lent ""; resources = record { name = Stora
 
 abbrev pub enabled : ResponseValue
 enabled = Capabilities (AtomCapability (lent "IMAP4rev1x") ∷ [])
+
+-- information that begins as a code does
+abbrev pub a_bracket : ResponseValue
+a_bracket = Data Ok (record { code = None; information = Some (lent "[BADCHARSET ({5}") })
 
 abbrev pub gone : ResponseValue
 gone = Vanished false (fresh 4 2 ∷ [])

@@ -33,6 +33,9 @@ pub fn told<T: Debug + Drop>(
     }
 }
 
+/// What stands behind a value that is no reader's answer.
+pub const NOTHING: &[u8] = b"";
+
 /// Whether a reader's answer is told so.
 pub fn says<T: Debug + Drop>(alloc: Global, answer: IResult<&[u8], T>, want: &str) -> bool {
     match told(alloc, answer) {
@@ -121,6 +124,14 @@ pub fn with_mark<'a>(text: &'a CowStr<'_>) -> Marked<'a> {
     match text {
         CowStr::Borrowed(text) => Marked::Borrowed(*text),
         CowStr::Owned(text) => Marked::Owned(text.as_str()),
+    }
+}
+
+/// The same of a text that may be missing.
+pub fn with_mark_if_any<'a>(text: &'a Option<CowStr<'_>>) -> Option<Marked<'a>> {
+    match text {
+        None => None,
+        Some(text) => Some(with_mark(text)),
     }
 }
 

@@ -1,6 +1,6 @@
 //! Fetches that are kept, and attributes as positions: what they tell of their message, and of another one in its place.
 
-use crate::answers::{Rows, assert_row, parses, says, says_at, told};
+use crate::answers::{NOTHING, Rows, assert_row, parses, says, says_at, told};
 use crate::{codes, extensions, fetches, mailboxes, statuses};
 use imap_body::AttributeValue;
 use imap_body::spanned::{SpannedAttribute, attribute_list_at};
@@ -11,8 +11,6 @@ use std::alloc::{AllocError, Global};
 use std::fmt;
 use std::process::Abort;
 use std::test::*;
-
-const NOTHING: &[u8] = b"";
 
 // What an attribute says, in its place.
 #[derive(Drop)]

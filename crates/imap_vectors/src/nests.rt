@@ -1,7 +1,8 @@
 //! Bodies and extension lists inside one another, up to the deepest that are read and one further: by the readers, and in lines.
 
-use crate::answers::told;
+use crate::answers::{says, told};
 use crate::kept::is_kept;
+use crate::owned::owned_answer;
 use crate::streams::may_be_cut;
 use imap_body::readers::{body_extension, body_structure};
 use imap_proto::Response;
@@ -136,12 +137,14 @@ const LINES: [(&[u8], &Nest, &[u8]); 3] = [
 // its time grows with the square of its length.
 const CUT: usize = 1000;
 
-// Whether the parsing of a line ends so, what is kept of the line is told as what is parsed, and a short line may be cut anywhere.
+// Whether the parsing of a line ends so, what is kept of the line and what is made owned are told as what is parsed, and a short
+// line may be cut anywhere.
 fn line_ends(alloc: Global, line: &[u8], want: Ending) -> Result<bool, AllocError> {
     let parsed = told(alloc, Response::parse(alloc, line))?;
     Ok(
         ending_of(Response::parse(alloc, line)) == want
             && is_kept(alloc, line, parsed.as_str())
+            && says(alloc, owned_answer(alloc, line), parsed.as_str())
             && (line.len() > CUT || may_be_cut(alloc, line)),
     )
 }

@@ -1,10 +1,10 @@
 //! Whole lines, and parts of body structures made by hand, with all texts owned.
 
-use crate::answers::{Rows, assert_row, assert_says, says};
+use crate::answers::{NOTHING, Rows, assert_row, assert_says, says, with_mark_if_any};
 use crate::{codes, extensions, fetches, mailboxes, statuses};
 use imap_body::{
-    BodyContentCommon, BodyContentSinglePart, BodyExt1Part, BodyExtMPart, ContentDisposition,
-    ContentEncoding, ContentType,
+    BodyContentCommon, BodyContentSinglePart, BodyExt1Part, BodyExtMPart, BodyExtension,
+    ContentDisposition, ContentEncoding, ContentType,
 };
 use imap_proto::Response;
 use imap_proto::imap_core::{Err, IResult};
@@ -13,8 +13,6 @@ use std::borrow::CowStr;
 use std::fmt::Debug;
 use std::process::Abort;
 use std::test::*;
-
-const NOTHING: &[u8] = b"";
 
 // Whether there is a value, and it is told so.
 fn shows<T: Debug + Drop>(alloc: Global, value: Result<T, AllocError>, want: &str) -> bool {
@@ -77,7 +75,7 @@ fn content_of_a_part(rt: HostRuntime) {
     assert!(rt; shows(alloc, other.into_owned(alloc), want));
 }
 
-// Extension data has no debug text of its own: it is told field by field.
+// Extension data has no debug text of its own: it is told field by field, texts with their mark where they stand alone.
 #[test]
 fn extension_data(rt: HostRuntime) -> Result<(), Fail> {
     let alloc = rt.alloc();
@@ -86,10 +84,10 @@ fn extension_data(rt: HostRuntime) -> Result<(), Fail> {
         disposition: Some(DISPOSITION),
         language: Some(Vec::from_array(alloc, [CowStr::Borrowed("en")])?),
         location: Some(CowStr::Borrowed("l")),
-        extension: None,
+        extension: Some(BodyExtension::Str(Some(NAME))),
     };
     let want =
-        r#"(Some("a"), Some(ContentDisposition { ty: "d", params: None }), Some(["en"]), Some("l"), None)"#;
+        r#"(Some(Owned("a")), Some(ContentDisposition { ty: "d", params: None }), Some(["en"]), Some(Owned("l")), Some(Str(Some("a"))))"#;
     let BodyExt1Part {
         md5,
         disposition,
@@ -97,6 +95,7 @@ fn extension_data(rt: HostRuntime) -> Result<(), Fail> {
         location,
         extension,
     } = single.into_owned(alloc)?;
+    let (md5, location) = (with_mark_if_any(&md5), with_mark_if_any(&location));
     let fields = (md5, disposition, language, location, extension);
     assert!(rt; shows(alloc, Ok(fields), want));
     Ok(())
@@ -110,10 +109,10 @@ fn extension_data_of_a_multipart(rt: HostRuntime) -> Result<(), Fail> {
         disposition: Some(DISPOSITION),
         language: None,
         location: Some(CowStr::Borrowed("l")),
-        extension: None,
+        extension: Some(BodyExtension::Num(7)),
     };
     let want =
-        r#"(Some([("a", "b")]), Some(ContentDisposition { ty: "d", params: None }), None, Some("l"), None)"#;
+        r#"(Some([("a", "b")]), Some(ContentDisposition { ty: "d", params: None }), None, Some(Owned("l")), Some(Num(7)))"#;
     let BodyExtMPart {
         param,
         disposition,
@@ -121,6 +120,7 @@ fn extension_data_of_a_multipart(rt: HostRuntime) -> Result<(), Fail> {
         location,
         extension,
     } = multipart.into_owned(alloc)?;
+    let location = with_mark_if_any(&location);
     let fields = (param, disposition, language, location, extension);
     assert!(rt; shows(alloc, Ok(fields), want));
     Ok(())

@@ -41,7 +41,7 @@ impl Source for Handing<'_> {
     }
 }
 
-/// Takes at most `size` bytes a call, and fails when no call is left.
+/// Takes at most `size` bytes a call, maybe none, and fails when no call is left.
 #[derive(Drop)]
 struct Taking {
     written: Vec<u8>,
@@ -58,11 +58,14 @@ impl Sink for Taking {
     fn write(&mut self, buf: &[u8]) -> io::Result<usize> {
         let n = buf.len().min(self.size);
         let (front, _) = buf.split_at(n);
-        if n == 0 || self.calls_left == 0 || self.written.extend_from_slice(front).is_err() {
+        if self.calls_left == 0 || self.written.extend_from_slice(front).is_err() {
             self.has_failed = true;
             return Err(io::Error::from(ErrorKind::Other));
         }
         self.calls_left -= 1;
+        if n == 0 && !buf.is_empty() {
+            self.has_failed = true;
+        }
         Ok(n)
     }
 

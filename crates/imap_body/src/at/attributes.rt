@@ -6,11 +6,11 @@ ghost use Rattle.imap_grammar.specs.Positions.{ExactlyAt, GivesAt, Ahead, Inside
 ghost use Rattle.imap_grammar.specs.Rule.{opt, run0, run1};
 ghost use Rattle.imap_grammar.specs.Step.{step};
 ghost use Rattle.imap_shapes.specs.Spans.{RestsOn, text_in};
-ghost use Rattle.imap_body.specs.AttributeValues.{parts_said};
+ghost use Rattle.imap_attributes.specs.AttributeValues.{parts_said};
 ghost use Rattle.imap_body.specs.Attributes as rules;
 
 use crate::keeping::KeepAttribute;
-use crate::types::attributes::{AttributeKept, AttributeParts};
+use imap_attributes::{AttributeKept, AttributeParts};
 use imap_bytes::at::Reached;
 use imap_bytes::at::numbers::{number, number_64};
 use imap_bytes::at::span::Span;
@@ -18,14 +18,19 @@ use imap_bytes::at::strings::{astring_chars, atom, nil, nstring};
 use imap_bytes::at::tags::{cut0, cut1, maybe_space, tag, word};
 use imap_bytes::strings::as_utf8;
 use imap_bytes::{Err, Needed, first, maybe};
+use imap_envelopes::Keep;
 use imap_envelopes::at::envelopes::envelope;
 use imap_envelopes::at::texts::{byte_string, spaced_byte_string, string_text};
 use imap_envelopes::kept::kept_bytes;
+use imap_items::at::{gmail_msgid, gmail_thrid};
 use imap_sections::at::sections::section;
 use imap_shapes::made;
 use imap_shapes::spans::SpannedText;
 use imap_structure::at::bodies::body_structure;
 use std::alloc::Global;
+
+// What a reader of an attribute answers, where K keeps its strings.
+type Attribute<K> = Reached<AttributeKept<<K as Keep>::Text, <K as Keep>::Bytes>>;
 
 #[tactic(auto, unfolding(crate::specs::Attributes::origin))]
 fn origin(m: &[u8], p: usize) -> Reached<u32>
@@ -48,12 +53,7 @@ fn maybe_origin(m: &[u8], p: usize) -> Reached<Option<u32>>
 }
 
 #[tactic(auto, unfolding(crate::specs::Attributes::section_contents))]
-fn section_contents<K: KeepAttribute>(
-    keep: &K,
-    alloc: Global,
-    m: &[u8],
-    p: usize,
-) -> Reached<AttributeKept<K::Text, K::Bytes>>
+fn section_contents<K: KeepAttribute>(keep: &K, alloc: Global, m: &[u8], p: usize) -> Attribute<K>
     requires start { p ≤ length m.now }
     requires serves { K.serves keep.now m.now }
     ensures steps { GivesAt (λ x. parts_said K.text_said K.bytes_said (named_in m.now) x) m.now result (step rules.section_contents (drop p m.now)) }
@@ -82,7 +82,7 @@ pub(crate) fn msg_att_body_section<K: KeepAttribute>(
     alloc: Global,
     m: &[u8],
     p: usize,
-) -> Reached<AttributeKept<K::Text, K::Bytes>>
+) -> Attribute<K>
     requires start { p ≤ length m.now }
     requires serves { K.serves keep.now m.now }
     ensures steps { GivesAt (λ x. parts_said K.text_said K.bytes_said (named_in m.now) x) m.now result (step rules.msg_att_body_section (drop p m.now)) }
@@ -94,12 +94,7 @@ pub(crate) fn msg_att_body_section<K: KeepAttribute>(
 }
 
 #[tactic(auto, using(crate::proofs::Resting::structure_rests), unfolding(crate::specs::Attributes::structure))]
-fn structure<K: KeepAttribute>(
-    keep: &K,
-    alloc: Global,
-    m: &[u8],
-    p: usize,
-) -> Reached<AttributeKept<K::Text, K::Bytes>>
+fn structure<K: KeepAttribute>(keep: &K, alloc: Global, m: &[u8], p: usize) -> Attribute<K>
     requires start { p ≤ length m.now }
     requires serves { K.serves keep.now m.now }
     ensures steps { GivesAt (λ x. parts_said K.text_said K.bytes_said (named_in m.now) x) m.now result (step rules.structure (drop p m.now)) }
@@ -113,12 +108,7 @@ fn structure<K: KeepAttribute>(
 
 // `BODY` is read once, whether a section or `STRUCTURE` stands behind it.
 #[tactic(auto, unfolding(crate::specs::Attributes::body_attribute))]
-fn body_attribute<K: KeepAttribute>(
-    keep: &K,
-    alloc: Global,
-    m: &[u8],
-    p: usize,
-) -> Reached<AttributeKept<K::Text, K::Bytes>>
+fn body_attribute<K: KeepAttribute>(keep: &K, alloc: Global, m: &[u8], p: usize) -> Attribute<K>
     requires start { p ≤ length m.now }
     requires serves { K.serves keep.now m.now }
     ensures steps { GivesAt (λ x. parts_said K.text_said K.bytes_said (named_in m.now) x) m.now result (step rules.body_attribute (drop p m.now)) }
@@ -131,11 +121,7 @@ fn body_attribute<K: KeepAttribute>(
 }
 
 #[tactic(auto, unfolding(crate::specs::Attributes::whole_message))]
-fn whole_message<K: KeepAttribute>(
-    keep: &K,
-    m: &[u8],
-    p: usize,
-) -> Reached<AttributeKept<K::Text, K::Bytes>>
+fn whole_message<K: KeepAttribute>(keep: &K, m: &[u8], p: usize) -> Attribute<K>
     requires start { p ≤ length m.now }
     requires serves { K.serves keep.now m.now }
     ensures steps { ExactlyAt (λ x. parts_said K.text_said K.bytes_said (named_in m.now) x) m.now result (step rules.whole_message (drop p m.now)) }
@@ -148,11 +134,7 @@ fn whole_message<K: KeepAttribute>(
 }
 
 #[tactic(auto, unfolding(crate::specs::Attributes::message_header))]
-fn message_header<K: KeepAttribute>(
-    keep: &K,
-    m: &[u8],
-    p: usize,
-) -> Reached<AttributeKept<K::Text, K::Bytes>>
+fn message_header<K: KeepAttribute>(keep: &K, m: &[u8], p: usize) -> Attribute<K>
     requires start { p ≤ length m.now }
     requires serves { K.serves keep.now m.now }
     ensures steps { ExactlyAt (λ x. parts_said K.text_said K.bytes_said (named_in m.now) x) m.now result (step rules.message_header (drop p m.now)) }
@@ -166,7 +148,7 @@ fn message_header<K: KeepAttribute>(
 }
 
 #[tactic(auto, unfolding(crate::specs::Attributes::message_size))]
-fn message_size<K: KeepAttribute>(m: &[u8], p: usize) -> Reached<AttributeKept<K::Text, K::Bytes>>
+fn message_size<K: KeepAttribute>(m: &[u8], p: usize) -> Attribute<K>
     requires { p ≤ length m.now }
     ensures steps { ExactlyAt (λ x. parts_said K.text_said K.bytes_said (named_in m.now) x) m.now result (step rules.message_size (drop p m.now)) }
     ensures ahead { Ahead m.now p result }
@@ -178,11 +160,7 @@ fn message_size<K: KeepAttribute>(m: &[u8], p: usize) -> Reached<AttributeKept<K
 }
 
 #[tactic(auto, unfolding(crate::specs::Attributes::message_text))]
-fn message_text<K: KeepAttribute>(
-    keep: &K,
-    m: &[u8],
-    p: usize,
-) -> Reached<AttributeKept<K::Text, K::Bytes>>
+fn message_text<K: KeepAttribute>(keep: &K, m: &[u8], p: usize) -> Attribute<K>
     requires start { p ≤ length m.now }
     requires serves { K.serves keep.now m.now }
     ensures steps { ExactlyAt (λ x. parts_said K.text_said K.bytes_said (named_in m.now) x) m.now result (step rules.message_text (drop p m.now)) }
@@ -195,11 +173,7 @@ fn message_text<K: KeepAttribute>(
 }
 
 #[tactic(auto, unfolding(crate::specs::Attributes::message_part))]
-fn message_part<K: KeepAttribute>(
-    keep: &K,
-    m: &[u8],
-    p: usize,
-) -> Reached<AttributeKept<K::Text, K::Bytes>>
+fn message_part<K: KeepAttribute>(keep: &K, m: &[u8], p: usize) -> Attribute<K>
     requires start { p ≤ length m.now }
     requires serves { K.serves keep.now m.now }
     ensures steps { ExactlyAt (λ x. parts_said K.text_said K.bytes_said (named_in m.now) x) m.now result (step rules.message_part (drop p m.now)) }
@@ -214,11 +188,7 @@ fn message_part<K: KeepAttribute>(
 
 // `RFC822` is read once, whether the whole message or a part of it is meant.
 #[tactic(auto, unfolding(crate::specs::Attributes::message_attribute))]
-fn message_attribute<K: KeepAttribute>(
-    keep: &K,
-    m: &[u8],
-    p: usize,
-) -> Reached<AttributeKept<K::Text, K::Bytes>>
+fn message_attribute<K: KeepAttribute>(keep: &K, m: &[u8], p: usize) -> Attribute<K>
     requires start { p ≤ length m.now }
     requires serves { K.serves keep.now m.now }
     ensures steps { ExactlyAt (λ x. parts_said K.text_said K.bytes_said (named_in m.now) x) m.now result (step rules.message_attribute (drop p m.now)) }
@@ -232,12 +202,7 @@ fn message_attribute<K: KeepAttribute>(
 
 #[tactic(auto, using(crate::proofs::Resting::envelope_rests), unfolding(crate::specs::Attributes::msg_att_envelope))]
 #[inline(never)] // Its stack frame is large, and a caller that inlined it would clear it at each call.
-fn msg_att_envelope<K: KeepAttribute>(
-    keep: &K,
-    alloc: Global,
-    m: &[u8],
-    p: usize,
-) -> Reached<AttributeKept<K::Text, K::Bytes>>
+fn msg_att_envelope<K: KeepAttribute>(keep: &K, alloc: Global, m: &[u8], p: usize) -> Attribute<K>
     requires start { p ≤ length m.now }
     requires serves { K.serves keep.now m.now }
     ensures steps { GivesAt (λ x. parts_said K.text_said K.bytes_said (named_in m.now) x) m.now result (step rules.msg_att_envelope (drop p m.now)) }
@@ -260,11 +225,7 @@ fn date(m: &[u8], p: usize) -> Reached<SpannedText>
 }
 
 #[tactic(auto, unfolding(crate::specs::Attributes::msg_att_internal_date))]
-fn msg_att_internal_date<K: KeepAttribute>(
-    keep: &K,
-    m: &[u8],
-    p: usize,
-) -> Reached<AttributeKept<K::Text, K::Bytes>>
+fn msg_att_internal_date<K: KeepAttribute>(keep: &K, m: &[u8], p: usize) -> Attribute<K>
     requires start { p ≤ length m.now }
     requires serves { K.serves keep.now m.now }
     ensures steps { GivesAt (λ x. parts_said K.text_said K.bytes_said (named_in m.now) x) m.now result (step rules.msg_att_internal_date (drop p m.now)) }
@@ -278,12 +239,7 @@ fn msg_att_internal_date<K: KeepAttribute>(
 }
 
 #[tactic(auto, unfolding(crate::specs::Attributes::msg_att_flags))]
-fn msg_att_flags<K: KeepAttribute>(
-    keep: &K,
-    alloc: Global,
-    m: &[u8],
-    p: usize,
-) -> Reached<AttributeKept<K::Text, K::Bytes>>
+fn msg_att_flags<K: KeepAttribute>(keep: &K, alloc: Global, m: &[u8], p: usize) -> Attribute<K>
     requires start { p ≤ length m.now }
     requires serves { K.serves keep.now m.now }
     ensures steps { GivesAt (λ x. parts_said K.text_said K.bytes_said (named_in m.now) x) m.now result (step rules.msg_att_flags (drop p m.now)) }
@@ -296,7 +252,7 @@ fn msg_att_flags<K: KeepAttribute>(
 }
 
 #[tactic(auto, unfolding(crate::specs::Attributes::msg_att_uid))]
-fn msg_att_uid<K: KeepAttribute>(m: &[u8], p: usize) -> Reached<AttributeKept<K::Text, K::Bytes>>
+fn msg_att_uid<K: KeepAttribute>(m: &[u8], p: usize) -> Attribute<K>
     requires { p ≤ length m.now }
     ensures steps { ExactlyAt (λ x. parts_said K.text_said K.bytes_said (named_in m.now) x) m.now result (step rules.msg_att_uid (drop p m.now)) }
     ensures ahead { Ahead m.now p result }
@@ -308,10 +264,7 @@ fn msg_att_uid<K: KeepAttribute>(m: &[u8], p: usize) -> Reached<AttributeKept<K:
 }
 
 #[tactic(auto, unfolding(crate::specs::Attributes::msg_att_mod_seq))]
-fn msg_att_mod_seq<K: KeepAttribute>(
-    m: &[u8],
-    p: usize,
-) -> Reached<AttributeKept<K::Text, K::Bytes>>
+fn msg_att_mod_seq<K: KeepAttribute>(m: &[u8], p: usize) -> Attribute<K>
     requires { p ≤ length m.now }
     ensures steps { ExactlyAt (λ x. parts_said K.text_said K.bytes_said (named_in m.now) x) m.now result (step rules.msg_att_mod_seq (drop p m.now)) }
     ensures ahead { Ahead m.now p result }
@@ -330,7 +283,7 @@ fn msg_att_gmail_labels<K: KeepAttribute>(
     alloc: Global,
     m: &[u8],
     p: usize,
-) -> Reached<AttributeKept<K::Text, K::Bytes>>
+) -> Attribute<K>
     requires start { p ≤ length m.now }
     requires serves { K.serves keep.now m.now }
     ensures steps { GivesAt (λ x. parts_said K.text_said K.bytes_said (named_in m.now) x) m.now result (step rules.msg_att_gmail_labels (drop p m.now)) }
@@ -341,33 +294,25 @@ fn msg_att_gmail_labels<K: KeepAttribute>(
     Ok((p, AttributeParts::GmailLabels(labels)))
 }
 
-#[tactic(auto, unfolding(crate::specs::Attributes::msg_att_gmail_msgid, imap_items::specs::Gmail::gmail_msgid))]
-fn msg_att_gmail_msgid<K: KeepAttribute>(
-    m: &[u8],
-    p: usize,
-) -> Reached<AttributeKept<K::Text, K::Bytes>>
+#[tactic(auto, unfolding(crate::specs::Attributes::msg_att_gmail_msgid))]
+fn msg_att_gmail_msgid<K: KeepAttribute>(m: &[u8], p: usize) -> Attribute<K>
     requires { p ≤ length m.now }
     ensures steps { ExactlyAt (λ x. parts_said K.text_said K.bytes_said (named_in m.now) x) m.now result (step rules.msg_att_gmail_msgid (drop p m.now)) }
     ensures ahead { Ahead m.now p result }
     ensures rests { RestsOn (λ n x. parts_said K.text_said K.bytes_said n x) result }
 {
-    let (p, _) = word(b"X-GM-MSGID ", m, p)?;
-    let (p, number) = number_64(m, p)?;
+    let (p, number) = gmail_msgid(m, p)?;
     Ok((p, AttributeParts::GmailMsgId(number)))
 }
 
-#[tactic(auto, unfolding(crate::specs::Attributes::msg_att_gmail_thrid, imap_items::specs::Gmail::gmail_thrid))]
-fn msg_att_gmail_thrid<K: KeepAttribute>(
-    m: &[u8],
-    p: usize,
-) -> Reached<AttributeKept<K::Text, K::Bytes>>
+#[tactic(auto, unfolding(crate::specs::Attributes::msg_att_gmail_thrid))]
+fn msg_att_gmail_thrid<K: KeepAttribute>(m: &[u8], p: usize) -> Attribute<K>
     requires { p ≤ length m.now }
     ensures steps { ExactlyAt (λ x. parts_said K.text_said K.bytes_said (named_in m.now) x) m.now result (step rules.msg_att_gmail_thrid (drop p m.now)) }
     ensures ahead { Ahead m.now p result }
     ensures rests { RestsOn (λ n x. parts_said K.text_said K.bytes_said n x) result }
 {
-    let (p, _) = word(b"X-GM-THRID ", m, p)?;
-    let (p, number) = number_64(m, p)?;
+    let (p, number) = gmail_thrid(m, p)?;
     Ok((p, AttributeParts::GmailThrId(number)))
 }
 
@@ -407,11 +352,7 @@ fn bracketed_id(m: &[u8], p: usize) -> Reached<SpannedText>
 }
 
 #[tactic(auto, unfolding(crate::specs::Attributes::msg_att_email_id))]
-fn msg_att_email_id<K: KeepAttribute>(
-    keep: &K,
-    m: &[u8],
-    p: usize,
-) -> Reached<AttributeKept<K::Text, K::Bytes>>
+fn msg_att_email_id<K: KeepAttribute>(keep: &K, m: &[u8], p: usize) -> Attribute<K>
     requires start { p ≤ length m.now }
     requires serves { K.serves keep.now m.now }
     ensures steps { GivesAt (λ x. parts_said K.text_said K.bytes_said (named_in m.now) x) m.now result (step rules.msg_att_email_id (drop p m.now)) }
@@ -425,11 +366,7 @@ fn msg_att_email_id<K: KeepAttribute>(
 }
 
 #[tactic(auto, unfolding(crate::specs::Attributes::msg_att_thread_id))]
-fn msg_att_thread_id<K: KeepAttribute>(
-    keep: &K,
-    m: &[u8],
-    p: usize,
-) -> Reached<AttributeKept<K::Text, K::Bytes>>
+fn msg_att_thread_id<K: KeepAttribute>(keep: &K, m: &[u8], p: usize) -> Attribute<K>
     requires start { p ≤ length m.now }
     requires serves { K.serves keep.now m.now }
     ensures steps { GivesAt (λ x. parts_said K.text_said K.bytes_said (named_in m.now) x) m.now result (step rules.msg_att_thread_id (drop p m.now)) }
@@ -528,10 +465,7 @@ fn skipped_value(m: &[u8], p: usize) -> Reached<()>
 // attributes apart would clear the room that it needs.
 #[tactic(auto, unfolding(crate::specs::Attributes::msg_att_unknown))]
 #[inline(never)]
-fn msg_att_unknown<K: KeepAttribute>(
-    m: &[u8],
-    p: usize,
-) -> Reached<AttributeKept<K::Text, K::Bytes>>
+fn msg_att_unknown<K: KeepAttribute>(m: &[u8], p: usize) -> Attribute<K>
     requires { p ≤ length m.now }
     ensures steps { ExactlyAt (λ x. parts_said K.text_said K.bytes_said (named_in m.now) x) m.now result (step rules.msg_att_unknown (drop p m.now)) }
     ensures ahead { Ahead m.now p result }
@@ -548,12 +482,7 @@ fn msg_att_unknown<K: KeepAttribute>(
 
 #[tactic(auto, unfolding(crate::specs::Attributes::attribute_of_b))]
 #[inline(never)]
-fn attribute_of_b<K: KeepAttribute>(
-    keep: &K,
-    alloc: Global,
-    m: &[u8],
-    p: usize,
-) -> Reached<AttributeKept<K::Text, K::Bytes>>
+fn attribute_of_b<K: KeepAttribute>(keep: &K, alloc: Global, m: &[u8], p: usize) -> Attribute<K>
     requires start { p ≤ length m.now }
     requires serves { K.serves keep.now m.now }
     ensures steps { GivesAt (λ x. parts_said K.text_said K.bytes_said (named_in m.now) x) m.now result (step rules.attribute_of_b (drop p m.now)) }
@@ -566,12 +495,7 @@ fn attribute_of_b<K: KeepAttribute>(
 
 #[tactic(auto, unfolding(crate::specs::Attributes::attribute_of_e))]
 #[inline(never)]
-fn attribute_of_e<K: KeepAttribute>(
-    keep: &K,
-    alloc: Global,
-    m: &[u8],
-    p: usize,
-) -> Reached<AttributeKept<K::Text, K::Bytes>>
+fn attribute_of_e<K: KeepAttribute>(keep: &K, alloc: Global, m: &[u8], p: usize) -> Attribute<K>
     requires start { p ≤ length m.now }
     requires serves { K.serves keep.now m.now }
     ensures steps { GivesAt (λ x. parts_said K.text_said K.bytes_said (named_in m.now) x) m.now result (step rules.attribute_of_e (drop p m.now)) }
@@ -585,12 +509,7 @@ fn attribute_of_e<K: KeepAttribute>(
 
 #[tactic(auto, unfolding(crate::specs::Attributes::attribute_of_f))]
 #[inline(never)]
-fn attribute_of_f<K: KeepAttribute>(
-    keep: &K,
-    alloc: Global,
-    m: &[u8],
-    p: usize,
-) -> Reached<AttributeKept<K::Text, K::Bytes>>
+fn attribute_of_f<K: KeepAttribute>(keep: &K, alloc: Global, m: &[u8], p: usize) -> Attribute<K>
     requires start { p ≤ length m.now }
     requires serves { K.serves keep.now m.now }
     ensures steps { GivesAt (λ x. parts_said K.text_said K.bytes_said (named_in m.now) x) m.now result (step rules.attribute_of_f (drop p m.now)) }
@@ -603,11 +522,7 @@ fn attribute_of_f<K: KeepAttribute>(
 
 #[tactic(auto, unfolding(crate::specs::Attributes::attribute_of_i))]
 #[inline(never)]
-fn attribute_of_i<K: KeepAttribute>(
-    keep: &K,
-    m: &[u8],
-    p: usize,
-) -> Reached<AttributeKept<K::Text, K::Bytes>>
+fn attribute_of_i<K: KeepAttribute>(keep: &K, m: &[u8], p: usize) -> Attribute<K>
     requires start { p ≤ length m.now }
     requires serves { K.serves keep.now m.now }
     ensures steps { GivesAt (λ x. parts_said K.text_said K.bytes_said (named_in m.now) x) m.now result (step rules.attribute_of_i (drop p m.now)) }
@@ -620,7 +535,7 @@ fn attribute_of_i<K: KeepAttribute>(
 
 #[tactic(auto, unfolding(crate::specs::Attributes::attribute_of_m))]
 #[inline(never)]
-fn attribute_of_m<K: KeepAttribute>(m: &[u8], p: usize) -> Reached<AttributeKept<K::Text, K::Bytes>>
+fn attribute_of_m<K: KeepAttribute>(m: &[u8], p: usize) -> Attribute<K>
     requires { p ≤ length m.now }
     ensures steps { GivesAt (λ x. parts_said K.text_said K.bytes_said (named_in m.now) x) m.now result (step rules.attribute_of_m (drop p m.now)) }
     ensures ahead { Ahead m.now p result }
@@ -632,11 +547,7 @@ fn attribute_of_m<K: KeepAttribute>(m: &[u8], p: usize) -> Reached<AttributeKept
 
 #[tactic(auto, unfolding(crate::specs::Attributes::attribute_of_r))]
 #[inline(never)]
-fn attribute_of_r<K: KeepAttribute>(
-    keep: &K,
-    m: &[u8],
-    p: usize,
-) -> Reached<AttributeKept<K::Text, K::Bytes>>
+fn attribute_of_r<K: KeepAttribute>(keep: &K, m: &[u8], p: usize) -> Attribute<K>
     requires start { p ≤ length m.now }
     requires serves { K.serves keep.now m.now }
     ensures steps { GivesAt (λ x. parts_said K.text_said K.bytes_said (named_in m.now) x) m.now result (step rules.attribute_of_r (drop p m.now)) }
@@ -649,11 +560,7 @@ fn attribute_of_r<K: KeepAttribute>(
 
 #[tactic(auto, unfolding(crate::specs::Attributes::attribute_of_t))]
 #[inline(never)]
-fn attribute_of_t<K: KeepAttribute>(
-    keep: &K,
-    m: &[u8],
-    p: usize,
-) -> Reached<AttributeKept<K::Text, K::Bytes>>
+fn attribute_of_t<K: KeepAttribute>(keep: &K, m: &[u8], p: usize) -> Attribute<K>
     requires start { p ≤ length m.now }
     requires serves { K.serves keep.now m.now }
     ensures steps { GivesAt (λ x. parts_said K.text_said K.bytes_said (named_in m.now) x) m.now result (step rules.attribute_of_t (drop p m.now)) }
@@ -666,7 +573,7 @@ fn attribute_of_t<K: KeepAttribute>(
 
 #[tactic(auto, unfolding(crate::specs::Attributes::attribute_of_u))]
 #[inline(never)]
-fn attribute_of_u<K: KeepAttribute>(m: &[u8], p: usize) -> Reached<AttributeKept<K::Text, K::Bytes>>
+fn attribute_of_u<K: KeepAttribute>(m: &[u8], p: usize) -> Attribute<K>
     requires { p ≤ length m.now }
     ensures steps { GivesAt (λ x. parts_said K.text_said K.bytes_said (named_in m.now) x) m.now result (step rules.attribute_of_u (drop p m.now)) }
     ensures ahead { Ahead m.now p result }
@@ -678,12 +585,7 @@ fn attribute_of_u<K: KeepAttribute>(m: &[u8], p: usize) -> Reached<AttributeKept
 
 #[tactic(auto, unfolding(crate::specs::Attributes::attribute_of_x))]
 #[inline(never)]
-fn attribute_of_x<K: KeepAttribute>(
-    keep: &K,
-    alloc: Global,
-    m: &[u8],
-    p: usize,
-) -> Reached<AttributeKept<K::Text, K::Bytes>>
+fn attribute_of_x<K: KeepAttribute>(keep: &K, alloc: Global, m: &[u8], p: usize) -> Attribute<K>
     requires start { p ≤ length m.now }
     requires serves { K.serves keep.now m.now }
     ensures steps { GivesAt (λ x. parts_said K.text_said K.bytes_said (named_in m.now) x) m.now result (step rules.attribute_of_x (drop p m.now)) }
@@ -707,7 +609,7 @@ pub(crate) fn attribute<K: KeepAttribute>(
     alloc: Global,
     m: &[u8],
     p: usize,
-) -> Reached<AttributeKept<K::Text, K::Bytes>>
+) -> Attribute<K>
     requires start { p ≤ length m.now }
     requires serves { K.serves keep.now m.now }
     ensures steps { GivesAt (λ x. parts_said K.text_said K.bytes_said (named_in m.now) x) m.now result (step rules.attribute (drop p m.now)) }

@@ -5,12 +5,12 @@ ghost use Rattle.imap_grammar.specs.Answer.{Answers, Gives};
 ghost use Rattle.imap_grammar.specs.Positions.{named_in};
 ghost use Rattle.imap_grammar.specs.Step.{step};
 ghost use Rattle.imap_grammar.specs.declared.answer.Err.TheVariants.{Failure};
-ghost use Rattle.imap_body.specs.AttributeValues.{attribute_value, parts_in};
+ghost use Rattle.imap_attributes.specs.AttributeValues.{attribute_value, parts_in};
 ghost use Rattle.imap_body.specs.Attributes as rules;
 
 use crate::at;
 use crate::keeping::kept_list;
-use crate::types::attributes::{AttributeSpans, AttributeValue};
+use imap_attributes::{AttributeSpans, AttributeValue};
 use imap_bytes::IResult;
 use imap_bytes::at::span::rest;
 use imap_envelopes::{Named, Positions};

@@ -40,7 +40,8 @@ fn vanished_parts(alloc: Global, i: &[u8]) -> IResult<&[u8], (bool, Vec<RangeInc
 /// `VANISHED`, maybe `(EARLIER)`, and the unique identifiers of messages that are gone
 /// (RFC 7162, section 7: expunged-resp).
 ///
-/// It gives whether `(EARLIER)` stands there, and the ranges as they are written. It takes memory for the ranges.
+/// It gives whether `(EARLIER)` stands there, and the ranges as they are written. A number past 32 bits in front is
+/// `Error`. It takes memory for the ranges.
 #[tactic(auto, using(imap_grammar::proofs::Agreement::answered))]
 pub fn vanished(alloc: Global, i: &[u8]) -> IResult<&[u8], (bool, Vec<RangeInclusive<u32>>)>
     ensures steps { Gives vanished_value result (step vanishings.vanished i.now) }

@@ -1,13 +1,15 @@
-//! Gmail's labels at a position, as spans of their texts.
+//! Gmail's items of a message at a position: labels as spans of their texts, and numbers.
 
 ghost use Rattle.std.specs.Prelude.{◌≤◌, length, drop, map};
 ghost use Rattle.imap_grammar.specs.Positions.{AnswersAt, ExactlyAt, GivesAt, Ahead, Inside, EachInside};
+ghost use Rattle.imap_grammar.specs.Memory.{NeverFails};
 ghost use Rattle.imap_grammar.specs.Step.{step};
 ghost use Rattle.imap_bytes.specs.Texts as texts;
 ghost use Rattle.imap_items.specs.Gmail as rules;
 ghost use Rattle.imap_items.specs.Spanned.{decoded_in};
 
 use super::flags::flag;
+use imap_bytes::at::numbers::number_64;
 use imap_bytes::at::span::Span;
 use imap_bytes::at::tags::word;
 use imap_bytes::at::{Reached, parenthesized_list, quoted};
@@ -81,4 +83,32 @@ pub fn gmail_label_list(alloc: Global, m: &[u8], p: usize) -> Reached<Vec<Span>>
     ensures inside { EachInside p result }
 {
     labels(alloc, m, p)
+}
+
+/// `X-GM-MSGID` and the number of a message (Gmail's X-GM-EXT-1). No memory.
+///
+/// A number past 64 bits is `Error`.
+#[tactic(auto, unfolding(crate::specs::Gmail::gmail_msgid))]
+pub fn gmail_msgid(m: &[u8], p: usize) -> Reached<u64>
+    requires { p ≤ length m.now }
+    ensures steps { ExactlyAt (λ x. x) m.now result (step rules.gmail_msgid (drop p m.now)) }
+    ensures ahead { Ahead m.now p result }
+    ensures no_failure { NeverFails result }
+{
+    let (p, _) = word(b"X-GM-MSGID ", m, p)?;
+    number_64(m, p)
+}
+
+/// `X-GM-THRID` and the number of a thread (Gmail's X-GM-EXT-1). No memory.
+///
+/// A number past 64 bits is `Error`.
+#[tactic(auto, unfolding(crate::specs::Gmail::gmail_thrid))]
+pub fn gmail_thrid(m: &[u8], p: usize) -> Reached<u64>
+    requires { p ≤ length m.now }
+    ensures steps { ExactlyAt (λ x. x) m.now result (step rules.gmail_thrid (drop p m.now)) }
+    ensures ahead { Ahead m.now p result }
+    ensures no_failure { NeverFails result }
+{
+    let (p, _) = word(b"X-GM-THRID ", m, p)?;
+    number_64(m, p)
 }

@@ -103,7 +103,7 @@ pub fn capability_data(alloc: Global, i: &[u8]) -> IResult<&[u8], Vec<Capability
 
 /// `ENABLED` and the names of capabilities, each as it stands, maybe none (RFC 5161, section 4: response-data).
 ///
-/// It takes memory for the list.
+/// Any other word is `Error`. It takes memory for the list.
 #[tactic(auto, using(imap_grammar::proofs::Agreement::answered), unfolding(crate::specs::Capabilities::enabled_data))]
 pub fn enabled_data(alloc: Global, i: &[u8]) -> IResult<&[u8], Vec<Capability<'_>>>
     ensures steps { Gives (λ x. map capability_value x.items) result (step capabilities.enabled_data i.now) }

@@ -10,7 +10,7 @@ ghost use Rattle.imap_items.specs.Gmail as rules;
 use crate::at;
 use imap_bytes::at::span::rest;
 use imap_bytes::tags::word;
-use imap_bytes::{IResult, number_64, parenthesized_list};
+use imap_bytes::{IResult, parenthesized_list};
 use std::alloc::Global;
 use std::borrow::CowStr;
 
@@ -43,7 +43,8 @@ fn labels(alloc: Global, i: &[u8]) -> IResult<&[u8], Vec<CowStr<'_>>>
 
 /// `X-GM-LABELS` and the labels of a message in parentheses, maybe none (Gmail's X-GM-EXT-1).
 ///
-/// It takes memory only behind that word: for the list, and for texts that are not UTF-8.
+/// A label that is neither a flag nor a quoted string is `Error`. It takes memory only behind that word: for the list, and
+/// for texts that are not UTF-8.
 #[tactic(auto, using(imap_grammar::proofs::Agreement::answered))]
 pub fn gmail_label_list(alloc: Global, i: &[u8]) -> IResult<&[u8], Vec<CowStr<'_>>>
     ensures steps { Gives (λ x. map text_of x.items) result (step rules.gmail_label_list i.now) }
@@ -51,15 +52,6 @@ pub fn gmail_label_list(alloc: Global, i: &[u8]) -> IResult<&[u8], Vec<CowStr<'_
     ensures memory { FailsOnlyIf (BeginsWord "X-GM-LABELS " i.now) result }
 {
     labels(alloc, i)
-}
-
-#[tactic(auto, unfolding(crate::specs::Gmail::gmail_msgid))]
-fn msgid(i: &[u8]) -> IResult<&[u8], u64>
-    ensures steps { Exactly (λ x. x) result (step rules.gmail_msgid i.now) }
-    ensures no_failure { NeverFails result }
-{
-    let (rest, _) = word(b"X-GM-MSGID ", i)?;
-    number_64(rest)
 }
 
 /// `X-GM-MSGID` and the number of a message (Gmail's X-GM-EXT-1). No memory.
@@ -71,16 +63,8 @@ pub fn gmail_msgid(i: &[u8]) -> IResult<&[u8], u64>
     ensures answer { Answers rules.gmail_msgid (λ x. x) i.now result }
     ensures no_failure { NeverFails result }
 {
-    msgid(i)
-}
-
-#[tactic(auto, unfolding(crate::specs::Gmail::gmail_thrid))]
-fn thrid(i: &[u8]) -> IResult<&[u8], u64>
-    ensures steps { Exactly (λ x. x) result (step rules.gmail_thrid i.now) }
-    ensures no_failure { NeverFails result }
-{
-    let (rest, _) = word(b"X-GM-THRID ", i)?;
-    number_64(rest)
+    let (q, number) = at::gmail_msgid(i, 0)?;
+    Ok((rest(i, q), number))
 }
 
 /// `X-GM-THRID` and the number of a thread (Gmail's X-GM-EXT-1). No memory.
@@ -92,5 +76,6 @@ pub fn gmail_thrid(i: &[u8]) -> IResult<&[u8], u64>
     ensures answer { Answers rules.gmail_thrid (λ x. x) i.now result }
     ensures no_failure { NeverFails result }
 {
-    thrid(i)
+    let (q, number) = at::gmail_thrid(i, 0)?;
+    Ok((rest(i, q), number))
 }

@@ -32,7 +32,7 @@ fn mailbox_name(name: CowStr<'_>) -> CowStr<'_>
 
 /// A mailbox's name: an astring as text, and `INBOX` for INBOX in any case (RFC 3501, section 9: mailbox).
 ///
-/// It takes memory only for bytes that are not UTF-8.
+/// What is no astring is `Error`. It takes memory only for bytes that are not UTF-8.
 #[tactic(auto, using(imap_grammar::proofs::Agreement::answered), unfolding(crate::specs::Mailboxes::mailbox))]
 pub fn mailbox(alloc: Global, i: &[u8]) -> IResult<&[u8], CowStr<'_>>
     ensures steps { Gives (λ x. text_of x) result (step mailboxes.mailbox i.now) }

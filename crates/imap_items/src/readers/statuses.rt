@@ -59,6 +59,8 @@ fn status_word(i: &[u8]) -> IResult<&[u8], Status>
 }
 
 /// A status word in any case (RFC 3501, section 9: resp-cond-state, resp-cond-auth, resp-cond-bye). No memory.
+///
+/// Any other word is `Error`.
 #[tactic(auto, using(imap_grammar::proofs::Agreement::exact_answered, imap_grammar::proofs::Memory::exactly_never))]
 #[inline(always)]
 pub fn status(i: &[u8]) -> IResult<&[u8], Status>

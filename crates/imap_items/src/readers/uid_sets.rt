@@ -62,7 +62,8 @@ pub(crate) fn uid_set_member(i: &[u8]) -> IResult<&[u8], UidSetMember>
 
 /// Ranges of UIDs and UIDs, with commas between (RFC 4315, section 4: uid-set).
 ///
-/// Each range starts not above its end. It takes memory for the list.
+/// Each range starts not above its end. It ends before a colon or a comma behind which `number` denies. A number
+/// past 32 bits in front is `Error`. It takes memory for the list.
 pub fn uid_set(alloc: Global, i: &[u8]) -> IResult<&[u8], Vec<UidSetMember>>
     ensures steps { Gives (λ x. map member_value x.items) result (step sets.uid_set i.now) }
     ensures answer { Answers sets.uid_set (λ x. map member_value x.items) i.now result }

@@ -1,6 +1,6 @@
 //! Sections of a body.
 
-/// What of a part is meant (RFC 3501, section 9: section-msgtext, section-text).
+/// What of a message or of a part is meant (RFC 3501, section 9: section-msgtext, section-text).
 #[derive(Clone, Copy, Debug, PartialEq, Eq)]
 pub enum MessageSection {
     /// `HEADER`, and its `.FIELDS` and `.FIELDS.NOT`.
@@ -11,10 +11,10 @@ pub enum MessageSection {
     Text,
 }
 
-/// What of a message is meant (RFC 3501, section 9: section-spec).
+/// Of what, the whole message or a part, and what of it (RFC 3501, section 9: section-spec).
 #[derive(Debug, Drop, PartialEq, Eq)]
 pub enum SectionPath {
-    /// The whole message.
+    /// What of the whole message.
     Full(MessageSection),
     /// The part at a path, and what of it.
     Part(Vec<u32>, Option<MessageSection>),

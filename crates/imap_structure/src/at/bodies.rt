@@ -6,9 +6,9 @@ ghost use Rattle.imap_grammar.specs.Step.{step};
 ghost use Rattle.imap_envelopes.specs.Envelopes as envelopes;
 ghost use Rattle.imap_envelopes.specs.Envelopes.{spaced};
 ghost use Rattle.imap_structure.specs.Bodies as bodies;
-ghost use Rattle.imap_structure.specs.Kept.{boxed_seen, PutsAt, Leaves, Reaches};
+ghost use Rattle.imap_structure.specs.Kept.{PutsAt, Leaves, Reaches};
 ghost use Rattle.imap_shapes.specs.EnvelopeValues.{envelope_seen};
-ghost use Rattle.imap_shapes.specs.BodyValues.{body_seen};
+ghost use Rattle.imap_shapes.specs.BodyValues.{body_seen, boxed_seen};
 ghost use Rattle.imap_shapes.specs.Spans.{RestsOn};
 
 use crate::at::extensions::{body_ext_1part, body_ext_mpart};

@@ -1,6 +1,6 @@
 use Rattle.std.proofs.Common.{refl, rules}
-use Rattle.imap_body.proofs.Putting.{put_behind}
-use Rattle.imap_body.proofs.types.attributes.AttributeParts.push_mapped.Goals as goal
+use Rattle.imap_attributes.proofs.Putting.{put_behind}
+use Rattle.imap_attributes.proofs.attributes.AttributeParts.push_mapped.Goals as goal
 
 pub returns-in-BodyStructure : goal.returns-in-BodyStructure
 returns-in-BodyStructure g c = rw c.in-BodyStructure.is (rw c.in_ok-reserve.ensures.items at c.push_body.ensures g.C.Change.after g.D.Change.after)

@@ -1,6 +1,6 @@
 use Rattle.std.proofs.Common.{refl}
-use Rattle.imap_body.proofs.Putting.{put_behind}
-use Rattle.imap_body.proofs.maps.Parts+S+B+Box+Y.push_unboxed.Goals as goal
+use Rattle.imap_attributes.proofs.Putting.{put_behind}
+use Rattle.imap_attributes.proofs.maps.Parts+S+B+Box+Y.push_unboxed.Goals as goal
 
 pub returns-in-BodyStructure : goal.returns-in-BodyStructure
 returns-in-BodyStructure g c f h k = rw c.in-BodyStructure.is (rw c.in_ok-reserve.ensures.items at c.push_structure.ensures f h k)

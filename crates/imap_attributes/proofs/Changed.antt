@@ -9,12 +9,12 @@ use Rattle.imap_shapes.specs.BodyValues.{body_seen}
 use Rattle.imap_shapes.specs.Spans.{bytes_of, owned}
 use Rattle.imap_shapes.specs.declared.shapes.bodies.BodyStructure.{BodyStructure as Structure}
 use Rattle.imap_shapes.proofs.Changed.{envelope_changed, body_changed}
-use Rattle.imap_body.specs.AttributeValues.{BodySection, BodyStructure, Envelope, Flags, Rfc822, Rfc822Header, Rfc822Text, GmailLabels, ThreadId, attribute_seen, attribute_value, attribute_owned}
+use Rattle.imap_attributes.specs.AttributeValues.{BodySection, BodyStructure, Envelope, Flags, Rfc822, Rfc822Header, Rfc822Text, GmailLabels, ThreadId, attribute_seen, attribute_value, attribute_owned}
 use Rattle.imap_sections.specs.SectionValues.{path_value}
 use Rattle.std.specs.Option.{option_map}
-use Rattle.imap_body.specs.Changed.{changed_attribute, owned_attribute}
-use Rattle.imap_body.specs.declared.types.attributes.AttributeParts.{AttributeParts}
-use Rattle.imap_body.specs.declared.types.attributes.AttributeParts.TheVariants as parts
+use Rattle.imap_attributes.specs.Changed.{changed_attribute, owned_attribute}
+use Rattle.imap_attributes.specs.declared.attributes.AttributeParts.{AttributeParts}
+use Rattle.imap_attributes.specs.declared.attributes.AttributeParts.TheVariants as parts
 
 module _ {S B : Type 0} (f : S → Text) (g : B → Text) (h : Text → Text) where
   attribute_changed : (x : AttributeParts S B (Structure S B)) → attribute_seen (λ s. h (f s)) (λ b. h (g b)) (body_seen (λ s. h (f s)) (λ b. h (g b))) x ≡ changed_attribute h (attribute_seen f g (body_seen f g) x)

@@ -10,13 +10,12 @@ use Rattle.imap_grammar.specs.declared.at.span.Span.{Span}
 use Rattle.imap_sections.specs.SectionValues.{PathValue, path_value}
 use Rattle.imap_shapes.specs.Lent.{lent_ntext, lent_envelope, lent_body}
 use Rattle.imap_shapes.specs.EnvelopeValues.{EnvelopeValue, envelope_seen}
-use Rattle.imap_shapes.specs.BodyValues.{BodyValue, body_seen}
+use Rattle.imap_shapes.specs.BodyValues.{BodyValue, body_seen, boxed_seen}
 use Rattle.imap_shapes.specs.Spans.{Lookup, bytes_in, text_in, bytes_of, text_owned, bytes_owned}
-use Rattle.imap_structure.specs.Kept.{boxed_seen}
 use Rattle.imap_shapes.specs.declared.shapes.bodies.BodyStructure.{BodyStructure as Structure}
 use Rattle.imap_shapes.specs.declared.spans.SpannedText.{SpannedText}
-use Rattle.imap_body.specs.declared.types.attributes.AttributeParts.{AttributeParts}
-use Rattle.imap_body.specs.declared.types.attributes.AttributeParts.TheVariants as parts
+use Rattle.imap_attributes.specs.declared.attributes.AttributeParts.{AttributeParts}
+use Rattle.imap_attributes.specs.declared.attributes.AttributeParts.TheVariants as parts
 
 pub data AttributeValue : Type 0 where
   BodySection : Option PathValue → Option ℕ → Option Text → AttributeValue

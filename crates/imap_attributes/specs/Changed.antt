@@ -3,7 +3,7 @@ use Rattle.std.specs.Prelude.{map}
 use Rattle.imap_grammar.specs.Text.{Text}
 use Rattle.imap_shapes.specs.Changed.{changed_ntext, changed_envelope, changed_body}
 use Rattle.imap_shapes.specs.Spans.{owned}
-use Rattle.imap_body.specs.AttributeValues.{AttributeValue, BodySection, BodyStructure, Envelope, Flags, InternalDate, ModSeq, Rfc822, Rfc822Header, Rfc822Size, Rfc822Text, Uid, GmailLabels, GmailMsgId, GmailThrId, EmailId, ThreadId, Unknown}
+use Rattle.imap_attributes.specs.AttributeValues.{AttributeValue, BodySection, BodyStructure, Envelope, Flags, InternalDate, ModSeq, Rfc822, Rfc822Header, Rfc822Size, Rfc822Text, Uid, GmailLabels, GmailMsgId, GmailThrId, EmailId, ThreadId, Unknown}
 
 abbrev pub changed_attribute : (Text → Text) → AttributeValue → AttributeValue
 changed_attribute h (BodySection section index contents) = BodySection section index (changed_ntext h contents)

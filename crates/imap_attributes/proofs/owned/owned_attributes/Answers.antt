@@ -1,6 +1,6 @@
 use Rattle.std.proofs.Common.{refl}
 use Rattle.std.proofs.lemmas.List.{take_all}
-use Rattle.imap_body.proofs.owned.owned_attributes.Goals as goal
+use Rattle.imap_attributes.proofs.owned.owned_attributes.Goals as goal
 
 pub returns : goal.returns
 returns c = rw (c.loop-attribute.invariant, take_all _ _ c.loop-attribute-test.false) refl

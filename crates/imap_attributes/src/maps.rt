@@ -5,9 +5,9 @@ ghost use Rattle.std.specs.Option.{option_map};
 ghost use Rattle.imap_grammar.specs.Text.{Text};
 ghost use Rattle.imap_sections.specs.SectionValues.{path_value};
 ghost use Rattle.imap_shapes.specs.BodyValues.{BodyValue};
-ghost use Rattle.imap_body.specs.AttributeValues.{attribute_seen, BodyStructure};
+ghost use Rattle.imap_attributes.specs.AttributeValues.{attribute_seen, BodyStructure};
 
-use crate::types::attributes::AttributeParts as Parts;
+use crate::attributes::AttributeParts as Parts;
 use imap_sections::SectionPath;
 use imap_shapes::made;
 use imap_shapes::maps::change::{BodyChange, Change};
@@ -105,7 +105,7 @@ impl<S: Drop, B: Drop, Y: Drop> Parts<S, B, Y> {
 
 impl<S: Drop, B: Drop, Y: Drop> Parts<S, B, Box<Y>> {
     /// Puts this attribute behind the others, its body structure out of its box.
-    pub(crate) fn push_unboxed(self, others: &mut Vec<Parts<S, B, Y>>) -> Result<(), AllocError>
+    pub fn push_unboxed(self, others: &mut Vec<Parts<S, B, Y>>) -> Result<(), AllocError>
         ensures { (f : S → Text) (h : B → Text) (k : Y → BodyValue) → OnOk result (map (attribute_seen f h k) others.new.items ≡ map (attribute_seen f h k) others.old.items ++ attribute_seen f h (λ b. k b.value) self ∷ []) }
     {
         others.reserve(1)?;

@@ -1,5 +1,5 @@
-use Rattle.imap_body.proofs.Equality.{attribute_tells}
-use Rattle.imap_body.proofs.laws.attributes_equality.Goals as goal
+use Rattle.imap_attributes.proofs.Equality.{attribute_tells}
+use Rattle.imap_attributes.proofs.laws.attributes_equality.Goals as goal
 
 pub returns : goal.returns
 returns g c f h b t u w =

@@ -1,9 +1,9 @@
 //! The same attributes with all texts owned.
 
 ghost use Rattle.std.specs.Prelude.{◌≡◌, IfOk, map};
-ghost use Rattle.imap_body.specs.AttributeValues.{attribute_value, attribute_owned};
+ghost use Rattle.imap_attributes.specs.AttributeValues.{attribute_value, attribute_owned};
 
-use crate::types::attributes::AttributeValue;
+use crate::attributes::AttributeValue;
 use imap_shapes::maps::changes::Owning;
 use std::alloc::{AllocError, Global};
 

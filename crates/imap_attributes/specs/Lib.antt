@@ -1,0 +1,2 @@
+pub mod AttributeValues
+pub mod Changed

@@ -1,3 +1,0 @@
-//! The public types of attributes.
-
-pub mod attributes;
