@@ -7,7 +7,8 @@ use imap_shapes::shapes::envelopes::Envelope;
 use imap_shapes::spans::{Span, SpannedText};
 use std::borrow::{CowSlice, CowStr};
 
-/// An attribute of a message (RFC 3501, section 9: msg-att), generic in its texts, its byte strings and its body structure.
+/// An attribute of a message (RFC 3501, section 9: msg-att), generic in its texts, its byte strings and its body
+/// structure.
 #[derive(Debug, Drop, PartialEq, Eq)]
 pub enum AttributeParts<S, B, Y> {
     /// `BODY[..]`: a section of the message's body, from an index on where there is one.

@@ -104,7 +104,8 @@ impl<S: Drop, B: Drop, Y: Drop> Parts<S, B, Y> {
 }
 
 impl<S: Drop, B: Drop, Y: Drop> Parts<S, B, Box<Y>> {
-    /// Puts this attribute behind the others, its body structure out of its box.
+    /// Puts this attribute behind the others, its body structure out of its box. It takes memory where the list has no
+    /// room; `Err`: memory ran out, and nothing is said of the list.
     pub fn push_unboxed(self, others: &mut Vec<Parts<S, B, Y>>) -> Result<(), AllocError>
         ensures { (f : S → Text) (h : B → Text) (k : Y → BodyValue) → OnOk result (map (attribute_seen f h k) others.new.items ≡ map (attribute_seen f h k) others.old.items ++ attribute_seen f h (λ b. k b.value) self ∷ []) }
     {
@@ -155,8 +156,8 @@ fn push_body<S: Drop, B: Drop, Y, E: BodyChange<Y>>(
     Ok(())
 }
 
-// Puts an attribute that is a body structure, out of its box and as it is, after the others. Inlined, it copies the body
-// once less.
+// Puts an attribute that is a body structure, out of its box and as it is, after the others. Inlined, it copies the
+// body once less.
 #[inline(always)]
 fn push_structure<S: Drop, B: Drop, Y: Drop>(
     body: Box<Y>,

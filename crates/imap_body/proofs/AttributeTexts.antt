@@ -14,7 +14,7 @@ use Rattle.imap_grammar.specs.Spelling.{all_of, some_of}
 use Rattle.imap_grammar.proofs.Yields.{Yields, right_yields, named_yields}
 use Rattle.imap_grammar.proofs.Reading.{reads-gives, reads-opt, reads-after, reads-before, reads-seq, reads-follow, reads-test, reads-run1, after-on, first, apart-where, apart-alt, apart-gives, denials, denies-after, denies-behind, denies-tag, test-has, test-on, run1-has, tag-on, takes-absent, Begins, begun, ends_item-in, ◌⨾ʳ◌, ◌▹ʳ◌}
 use Rattle.imap_grammar.proofs.ReadingLists.{takes-text, takes-word, reads-nonempty_list_of}
-use Rattle.imap_grammar.proofs.Spelling.{◌⨾ˢ◌, ◌▹ˢ◌, ◌◃ˢ◌, ◌orˢ◌, spells-gives, spells-wider, spells-where, spells-names, spells-nothing, spells-word, spells-tag, spells-test, spells-run, spells-run0, spells-run1, spells-maybe_space, spells-nonempty_list_of}
+use Rattle.imap_grammar.proofs.Spelling.{◌⨾ˢ◌, ◌▹ˢ◌, ◌◃ˢ◌, ◌orˢ◌, spells-gives, spells-wider, spells-where, spells-names, spells-nothing, spells-word, spells-tag, spells-test, spells-utf8, spells-run0, spells-run1, spells-maybe_space, spells-nonempty_list_of}
 use Rattle.imap_bytes.proofs.ReadingTexts.{not_digit, reads-number, reads-number_64, reads-string_utf8, reads-nil_or, nil_or-none}
 use Rattle.imap_bytes.proofs.SpellingTexts.{spells-number, spells-number_64, spells-string_utf8, spells-nil_or, spells-nstring}
 use Rattle.imap_bytes.specs.Strings.{atom, string, nstring}
@@ -249,16 +249,11 @@ origin_spells = spells-gives Some (spells-tag "<" ▹ˢ spells-number ◃ˢ spel
 
 id_spells : Spells bracketed_id spells_id
 unfolding bracketed_id object_id id_bytes
-id_spells = spells-tag "(" ▹ˢ spells-gives as_text (spells-test is_utf8 (spells-run is_astring_char)) ◃ˢ spells-tag ")"
+id_spells = spells-tag "(" ▹ˢ spells-gives as_text (spells-utf8 is_astring_char) ◃ˢ spells-tag ")"
 
 name_spells : Spells atom (λ _. is_name)
 unfolding atom
-name_spells = record {
-  consumed = λ m v rest y.
-      let has = test-has is_utf8 (run1 is_atom_char) m v rest y in
-      let run = run1-has is_atom_char m v rest has.0 in
-      (v, run.0, ((run.1, run.3), has.1));
-}
+name_spells = spells-wider (spells-utf8 is_atom_char) (λ v c h. subst is_name (sym h.0) h.1)
 
 value_spells : Spells skipped_value (λ _. is_any_value)
 unfolding skipped_value skipped_brackets skipped_nstring skipped_bare

@@ -1,11 +1,10 @@
 -- The text of an attribute of a message: its word and its value.
-use Rattle.std.specs.Prelude.{ℕ, ◌⊎◌, List, [], Option, None, Some, IsTrue}
-use Rattle.std.specs.Str.{is_utf8}
-use Rattle.imap_grammar.specs.Classes.{is_atom_char}
+use Rattle.std.specs.Prelude.{ℕ, ◌⊎◌, List, [], Option, None, Some}
+use Rattle.imap_grammar.specs.Classes.{is_atom_char, is_astring_char}
 use Rattle.imap_grammar.specs.Text.{Bytes, Text}
 use Rattle.imap_grammar.specs.Pieces.{Pieces, ◌then◌, words, space, number_text, plain, literal_text, ntext, list_text}
 use Rattle.imap_grammar.specs.ReadBack.{Texts}
-use Rattle.imap_grammar.specs.Spelling.{this, exactly, in_any_case, ◌and◌, all_of, some_of, maybe, nil_or, spells_number, spells_nstring, spells_string_text, spells_some_list}
+use Rattle.imap_grammar.specs.Spelling.{this, exactly, in_any_case, ◌and◌, all_of, some_of, utf8_of, as_it_is, maybe, nil_or, spells_number, spells_nstring, spells_string_text, spells_some_list}
 use Rattle.imap_items.specs.FlagTexts.{canonical_flag_list, spells_flag_list}
 use Rattle.imap_items.specs.GmailTexts.{canonical_label_list, canonical_msgid, canonical_thrid, spells_label_list, spells_msgid, spells_thrid}
 use Rattle.imap_envelopes.specs.EnvelopeTexts.{canonical_envelope, behind_space, spells_bytes, spells_envelope}
@@ -59,11 +58,11 @@ spells_origin None = this []
 spells_origin (Some n) = exactly "<" and spells_number n and exactly ">"
 
 abbrev pub spells_id : Text → Texts
-spells_id id = exactly "(" and this id.bytes and exactly ")"
+spells_id id = exactly "(" and as_it_is (utf8_of is_astring_char) id.bytes and exactly ")"
 
 -- any name: atom-chars that are UTF-8
 abbrev pub is_name : Texts
-is_name c = some_of is_atom_char c × IsTrue (is_utf8 c)
+is_name = utf8_of is_atom_char
 
 -- any value: in brackets up to the first `)`, an nstring, or bytes other than SP and `)`; line ends may be among them
 abbrev pub is_any_value : Texts

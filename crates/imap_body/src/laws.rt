@@ -1,5 +1,5 @@
-//! Laws of the rules of this crate, of `imap_envelopes`, of `imap_structure` and of `imap_sections`, and of `==` of what
-//! they read, as contracts of functions that do nothing.
+//! Laws of the rules of this crate, of `imap_envelopes`, of `imap_structure` and of `imap_sections`, and of `==` of
+//! what they read, as contracts of functions that do nothing.
 
 ghost use Rattle.imap_grammar.specs.Text.{Text, text_of, lent_text};
 ghost use Rattle.imap_grammar.specs.Equality.{Tells};
@@ -147,7 +147,8 @@ fn spans_equality()
     attributes_equality::<SpannedText, Span, Box<Structure<SpannedText, Span>>>();
 }
 
-/// `==` tells whether two values say the same: texts by their bytes, whichever lie in the input. What is kept as positions it tells by these, field by field, whatever they name in a message.
+/// `==` tells whether two values say the same: texts by their bytes, whichever lie in the input. What is kept as
+/// positions it tells by these, field by field, whatever they name in a message.
 pub fn equality()
     ensures message_section { Tells ⟦<MessageSection as PartialEq>⟧.eq (λ x. x) }
     ensures section_path { Tells ⟦<SectionPath as PartialEq>⟧.eq path_value }

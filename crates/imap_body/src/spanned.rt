@@ -1,4 +1,5 @@
-//! Attributes of a message as positions in it: they keep no bytes, and tell their values of any message that has bytes in these places.
+//! Attributes of a message as positions in it: they keep no bytes, and tell their values of any message that has
+//! bytes in these places.
 
 ghost use Rattle.std.specs.Prelude.{◌≡◌, ◌≤◌, ◌+◌, ◌++◌, ◌∷◌, [], length, drop, map, All, IfOk, OnOk};
 ghost use Rattle.imap_grammar.specs.Positions.{AnswersAt, GivesAt, Ahead};
@@ -48,8 +49,8 @@ impl SpannedAttribute {
 }
 
 impl<'a> SpannedAttribute<CowStr<'a>, CowSlice<'a, u8>> {
-    /// Puts the attribute, which was read in m, after the others: what was kept of its strings is what they are. It takes
-    /// memory where the list has no room; `Err`: memory ran out.
+    /// Puts the attribute, which was read in m, after the others: what was kept of its strings is what they are. It
+    /// takes memory where the list has no room; `Err`: memory ran out.
     pub(crate) fn push_value(
         self,
         m: &[u8],
@@ -62,8 +63,8 @@ impl<'a> SpannedAttribute<CowStr<'a>, CowSlice<'a, u8>> {
     }
 }
 
-// Room in an empty list, where its first attribute ends at `end`: for one where no other follows, else for two. A value is
-// large, and most lists have one or two.
+// Room in an empty list, where its first attribute ends at `end`: for one where no other follows, else for two. A
+// value is large, and most lists have one or two.
 fn make_first_room(
     values: &mut Vec<AttributeValue<'_>>,
     m: &[u8],

@@ -1,6 +1,8 @@
 //! Readers that walk positions in one message. What they find of it is told by spans.
 //!
-//! Each reads m from p on as the reader of the same name reads a slice, and answers the position behind what it read in place of the rest. The condition of each is that p is at most m's length. Strings come as the span of their content, so that reading them takes no memory.
+//! Each reads m from p on as the reader of the same name reads a slice, and answers the position behind what it read
+//! in place of the rest; runs (`.._chars`) stand here alone. The condition of each is that p is at most m's length.
+//! Strings come as the span of their content, so that reading them takes no memory.
 
 pub mod numbers;
 pub mod sets;

@@ -1,7 +1,7 @@
 //! Readers of bytes.
 //!
-//! Each answers `Error` where its rule denies what stands there, whatever follows; `Incomplete` where more bytes are needed
-//! to tell; and `Failure` only where memory ran out.
+//! Each answers `Error` where its rule denies what stands there, whatever follows; `Incomplete` where more bytes are
+//! needed to tell; and `Failure` only where memory ran out.
 #![tactic(auto)]
 
 pub mod at;

@@ -41,8 +41,8 @@ impl<T> FetchCommand<T> {
 }
 
 impl FetchCommand<Empty> {
-    /// Asks for the message with this number (RFC 3501, section 6.4.5). It takes memory;
-    /// `Err`: memory ran out.
+    /// Asks for the message with this number, behind `uid_fetch` with this UID (RFC 3501, sections 6.4.5
+    /// and 6.4.8). It takes memory; `Err`: memory ran out.
     pub fn num(self, number: u32) -> Result<FetchCommand<Messages>, AllocError>
         ensures { IfOk result (λ command. (calls : List Call) → stage calls ≡ empty
             → self ≡ begun calls → command ≡ begun (call.num number ∷ calls)) }
@@ -52,8 +52,8 @@ impl FetchCommand<Empty> {
         Ok(FetchCommand::with_text(args))
     }
 
-    /// Asks for the messages from one number to another (RFC 3501, section 6.4.5). It takes memory;
-    /// `Err`: memory ran out.
+    /// Asks for the messages from one number to another, behind `uid_fetch` from one UID to another
+    /// (RFC 3501, sections 6.4.5 and 6.4.8). It takes memory; `Err`: memory ran out.
     pub fn range(self, range: RangeInclusive<u32>) -> Result<FetchCommand<Messages>, AllocError>
         ensures { IfOk result (λ command. (calls : List Call) → stage calls ≡ empty
             → self ≡ begun calls → command
@@ -64,8 +64,8 @@ impl FetchCommand<Empty> {
         Ok(FetchCommand::with_text(args))
     }
 
-    /// Asks for the messages from a number on (RFC 3501, section 6.4.5). It takes memory;
-    /// `Err`: memory ran out.
+    /// Asks for the messages from a number on, behind `uid_fetch` from a UID on (RFC 3501, sections 6.4.5
+    /// and 6.4.8). It takes memory; `Err`: memory ran out.
     pub fn range_from(self, range: RangeFrom<u32>) -> Result<FetchCommand<Messages>, AllocError>
         ensures { IfOk result (λ command. (calls : List Call) → stage calls ≡ empty
             → self ≡ begun calls → command ≡ begun (call.range_from range.start ∷ calls)) }

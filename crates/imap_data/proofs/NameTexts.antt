@@ -9,11 +9,11 @@ use Rattle.imap_grammar.specs.Text.{Bytes, lent_text}
 use Rattle.imap_grammar.specs.Tags.{same_letter}
 use Rattle.imap_grammar.specs.Pieces.{written, raw}
 use Rattle.imap_grammar.specs.ReadBack.{ReadsBack, Spells, Apart, Any, BeginsWith}
-use Rattle.imap_grammar.specs.Spelling.{nil_or, spells_quoted_text}
+use Rattle.imap_grammar.specs.Spelling.{exactly, ◌and◌, all_of, as_it_is, nil_or, spells_quoted_text}
 use Rattle.imap_grammar.proofs.Reading.{raw_on, test-has, first, reads-word, reads-gives, reads-test, apart_forms, denials, denies-after, denies-tag, names-denied, tag-denied, ◌⨾ʳ◌, ◌▹ʳ◌}
 use Rattle.imap_grammar.proofs.ReadingWords.{has_cases, differs-again}
 use Rattle.imap_grammar.proofs.ReadingLists.{takes-text, reads-list_of}
-use Rattle.imap_grammar.proofs.Spelling.{◌⨾ˢ◌, ◌▹ˢ◌, ◌orˢ◌, spells-gives, spells-test, spells-names, spells-word, spells-tag, spells-taken, spells-list_of}
+use Rattle.imap_grammar.proofs.Spelling.{◌⨾ˢ◌, ◌▹ˢ◌, ◌orˢ◌, spells-gives, spells-wider, spells-tested, spells-names, spells-word, spells-tag, spells-run0, spells-raw, spells-list_of}
 use Rattle.imap_bytes.specs.Strings.{quoted, nil}
 use Rattle.imap_bytes.specs.Texts.{quoted_utf8}
 use Rattle.imap_bytes.proofs.ReadingQuoted.{reads-quoted_utf8}
@@ -86,7 +86,12 @@ name_attribute_spells =
     orˢ spells-names Junk (spells-word "\\Junk")
     orˢ spells-names Sent (spells-word "\\Sent")
     orˢ spells-names Trash (spells-word "\\Trash")
-    orˢ spells-gives extension_of (spells-test is_utf8 spells-taken)
+    orˢ spells-gives extension_of
+    (spells-wider (spells-tested is_utf8 (spells-raw (spells-tag "\\" ⨾ˢ spells-run0 is_atom_char) backslash_first))
+    (λ v c h. (h.1.0, (h.1.1, h.0))))
+  where
+    backslash_first : (x : Bytes × Bytes) (c : Bytes) → (exactly "\\" and as_it_is (all_of is_atom_char) x.1) c → (exactly "\\" and all_of is_atom_char) c
+    backslash_first x c (a, b, cut, slash, same) = (a, b, cut, slash, subst (all_of is_atom_char) (sym same.0) same.1)
 
 delimiter_spells : Spells delimiter (nil_or spells_quoted_text)
 unfolding delimiter nil

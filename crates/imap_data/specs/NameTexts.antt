@@ -1,9 +1,11 @@
 -- The text of LIST data.
-use Rattle.std.specs.Prelude.{Option, None, Some}
+use Rattle.std.specs.Prelude.{Option, None, Some, IsTrue}
+use Rattle.std.specs.Str.{is_utf8}
+use Rattle.imap_grammar.specs.Classes.{is_atom_char}
 use Rattle.imap_grammar.specs.Text.{Text}
 use Rattle.imap_grammar.specs.Pieces.{Pieces, ◌then◌, words, space, plain, quoted_text, list_text}
 use Rattle.imap_grammar.specs.ReadBack.{Texts}
-use Rattle.imap_grammar.specs.Spelling.{this, exactly, in_any_case, ◌and◌, spells_quoted_text, spells_list, nil_or}
+use Rattle.imap_grammar.specs.Spelling.{exactly, in_any_case, ◌and◌, all_of, as_it_is, spells_quoted_text, spells_list, nil_or}
 use Rattle.imap_items.specs.MailboxTexts.{canonical_mailbox, spells_mailbox}
 use Rattle.imap_data.specs.Names.{NameAttributeValue, NoInferiors, NoSelect, Marked, Unmarked, All, Archive, Drafts, Flagged, Junk, Sent, Trash, Extension, ListValue}
 
@@ -29,6 +31,10 @@ canonical_delimiter (Some t) = quoted_text t
 abbrev pub canonical_list : ListValue → Pieces
 canonical_list l = list_text canonical_attribute l.name_attributes then space then canonical_delimiter l.delimiter then space then canonical_mailbox l.name
 
+-- a backslash and atom-chars, maybe none, in UTF-8
+abbrev pub is_extension : Texts
+is_extension c = (exactly "\\" and all_of is_atom_char) c × IsTrue (is_utf8 c)
+
 abbrev pub spells_attribute : NameAttributeValue → Texts
 spells_attribute NoInferiors = in_any_case "\\Noinferiors"
 spells_attribute NoSelect = in_any_case "\\Noselect"
@@ -41,7 +47,7 @@ spells_attribute Flagged = in_any_case "\\Flagged"
 spells_attribute Junk = in_any_case "\\Junk"
 spells_attribute Sent = in_any_case "\\Sent"
 spells_attribute Trash = in_any_case "\\Trash"
-spells_attribute (Extension t) = this t.bytes
+spells_attribute (Extension t) = as_it_is is_extension t.bytes
 
 abbrev pub spells_list_data : ListValue → Texts
 spells_list_data l = spells_list spells_attribute l.name_attributes and exactly " " and nil_or spells_quoted_text l.delimiter and exactly " " and spells_mailbox l.name

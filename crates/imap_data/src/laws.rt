@@ -36,7 +36,7 @@ ghost use Rattle.imap_grammar.specs.Text.{lent_text};
 ghost use Rattle.imap_grammar.specs.ReadBack.{SpellsAndReadsBack, Closes, EndsItem, as_is};
 ghost use Rattle.imap_items.specs.Capabilities.{lent_capability};
 ghost use Rattle.imap_items.specs.StatusTexts.{canonical_status, spells_status};
-ghost use Rattle.imap_items.specs.FlagTexts.{canonical_flag, spells_flag, canonical_flag_list, spells_flag_list};
+ghost use Rattle.imap_items.specs.FlagTexts.{canonical_flag, spells_flag, spells_flag_perm, canonical_flag_list, spells_flag_list};
 ghost use Rattle.imap_items.specs.GmailTexts.{canonical_label_list, spells_label_list, canonical_msgid, spells_msgid, canonical_thrid, spells_thrid};
 ghost use Rattle.imap_items.specs.CapabilityTexts.{canonical_capabilities, spells_capability_data, spells_enabled_data};
 ghost use Rattle.imap_items.specs.UidSetTexts.{canonical_uid_set, spells_uid_set};
@@ -146,13 +146,13 @@ pub fn hashing()
 
 /// What each rule takes spells the value that it yields. On the canonical text of a value that it yields, the rule
 /// yields that value again, with all texts borrowed. What follows the text is left whole: any bytes that begin with `)`
-/// or CR, and for statuses, response codes, flags and Gmail's items also with a space. Excepted is a text too long to be
-/// written as a literal.
+/// or CR, and for statuses, response codes, flags and Gmail's items also with a space. Excepted is a text too long to
+/// be written as a literal.
 #[tactic(auto, using(imap_items::proofs::StatusTexts::keeps_status, imap_items::proofs::FlagTexts::keeps_flag, imap_items::proofs::FlagTexts::keeps_flag_perm, imap_items::proofs::FlagTexts::keeps_flag_list, imap_items::proofs::GmailTexts::keeps_label_list, imap_items::proofs::GmailTexts::keeps_msgid, imap_items::proofs::GmailTexts::keeps_thrid, imap_items::proofs::CapabilityTexts::keeps_capability_data, imap_items::proofs::CapabilityTexts::keeps_enabled_data, imap_items::proofs::UidSetTexts::keeps_uid_set, imap_items::proofs::MailboxTexts::keeps_mailbox, crate::proofs::CodeTexts::keeps_response_code, crate::proofs::MailboxDataTexts::keeps_mailbox_datum, crate::proofs::MailboxDataTexts::keeps_list_or_lsub, imap_extensions::proofs::QuotaTexts::keeps_quota, imap_extensions::proofs::QuotaTexts::keeps_quota_root, imap_extensions::proofs::IdTexts::keeps_id, imap_extensions::proofs::VanishingTexts::keeps_vanished, crate::proofs::AnnotationTexts::keeps_solicited, crate::proofs::AnnotationTexts::keeps_unsolicited, imap_extensions::proofs::AclTexts::keeps_acl, imap_extensions::proofs::OptionalRights::keeps_list_rights, imap_extensions::proofs::AclTexts::keeps_my_rights))]
 pub fn read_back()
     ensures status { SpellsAndReadsBack statuses.status as_is canonical_status spells_status EndsItem }
     ensures flag { SpellsAndReadsBack flags.flag as_is canonical_flag spells_flag EndsItem }
-    ensures flag_perm { SpellsAndReadsBack flags.flag_perm as_is canonical_flag spells_flag EndsItem }
+    ensures flag_perm { SpellsAndReadsBack flags.flag_perm as_is canonical_flag spells_flag_perm EndsItem }
     ensures flag_list { SpellsAndReadsBack flags.flag_list (map lent_text) canonical_flag_list spells_flag_list EndsItem }
     ensures gmail_label_list { SpellsAndReadsBack gmail.gmail_label_list (map lent_text) canonical_label_list spells_label_list EndsItem }
     ensures gmail_msgid { SpellsAndReadsBack gmail.gmail_msgid as_is canonical_msgid spells_msgid EndsItem }

@@ -1,4 +1,5 @@
-//! Data of IMAP servers: response codes and mailbox data. The items of `imap_items` and the lines of `imap_extensions` are re-exported.
+//! Data of IMAP servers: response codes and mailbox data. The items of `imap_items` and the lines of
+//! `imap_extensions` are re-exported.
 #![tactic(auto)]
 
 pub mod laws;

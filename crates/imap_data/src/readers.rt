@@ -1,7 +1,7 @@
 //! Readers of data, each of the rule of its name.
 //!
-//! Each answers `Error` where its rule denies what stands there, whatever follows; `Incomplete` where more bytes are needed
-//! to tell; and `Failure` only where memory ran out.
+//! Each answers `Error` where its rule denies what stands there, whatever follows; `Incomplete` where more bytes are
+//! needed to tell; and `Failure` only where memory ran out.
 
 /// Reads the word in any case, then what the reader reads after it. It is `Ok` of what follows and of the
 /// reader's value in the variant; an error of either is returned from the function.

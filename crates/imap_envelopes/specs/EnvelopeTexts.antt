@@ -3,7 +3,7 @@ use Rattle.std.specs.Prelude.{List, Option, None, Some}
 use Rattle.imap_grammar.specs.Text.{Text}
 use Rattle.imap_grammar.specs.Pieces.{Pieces, ◌then◌, words, space, ntext, each}
 use Rattle.imap_grammar.specs.ReadBack.{Texts}
-use Rattle.imap_grammar.specs.Spelling.{exactly, ◌and◌, maybe, nil_or, each_of, spells_string}
+use Rattle.imap_grammar.specs.Spelling.{exactly, ◌and◌, maybe, nil_or, some_each_of, spells_string}
 use Rattle.imap_shapes.specs.EnvelopeValues.{AddressValue, EnvelopeValue}
 use Rattle.imap_envelopes.specs.Envelopes.{Addresses}
 
@@ -38,7 +38,7 @@ spells_address a =
     exactly "(" and spells_bytes a.name and behind_space (spells_bytes a.adl) and behind_space (spells_bytes a.mailbox) and behind_space (spells_bytes a.host) and exactly ")"
 
 abbrev pub spells_some_addresses : List AddressValue → Texts
-spells_some_addresses list = exactly "(" and each_of (λ a. spells_address a and maybe (exactly " ")) list and exactly ")"
+spells_some_addresses list = exactly "(" and some_each_of (λ a. spells_address a and maybe (exactly " ")) list and exactly ")"
 
 abbrev pub spells_addresses : Addresses → Texts
 spells_addresses = nil_or spells_some_addresses

@@ -9,7 +9,8 @@ use imap_shapes::spans::{Span, SpannedText};
 use std::alloc::{AllocError, Global};
 use std::borrow::{CowSlice, CowStr};
 
-/// What a reader keeps of the strings that it finds in a message, so that one reader serves for positions and for values.
+/// What a reader keeps of the strings that it finds in a message, so that one reader serves for positions and for
+/// values.
 pub trait Keep {
     /// What is kept of a byte string.
     type Bytes: Drop;

@@ -1,7 +1,7 @@
 //! Envelopes.
 //!
-//! Each answers `Error` where its rule denies what stands there, whatever follows; `Incomplete` where more bytes are needed
-//! to tell; and `Failure` only where memory ran out.
+//! Each answers `Error` where its rule denies what stands there, whatever follows; `Incomplete` where more bytes are
+//! needed to tell; and `Failure` only where memory ran out.
 
 ghost use Rattle.imap_grammar.specs.Answer.{Answers, Exactly, Gives};
 ghost use Rattle.imap_grammar.specs.Memory.{NeverFails};

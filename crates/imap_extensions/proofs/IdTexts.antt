@@ -14,11 +14,11 @@ use Rattle.imap_grammar.specs.Text.{Bytes, Text, as_text, lent_text}
 use Rattle.imap_grammar.specs.Tags.{same_letter, tag, blanks0, blanks1}
 use Rattle.imap_grammar.specs.Pieces.{Pieces, written, Fits, words, space, each, literal_of, ◌then◌}
 use Rattle.imap_grammar.specs.ReadBack.{ReadsBack, Spells, SpellsAndReadsBack, Any, BeginsWith, Closes}
-use Rattle.imap_grammar.specs.Spelling.{exactly, ◌and◌, blanks, some_blanks, with_between}
-use Rattle.imap_grammar.proofs.Yields.{Yields, both_yield, either_yields, named_yields, given_yields, made_yields, right_yields, left_yields, list_yields}
+use Rattle.imap_grammar.specs.Spelling.{exactly, ◌and◌, blanks, some_blanks, some_with_between}
+use Rattle.imap_grammar.proofs.Yields.{Yields, both_yield, either_yields, named_yields, given_yields, right_yields, left_yields, list_yields}
 use Rattle.imap_grammar.proofs.Reading.{first, written_on, fits-parts, reads-names, reads-after, reads-follow, takes-tag, apart-names, denies-gives, denies-after, denies-tag, denies-run1, after-on, before-on, ◌▹ʳ◌}
 use Rattle.imap_grammar.proofs.ReadingLists.{takes-word, takes-blanks}
-use Rattle.imap_grammar.proofs.Spelling.{◌⨾ˢ◌, ◌▹ˢ◌, ◌◃ˢ◌, ◌orˢ◌, spells-gives, spells-where, spells-names, spells-word, spells-tag, spells-list1, spells-blanks0, spells-blanks1}
+use Rattle.imap_grammar.proofs.Spelling.{◌⨾ˢ◌, ◌▹ˢ◌, ◌◃ˢ◌, ◌orˢ◌, spells-gives, spells-wider, spells-names, spells-word, spells-tag, spells-list1, spells-blanks0, spells-blanks1}
 use Rattle.imap_bytes.specs.Strings.{nil}
 use Rattle.imap_bytes.specs.Texts.{string_utf8, nstring_utf8}
 use Rattle.imap_bytes.proofs.ReadingTexts.{string_on, decoded_utf8, utf8_yields}
@@ -247,25 +247,13 @@ pair_spells : Spells id_pair spells_pair
 unfolding id_pair
 pair_spells = spells-string_utf8 ⨾ˢ spells-blanks1 ▹ˢ spells-nstring_utf8
 
-abbrev NotEmpty : List Pair → Type 0
-NotEmpty [] = ⊥
-NotEmpty (p ∷ ps) = Unit {0}
-
-lists_yield : Yields NotEmpty id_list
-unfolding id_list id_pairs
-lists_yield = right_yields (left_yields (made_yields (λ v. v.0 ∷ v.1) (λ v. tt)))
-
-list_spells : Spells id_list (λ ps. exactly "(" and with_between some_blanks spells_pair ps and blanks and exactly ")")
+list_spells : Spells id_list (λ ps. exactly "(" and some_with_between some_blanks spells_pair ps and blanks and exactly ")")
 unfolding id_list id_pairs
 list_spells = spells-tag "(" ▹ˢ spells-list1 spells-blanks1 pair_spells ◃ˢ (spells-blanks0 ⨾ˢ spells-tag ")")
 
 params_spell : Spells id_params spells_params
 unfolding id_params nil
-params_spell = spells-gives params_of (spells-where lists_yield list_spells listed) orˢ spells-names None (spells-word "NIL")
-  where
-    listed : (ps : List Pair) (c : Bytes) → NotEmpty ps → (exactly "(" and with_between some_blanks spells_pair ps and blanks and exactly ")") c → spells_params (params_of ps) c
-    listed [] c h s = absurd h
-    listed (p ∷ ps) c h s = (p, ps, refl, s)
+params_spell = spells-gives params_of (spells-wider list_spells (λ ps c h. (ps, refl, h))) orˢ spells-names None (spells-word "NIL")
 
 id_spells : Spells id spells_id
 unfolding id

@@ -4,7 +4,7 @@ use Rattle.std.specs.FinMap.{entries}
 use Rattle.imap_grammar.specs.Text.{Bytes, Text}
 use Rattle.imap_grammar.specs.Pieces.{Pieces, ◌then◌, words, space, lit, literal_text, list_text}
 use Rattle.imap_grammar.specs.ReadBack.{Texts}
-use Rattle.imap_grammar.specs.Spelling.{exactly, in_any_case, ◌and◌, blanks, some_blanks, with_between, spells_string_text, spells_ntext}
+use Rattle.imap_grammar.specs.Spelling.{exactly, in_any_case, ◌and◌, blanks, some_blanks, some_with_between, spells_string_text, spells_ntext}
 use Rattle.imap_extensions.specs.Ids.{IdValue, map_of_pairs}
 
 -- a field and its value
@@ -29,7 +29,7 @@ spells_pair (key, value) = spells_string_text key and some_blanks and spells_nte
 -- at least one pair, in any order: those without a value tell nothing, and the last of equal names wins
 abbrev pub spells_params : Option IdValue → Texts
 spells_params None = in_any_case "NIL"
-spells_params (Some m) = λ c. (p : Text × Option Text) × (ps : List (Text × Option Text)) × (map_of_pairs (p ∷ ps) ≡ m) × (exactly "(" and with_between some_blanks spells_pair (p ∷ ps) and blanks and exactly ")") c
+spells_params (Some m) = λ c. (ps : List (Text × Option Text)) × (map_of_pairs ps ≡ m) × (exactly "(" and some_with_between some_blanks spells_pair ps and blanks and exactly ")") c
 
 abbrev pub spells_id : Option IdValue → Texts
 spells_id params = in_any_case "ID" and some_blanks and spells_params params

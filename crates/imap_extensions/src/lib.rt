@@ -1,4 +1,5 @@
-//! The lines of extensions: QUOTA and QUOTAROOT, ID, ACL with LISTRIGHTS and MYRIGHTS, and VANISHED; and the parts of METADATA.
+//! The lines of extensions: QUOTA and QUOTAROOT, ID, ACL with LISTRIGHTS and MYRIGHTS, and VANISHED; and the parts of
+//! METADATA.
 #![tactic(auto)]
 
 pub mod laws;

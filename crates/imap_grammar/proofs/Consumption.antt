@@ -60,7 +60,3 @@ takes (counted a) m v rest e h = omega (arith, takes a m (length v) h.0 e h.1, a
 
 pub less : {V : Type 0} (r : Rule V) (m rest : List ℕ) (v : V) → consumes r ≡ true → step r m ≡ Ok (rest, v) → length rest < length m
 less r m rest v c e = takes r m v rest c ((agrees r m).yielded v rest e)
-
--- the rest of any rule is not longer
-pub not_more : {V : Type 0} (r : Rule V) (m rest : List ℕ) (v : V) → step r m ≡ Ok (rest, v) → length rest ≤ length m
-not_more r m rest v e = let p = shrinks r m v rest ((agrees r m).yielded v rest e) in not_longer m p.0 rest p.1

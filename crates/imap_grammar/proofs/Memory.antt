@@ -195,9 +195,6 @@ second kind a b m mid x result front h = λ v rest is k.
     let first : v.0 ≡ x = sym (ap (λ p. p.1) same) in
     h v.1 rest (subst (λ n. step b n ≡ Ok (rest, v.1)) there ((agrees b y.0).yields v.1 rest y.2)) (subst (λ w. kind (w, v.1)) first k)
 
-pub otherwise_denied : {A V : Type 0} (kind : V → Type 0) (a b : Rule V) (m : List ℕ) (result : Returned A) → step a m ≡ Err Error → SucceedsFor kind b m result → SucceedsFor kind (a or b) m result
-otherwise_denied kind a b m result d h = λ v rest is k. h v rest (rw d at is) k
-
 -- a reader that gives the rule's answer, and fails only where no such value is yielded
 pub fails_apart : {A V : Type 0} (P : Type 0) (kind : V → Type 0) (view : A → V) (r : Rule V) (m : List ℕ) (result : Returned A) → Gives view result (step r m) → FailsOnlyIf P result → ((v : V) (rest : List ℕ) → step r m ≡ Ok (rest, v) → kind v → ¬ P) → SucceedsFor kind r m result
 fails_apart P kind view r m (Ok x) g f apart_ = λ v rest is k. refl

@@ -1,6 +1,7 @@
 -- What each form takes spells its value.
 use Rattle.std.proofs.Common.{◌≡◌, ℕ, ◌⊎◌, Bool, true, ◌==◌, List, [], ◌∷◌, ◌++◌, length, None, Some, sym, ◌∙◌, ap, subst, refl, inl, inr, append_assoc, codes}
 use Prim.Native.String.{String}
+use Rattle.std.specs.Str.{is_utf8}
 use Rattle.std.proofs.lemmas.List.{append_cancel_right}
 use Rattle.imap_grammar.specs.Meaning.{Cuts}
 use Rattle.imap_grammar.specs.Rule.{Rule, tag_by, run0, run1, gives, test, raw, nothing, never, opt, many, counted, ◌⨾◌, ◌▹◌, ◌◃◌, ◌or◌, some1, list1, list0, meaning}
@@ -9,7 +10,7 @@ use Rattle.imap_grammar.specs.Classes.{is_blank}
 use Rattle.imap_grammar.specs.Tags.{tag, word, maybe_space, blanks0, blanks1, crlf}
 use Rattle.imap_grammar.specs.Lists.{list_of, nonempty_list_of}
 use Rattle.imap_grammar.specs.ReadBack.{Texts, Spells}
-use Rattle.imap_grammar.specs.Spelling.{this, exactly, in_any_case, ◌and◌, all_of, some_of, as_it_is, maybe, blanks, some_blanks, each_of, with_between, spells_list, spells_some_list}
+use Rattle.imap_grammar.specs.Spelling.{this, exactly, in_any_case, ◌and◌, all_of, some_of, utf8_of, as_it_is, maybe, blanks, some_blanks, each_of, some_each_of, some_with_between, with_between, spells_list, spells_some_list}
 use Rattle.imap_grammar.proofs.Yields.{Yields}
 use Rattle.imap_grammar.proofs.Reading.{test-has}
 use Rattle.imap_grammar.proofs.ReadingWords.{exact}
@@ -129,8 +130,8 @@ pub spells-taken : {A : Type 0} {a : Rule A} → Spells (raw a) this
 unfolding meaning
 spells-taken = record { consumed = λ m v rest y. (v, y.2, refl) }
 
-pub spells-run : (p : ℕ → Bool) → Spells (run1 p) this
-spells-run p = spells-wider (spells-run1 p) (λ v c h. h.0)
+pub spells-utf8 : (p : ℕ → Bool) → Spells (test is_utf8 (run1 p)) (as_it_is (utf8_of p))
+spells-utf8 p = spells-wider (spells-tested is_utf8 (spells-run1 p)) (λ v c h. (h.1.0, (h.1.1, h.0)))
 
 pub spells-raw : {A : Type 0} {a : Rule A} {S : A → Texts} {P : Texts} → Spells a S → ((x : A) (c : Bytes) → S x c → P c) → Spells (raw a) (as_it_is P)
 unfolding meaning
@@ -161,15 +162,19 @@ module _ {A : Type 0} {a : Rule A} {S : A → Texts} where
   unfolding meaning
   spells-many h = record { consumed = λ m v rest y. cuts h v m rest y.0 }
 
+pub some-between : {A : Type 0} (P : Texts) (S : A → Texts) (vs : List A) (c : Bytes) → some_with_between P S vs c → with_between P S vs c
+some-between P S [] c h = absurd h
+some-between P S (v ∷ vs) c h = h
+
 module _ {A : Type 0} {a : Rule A} {S : A → Texts} where
-  pub spells-some1 : Spells a S → Spells (some1 a) (each_of S)
+  pub spells-some1 : Spells a S → Spells (some1 a) (some_each_of S)
   spells-some1 h = spells-gives _ (h ⨾ˢ spells-many h)
 
-  pub spells-list1 : {P : Texts} {K : Type 0} {s : Rule K} → Spells s (λ _. P) → Spells a S → Spells (list1 s a) (with_between P S)
+  pub spells-list1 : {P : Texts} {K : Type 0} {s : Rule K} → Spells s (λ _. P) → Spells a S → Spells (list1 s a) (some_with_between P S)
   spells-list1 k h = spells-gives _ (h ⨾ˢ spells-many (k ▹ˢ h))
 
   pub spells-list0 : {P : Texts} {K : Type 0} {s : Rule K} → Spells s (λ _. P) → Spells a S → Spells (list0 s a) (with_between P S)
-  spells-list0 k h = spells-list1 k h orˢ spells-nothing [] refl
+  spells-list0 k h = spells-wider (spells-list1 k h) (some-between _ _) orˢ spells-nothing [] refl
 
 -- maybe a rule whose value is not looked at
 pub spells-maybe : {A : Type 0} {a : Rule A} {P : Texts} → Spells a (λ _. P) → Spells (opt a) (λ _. maybe P)

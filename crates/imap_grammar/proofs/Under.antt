@@ -148,9 +148,6 @@ kept_ends v b says = record { cut = λ m k x h. shrinks b m (v x) k.now ((agrees
 pub shorter_ends : {O V : Type 0} {answers : List ℕ → Returned O → Type 0} (v : O → V) (b : Rule V) → Keeps answers v b → consumes b ≡ true → Shortens answers × Ends answers
 shorter_ends v b says c = (record { shorter = λ m k x h. less b m k.now (v x) c (says m (Ok (k, x)) h) }, kept_ends v b says)
 
-pub exactly_kept : {O V : Type 0} {answers : List ℕ → Returned O → Type 0} (v : O → V) (b : Rule V) → KeepsExactly answers v b → Keeps answers v b
-exactly_kept v b says m r h = exactly_gives v r (step b m) (says m r h)
-
 -- a call's clause, at the bytes that the call was shown
 pub kept_at : {O V : Type 0} (v : O → V) (b : Rule V) (r : Returned O) {m n : List ℕ} → m ≡ n → Gives v r (step b m) → Gives v r (step b n)
 kept_at v b r e h = subst (λ j. Gives v r (step b j)) e h

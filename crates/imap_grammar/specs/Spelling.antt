@@ -3,6 +3,7 @@ use Rattle.std.specs.Prelude.{◌≡◌, ℕ, ◌<◌, ◌⊎◌, Bool, false, L
 use Prim.Native.String.{String}
 use Rattle.std.specs.List.{list_all}
 use Rattle.std.specs.Str.Parse.{digits_value}
+use Rattle.std.specs.Str.{is_utf8}
 use Rattle.std.specs.Str.Lossy.{utf8_lossy}
 use Rattle.imap_grammar.specs.Ascii.{line_feed, carriage_return}
 use Rattle.imap_grammar.specs.Classes.{is_digit, is_blank, is_quoted_char, is_astring_char, is_text_char}
@@ -34,6 +35,10 @@ all_of p c = IsTrue (list_all p c)
 abbrev pub some_of : (ℕ → Bool) → Texts
 some_of p c = all_of p c × (0 < length c)
 
+-- at least one byte of a class, in UTF-8
+abbrev pub utf8_of : (ℕ → Bool) → Texts
+utf8_of p c = some_of p c × IsTrue (is_utf8 c)
+
 -- these bytes, which P spells
 abbrev pub as_it_is : Texts → Bytes → Texts
 as_it_is P b c = (c ≡ b) × P b
@@ -59,21 +64,31 @@ abbrev pub nil_or : {A : Type 0} → (A → Texts) → Option A → Texts
 nil_or P None = in_any_case "NIL"
 nil_or P (Some x) = P x
 
--- each in turn; with a text between; in brackets by one space
+-- each in turn: maybe none, and at least one
 abbrev pub each_of : {A : Type 0} → (A → Texts) → List A → Texts
 each_of P [] = this []
 each_of P (x ∷ xs) = P x and each_of P xs
 
+abbrev pub some_each_of : {A : Type 0} → (A → Texts) → List A → Texts
+some_each_of P [] = λ c. ⊥
+some_each_of P (x ∷ xs) = P x and each_of P xs
+
+-- with a text between: at least one, and maybe none
+abbrev pub some_with_between : {A : Type 0} → Texts → (A → Texts) → List A → Texts
+some_with_between S P [] = λ c. ⊥
+some_with_between S P (x ∷ xs) = P x and each_of (λ y. S and P y) xs
+
 abbrev pub with_between : {A : Type 0} → Texts → (A → Texts) → List A → Texts
 with_between S P [] = this []
-with_between S P (x ∷ xs) = P x and each_of (λ y. S and P y) xs
+with_between S P (x ∷ xs) = some_with_between S P (x ∷ xs)
 
+-- in brackets, by one space
 abbrev pub spells_list : {A : Type 0} → (A → Texts) → List A → Texts
 spells_list P xs = exactly "(" and with_between (exactly " ") P xs and maybe (exactly " ") and exactly ")"
 
 -- the same, at least one, and blanks before the bracket
 abbrev pub spells_some_list : {A : Type 0} → (A → Texts) → List A → Texts
-spells_some_list P xs = exactly "(" and with_between (exactly " ") P xs and blanks and exactly ")"
+spells_some_list P xs = exactly "(" and some_with_between (exactly " ") P xs and blanks and exactly ")"
 
 -- ---- the values of this crate's rules
 
@@ -129,4 +144,4 @@ abbrev pub spells_range : Range → Texts
 spells_range r c = (r.spent ≡ false) × (spells_ends r.start r.end c ⊎ ((r.start ≡ r.end) × spells_number r.start c))
 
 abbrev pub spells_ranges : List Range → Texts
-spells_ranges = with_between (exactly ",") spells_range
+spells_ranges = some_with_between (exactly ",") spells_range

@@ -1,4 +1,5 @@
-//! The classes of bytes (RFC 3501, section 9). Each is told by a table that is proved equal to its definition; none takes memory.
+//! The classes of bytes. Those of RFC 3501, section 9, are told by tables that are proved equal to their definitions;
+//! none takes memory.
 
 ghost use Rattle.std.specs.Prelude.{◌≡◌};
 ghost use Rattle.imap_grammar.specs.Classes as classes;
@@ -122,7 +123,7 @@ pub fn is_char(c: u8) -> bool
     CHAR[c as usize]
 }
 
-/// A text-char: any byte but 0, CR and LF (RFC 3501, section 9: TEXT-CHAR). No memory.
+/// A text-char: any byte but 0, CR and LF (RFC 3501, section 9: TEXT-CHAR, which leaves out bytes from 128). No memory.
 pub fn is_text_char(c: u8) -> bool
     ensures { result ≡ classes.is_text_char c }
 {
@@ -173,8 +174,8 @@ pub fn is_astring_char(c: u8) -> bool
     ASTRING_CHAR[c as usize]
 }
 
-/// A quoted-char: a text-char that is no quoted-special (RFC 3501, section 9: QUOTED-CHAR, its single bytes). No
-/// memory.
+/// A quoted-char: a text-char that is no quoted-special (RFC 3501, section 9: QUOTED-CHAR, its single bytes; bytes from
+/// 128, too). No memory.
 pub fn is_quoted_char(c: u8) -> bool
     ensures { result ≡ classes.is_quoted_char c }
 {

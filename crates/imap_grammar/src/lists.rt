@@ -57,8 +57,8 @@ fn read_at<'a, O: Drop, F: Fn(&'a [u8]) -> IResult<&'a [u8], O>>(
 
 /// What f reads, and again behind each separator: one or more.
 ///
-/// It ends before a separator behind which f denies. f's other faults go through. f has to consume at least a byte, and
-/// its rest has to be an end of its input. It takes memory for the list.
+/// It ends before a separator behind which f denies. `Error` where f denies at once; f's other faults go through. f has
+/// to consume at least a byte, and its rest has to be an end of its input. It takes memory for the list.
 pub fn separated<'a, O: Drop, F: Fn(&'a [u8]) -> IResult<&'a [u8], O>>(
     alloc: Global,
     between: Separator,
@@ -134,8 +134,8 @@ pub fn maybe_separated<'a, O: Drop, F: Fn(&'a [u8]) -> IResult<&'a [u8], O>>(
 
 /// A list in parentheses of zero or more: what f reads, with one space between, and maybe a space before the `)`.
 ///
-/// f has to consume at least a byte, and its rest has to be an end of its input. Its `Incomplete` and `Failure` go
-/// through. It takes memory for the list.
+/// `Error` where no `(` stands, or the list isn't closed where f denies. f has to consume at least a byte, and its rest
+/// has to be an end of its input. Its `Incomplete` and `Failure` go through. It takes memory for the list.
 pub fn parenthesized_list<'a, O: Drop, F: Fn(&'a [u8]) -> IResult<&'a [u8], O>>(
     alloc: Global,
     f: F,
@@ -160,8 +160,9 @@ pub fn parenthesized_list<'a, O: Drop, F: Fn(&'a [u8]) -> IResult<&'a [u8], O>>(
 /// A list in parentheses of one or more: what f reads, with one space between, and maybe spaces and tabs before the
 /// `)`.
 ///
-/// f has to consume at least a byte, and its rest has to be an end of its input. Its `Incomplete` and `Failure` go
-/// through. It takes memory for the list.
+/// `Error` where no `(` stands, f denies at once, or the list isn't closed where f denies. f has to consume at least a
+/// byte, and its rest has to be an end of its input. Its `Incomplete` and `Failure` go through. It takes memory for the
+/// list.
 pub fn parenthesized_nonempty_list<'a, O: Drop, F: Fn(&'a [u8]) -> IResult<&'a [u8], O>>(
     alloc: Global,
     f: F,
@@ -183,7 +184,8 @@ pub fn parenthesized_nonempty_list<'a, O: Drop, F: Fn(&'a [u8]) -> IResult<&'a [
     Ok((rest(i, q), items))
 }
 
-/// What f reads, in parentheses. It takes no memory of its own; f's `Incomplete` and `Failure` go through.
+/// What f reads, in parentheses; `Error` where one is missing or f denies. It takes no memory of its own; f's
+/// `Incomplete` and `Failure` go through.
 ///
 /// f's rest has to be an end of its input.
 pub fn paren_delimited<'a, O: Drop, F: Fn(&'a [u8]) -> IResult<&'a [u8], O>>(

@@ -89,7 +89,8 @@ pub fn maybe_space(i: &[u8]) -> IResult<&[u8], Option<&[u8]>>
 
 /// The run of a class in front: the bytes before `end`, where the first byte outside the class stands. No memory.
 ///
-/// `None`: no such byte is there yet, so the answer is `Incomplete`. `end`, where there is one, must be below i's length.
+/// `None`: no such byte is there yet, so the answer is `Incomplete`. `end`, where there is one, must be below i's
+/// length.
 pub fn cut0(end: Option<usize>, i: &[u8]) -> IResult<&[u8], &[u8]>
     requires { ForSome end (λ n. n < length i.now) }
     ensures steps { (class : ℕ → Bool) → end ≡ position (outside class) i.now → Exactly (λ x. x.now) result (step (run0 class) i.now) }
@@ -101,8 +102,8 @@ pub fn cut0(end: Option<usize>, i: &[u8]) -> IResult<&[u8], &[u8]>
 /// The run of a class in front, at least one byte: the bytes before `end`, where the first byte outside the class
 /// stands. No memory.
 ///
-/// An `end` of 0 is `Error`. `None`: no such byte is there yet, so the answer is `Incomplete`. `end`, where there is one,
-/// must be below i's length.
+/// An `end` of 0 is `Error`. `None`: no such byte is there yet, so the answer is `Incomplete`. `end`, where there is
+/// one, must be below i's length.
 pub fn cut1(end: Option<usize>, i: &[u8]) -> IResult<&[u8], &[u8]>
     requires { ForSome end (λ n. n < length i.now) }
     ensures steps { (class : ℕ → Bool) → end ≡ position (outside class) i.now → Exactly (λ x. x.now) result (step (run1 class) i.now) }

@@ -9,9 +9,9 @@ use std::alloc::{AllocError, Global};
 use std::borrow::CowStr;
 use std::str;
 
-// The text of bytes that are not UTF-8. A call of its own, so that `decode`, which is inlined, stays short; and it answers
-// a `String`, since of a function with a loop the compiler doesn't see that it writes its whole answer, and callers would
-// clear the room for a larger one.
+// The text of bytes that are not UTF-8. A call of its own, so that `decode`, which is inlined, stays short; and it
+// answers a `String`, since of a function with a loop the compiler doesn't see that it writes its whole answer, and
+// callers would clear the room for a larger one.
 #[cold]
 #[inline(never)]
 fn lossy(alloc: Global, bytes: &[u8]) -> Result<String, AllocError>

@@ -10,18 +10,16 @@ use Rattle.imap_grammar.specs.Text.{Bytes}
 use Rattle.imap_grammar.specs.Tags.{word, names, sp, same_letter}
 use Rattle.imap_grammar.specs.Pieces.{written, words, ◌then◌}
 use Rattle.imap_grammar.specs.ReadBack.{ReadsBack, Spells, SpellsAndReadsBack, Apart, BeginsWith, Closes}
-use Rattle.imap_grammar.specs.Spelling.{this}
 use Rattle.imap_grammar.proofs.Yields.{Yields, right_yields, many_yield, made_yields}
 use Rattle.imap_grammar.proofs.Reading.{raw_on, run1-has, test-has, denies-after, denies-tag, reads-gives, reads-test, reads-word, reads-many, reads-where, first, apart-alt, apart_forms, names-denied, tag-denied, takes-tag, closes-in, ◌▹ʳ◌}
 use Rattle.imap_grammar.proofs.ReadingWords.{differs-again, word_in_class, same_run}
 use Rattle.imap_grammar.proofs.ReadingLists.{takes-text, takes-word}
-use Rattle.imap_grammar.proofs.Spelling.{◌▹ˢ◌, ◌orˢ◌, spells-gives, spells-test, spells-tested, spells-names, spells-word, spells-tag, spells-run, spells-many}
+use Rattle.imap_grammar.proofs.Spelling.{◌▹ˢ◌, ◌orˢ◌, spells-gives, spells-tested, spells-names, spells-word, spells-tag, spells-utf8, spells-many}
 use Rattle.imap_bytes.specs.Strings.{atom}
 use Rattle.imap_bytes.proofs.LossyTwice.{all-append}
 use Rattle.imap_bytes.proofs.ReadingSets.{reads-atom}
-use Rattle.std.specs.Str.{is_utf8}
 use Rattle.imap_items.specs.Capabilities.{CapabilityValue, Imap4rev1, Auth, Atom, lent_capability, auth_of, atom_of, auth, name, capability, is_revision, spaced_capability, spaced_capabilities, capability_data, spaced_name, spaced_names, enabled_data}
-use Rattle.imap_items.specs.CapabilityTexts.{canonical_capability, canonical_each, canonical_capabilities, spells_capability, spells_capability_data, spells_enabled_data}
+use Rattle.imap_items.specs.CapabilityTexts.{canonical_capability, canonical_each, canonical_capabilities, spells_atom, spells_capability, spells_capability_data, spells_enabled_data}
 
 abbrev pub AtomEnds : Bytes → Type 0
 AtomEnds = BeginsWith (outside is_atom_char)
@@ -139,9 +137,9 @@ reads_enabled_data = reads-where enabled_yields enabled_words (λ cs e. ap (λ b
 
 -- ---- spelling
 
-atom_spells : Spells atom this
+atom_spells : Spells atom spells_atom
 unfolding atom
-atom_spells = spells-test is_utf8 (spells-run is_atom_char)
+atom_spells = spells-utf8 is_atom_char
 
 pub capability_spells : Spells capability spells_capability
 unfolding capability

@@ -15,9 +15,9 @@ use Rattle.imap_grammar.proofs.Reading.{raw_on, test-has, test-on, run1-has, fir
 use Rattle.imap_grammar.proofs.ReadingWords.{exact, apart_byte, run-apart}
 use Rattle.imap_grammar.proofs.ReadingLists.{reads-list_of}
 use Rattle.imap_grammar.proofs.Yields.{Yields}
-use Rattle.imap_grammar.proofs.Spelling.{◌orˢ◌, spells-gives, spells-test, spells-names, spells-bytes, spells-taken, spells-run, spells-list_of}
+use Rattle.imap_grammar.proofs.Spelling.{◌orˢ◌, spells-gives, spells-wider, spells-test, spells-where, spells-names, spells-bytes, spells-taken, spells-utf8, spells-list_of}
 use Rattle.imap_items.specs.Flags.{backslashed, backslashed_text, keyword, flag, flag_perm, flag_text, flag_list}
-use Rattle.imap_items.specs.FlagTexts.{canonical_flag, canonical_flag_list, spells_flag, spells_flag_list, is_flag_word, is_flag}
+use Rattle.imap_items.specs.FlagTexts.{canonical_flag, canonical_flag_list, spells_flag, spells_flag_perm, spells_flag_list, is_flag_word, is_flag}
 
 -- ---- a backslash and atom-chars
 
@@ -128,11 +128,15 @@ reads_flag_list = reads-list_of reads_flag_text (λ t. refl) (λ t. refl) (λ t.
 
 pub flag_spells : Spells flag spells_flag
 unfolding flag backslashed_text backslashed keyword
-flag_spells = spells-test is_utf8 spells-taken orˢ spells-test is_utf8 (spells-run is_astring_char)
+flag_spells =
+    spells-where flags_yield
+    (spells-test is_utf8 spells-taken orˢ spells-wider (spells-utf8 is_astring_char) (λ v c h. h.0)) (λ v c is h. (is, h))
 
-pub flag_perm_spells : Spells flag_perm spells_flag
+pub flag_perm_spells : Spells flag_perm spells_flag_perm
 unfolding flag_perm
-flag_perm_spells = spells-names (codes "\\*") (spells-bytes (codes "\\*")) orˢ flag_spells
+flag_perm_spells =
+    spells-names (codes "\\*") (spells-wider (spells-bytes (codes "\\*")) (λ v c h. inl (refl, h)))
+    orˢ spells-wider flag_spells (λ v c h. inr h)
 
 pub flag_list_spells : Spells flag_list spells_flag_list
 unfolding flag_list flag_text
@@ -141,7 +145,7 @@ flag_list_spells = spells-list_of (spells-gives as_text flag_perm_spells)
 pub keeps_flag : SpellsAndReadsBack flag as_is canonical_flag spells_flag EndsItem
 keeps_flag = record { spelled = flag_spells; back = reads_flag }
 
-pub keeps_flag_perm : SpellsAndReadsBack flag_perm as_is canonical_flag spells_flag EndsItem
+pub keeps_flag_perm : SpellsAndReadsBack flag_perm as_is canonical_flag spells_flag_perm EndsItem
 keeps_flag_perm = record { spelled = flag_perm_spells; back = reads_flag_perm }
 
 pub keeps_flag_list : SpellsAndReadsBack flag_list (map lent_text) canonical_flag_list spells_flag_list EndsItem

@@ -8,7 +8,7 @@ use Rattle.imap_grammar.specs.Pieces.{written, plain, quoted_text}
 use Rattle.imap_grammar.specs.ReadBack.{ReadsBack, Spells, SpellsAndReadsBack, Any, EndsItem, as_is}
 use Rattle.imap_grammar.proofs.Reading.{raw_on, reads-follow, denials, ends_item-in, ◌▹ʳ◌}
 use Rattle.imap_grammar.proofs.ReadingLists.{takes-word, reads-list_of}
-use Rattle.imap_grammar.proofs.Spelling.{◌▹ˢ◌, ◌orˢ◌, spells-gives, spells-wider, spells-where, spells-word, spells-list_of}
+use Rattle.imap_grammar.proofs.Spelling.{◌▹ˢ◌, ◌orˢ◌, spells-gives, spells-wider, spells-word, spells-list_of}
 use Rattle.imap_bytes.specs.Strings.{quoted}
 use Rattle.imap_bytes.specs.Texts.{quoted_utf8}
 use Rattle.imap_bytes.proofs.ReadingTexts.{not_digit, reads-number_64}
@@ -41,7 +41,7 @@ reads_label_list = takes-word "X-GM-LABELS " "X-GM-LABELS " refl ▹ʳ reads-lis
 
 label_spells : Spells gmail_label spells_label
 unfolding gmail_label
-label_spells = spells-gives as_text (spells-where flags_yield flag_spells (λ v c is h. inl (is, h))) orˢ spells-wider spells-quoted_utf8 (λ v c h. inr h)
+label_spells = spells-gives as_text (spells-wider flag_spells (λ v c h. inl h)) orˢ spells-wider spells-quoted_utf8 (λ v c h. inr h)
 
 label_list_spells : Spells gmail_label_list spells_label_list
 unfolding gmail_label_list gmail_labels

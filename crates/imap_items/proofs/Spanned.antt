@@ -1,5 +1,5 @@
 -- What spans name: of a form's bytes, of a word, of flags.
-use Rattle.std.proofs.Common.{◌≡◌, ℕ, true, ◌-◌, ◌≤◌, ◌<◌, [], ◌∷◌, ◌++◌, length, take, drop, codes, Ok, refl, sym, ◌∙◌, ap, ap₂, arith}
+use Rattle.std.proofs.Common.{◌≡◌, ℕ, true, ◌-◌, ◌≤◌, ◌<◌, [], ◌∷◌, ◌++◌, length, take, drop, codes, Ok, inl, inr, refl, sym, ◌∙◌, ap, ap₂, arith}
 use Rattle.std.proofs.lemmas.Bool.{and_parts}
 use Rattle.std.proofs.Math.Seq.{take-append_seam}
 use Rattle.std.proofs.lemmas.List.{length-append, length-drop}
@@ -14,9 +14,10 @@ use Rattle.imap_grammar.specs.Rule.{Rule, raw, gives}
 use Rattle.imap_grammar.specs.Step.{Step, step}
 use Rattle.imap_grammar.specs.Text.{Bytes, as_text, decoded}
 use Rattle.imap_grammar.proofs.Agreement.{agrees}
+use Rattle.imap_grammar.proofs.Spelling.{spells-wider}
 use Rattle.imap_grammar.proofs.Yields.{Yields, either_yields, named_yields}
 use Rattle.imap_items.specs.Flags.{flag, flag_perm}
-use Rattle.imap_items.specs.FlagTexts.{is_flag_word}
+use Rattle.imap_items.specs.FlagTexts.{is_flag_word, spells_flag_perm}
 use Rattle.imap_items.proofs.FlagTexts.{flag-is, flag_spells, flag_perm_spells}
 
 read : {V : Type 0} → Bytes → V → Step V
@@ -60,7 +61,11 @@ there a m p q v utf8 taken le within is =
     utf8_decoded a (drop p m) (drop q m) v utf8 is ∙ ap (λ b. read (drop q m) (decoded b)) same
 
 pub flag_there : (m : Bytes) (p q : ℕ) (v : Bytes) → p ≤ q → q ≤ length m → step flag (drop p m) ≡ Ok (drop q m, v) → step (gives as_text flag) (drop p m) ≡ Ok (drop q m, decoded (between m p q))
-flag_there m p q v le within is = there flag m p q v flags_utf8 flag_spells le within is
+flag_there m p q v le within is = there flag m p q v flags_utf8 (spells-wider flag_spells (λ v c h. h.1)) le within is
 
 pub flag_perm_there : (m : Bytes) (p q : ℕ) (v : Bytes) → p ≤ q → q ≤ length m → step flag_perm (drop p m) ≡ Ok (drop q m, v) → step (gives as_text flag_perm) (drop p m) ≡ Ok (drop q m, decoded (between m p q))
-flag_perm_there m p q v le within is = there flag_perm m p q v flag_perms_utf8 flag_perm_spells le within is
+flag_perm_there m p q v le within is = there flag_perm m p q v flag_perms_utf8 (spells-wider flag_perm_spells as_it_stands) le within is
+  where
+    as_it_stands : (v c : Bytes) → spells_flag_perm v c → this v c
+    as_it_stands v c (inl h) = h.1
+    as_it_stands v c (inr h) = h.1

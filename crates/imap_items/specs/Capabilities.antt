@@ -1,4 +1,4 @@
--- Capabilities (RFC 3501, section 9: capability-data, capability; RFC 5161, section 4: response-data).
+-- Capabilities (RFC 3501, section 9: capability-data, capability; RFC 5161, section 4: enable-data).
 use Rattle.std.specs.Prelude.{Bool, true, false, List}
 use Rattle.std.specs.List.{list_any}
 use Rattle.imap_grammar.specs.Text.{Bytes, as_text, Text, text_of, lent_text}

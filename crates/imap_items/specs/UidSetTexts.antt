@@ -2,7 +2,7 @@
 use Rattle.std.specs.Prelude.{◌≡◌, ◌⊎◌, false, List}
 use Rattle.imap_grammar.specs.Pieces.{Pieces, words, number_text, range_text, separated}
 use Rattle.imap_grammar.specs.ReadBack.{Texts}
-use Rattle.imap_grammar.specs.Spelling.{exactly, with_between, spells_number, spells_ends}
+use Rattle.imap_grammar.specs.Spelling.{exactly, some_with_between, spells_number, spells_ends}
 use Rattle.imap_items.specs.UidSets.{MemberValue, UidRange, Uid}
 
 abbrev pub canonical_member : MemberValue → Pieces
@@ -18,4 +18,4 @@ spells_member (UidRange r) c = (r.spent ≡ false) × (spells_ends r.start r.end
 spells_member (Uid n) c = spells_number n c
 
 abbrev pub spells_uid_set : List MemberValue → Texts
-spells_uid_set = with_between (exactly ",") spells_member
+spells_uid_set = some_with_between (exactly ",") spells_member

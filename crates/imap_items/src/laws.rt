@@ -18,7 +18,7 @@ ghost use Rattle.imap_items.specs.Rights.{right_of, letter_of, IsShadowed, right
 ghost use Rattle.imap_grammar.specs.Text.{lent_text};
 ghost use Rattle.imap_grammar.specs.ReadBack.{SpellsAndReadsBack, Closes, EndsItem, as_is};
 ghost use Rattle.imap_items.specs.StatusTexts.{canonical_status, spells_status};
-ghost use Rattle.imap_items.specs.FlagTexts.{canonical_flag, spells_flag, canonical_flag_list, spells_flag_list};
+ghost use Rattle.imap_items.specs.FlagTexts.{canonical_flag, spells_flag, spells_flag_perm, canonical_flag_list, spells_flag_list};
 ghost use Rattle.imap_items.specs.GmailTexts.{canonical_label_list, spells_label_list, canonical_msgid, spells_msgid, canonical_thrid, spells_thrid};
 ghost use Rattle.imap_items.specs.CapabilityTexts.{canonical_capabilities, spells_capability_data, spells_enabled_data};
 ghost use Rattle.imap_items.specs.UidSetTexts.{canonical_uid_set, spells_uid_set};
@@ -73,7 +73,8 @@ pub fn cloning()
     ensures acl_right { CopiesFreely ⟦<AclRight as Clone>⟧.is_infallible ⟦<AclRight as Clone>⟧.is_clone }
 {}
 
-/// A letter's right has that letter, and a right's letter has that right, but for a `Custom` of a letter that has a right of its own.
+/// A letter's right has that letter, and a right's letter has that right, but for a `Custom` of a letter that has a
+/// right of its own.
 pub fn conversions()
     ensures letters { (c : ℕ) → letter_of (right_of c) ≡ c }
     ensures rights { (right : Right) → ¬ (IsShadowed right) → right_of (letter_of right) ≡ right }
@@ -87,7 +88,7 @@ pub fn conversions()
 pub fn read_back()
     ensures status { SpellsAndReadsBack statuses.status as_is canonical_status spells_status EndsItem }
     ensures flag { SpellsAndReadsBack flags.flag as_is canonical_flag spells_flag EndsItem }
-    ensures flag_perm { SpellsAndReadsBack flags.flag_perm as_is canonical_flag spells_flag EndsItem }
+    ensures flag_perm { SpellsAndReadsBack flags.flag_perm as_is canonical_flag spells_flag_perm EndsItem }
     ensures flag_list { SpellsAndReadsBack flags.flag_list (map lent_text) canonical_flag_list spells_flag_list EndsItem }
     ensures gmail_label_list { SpellsAndReadsBack gmail.gmail_label_list (map lent_text) canonical_label_list spells_label_list EndsItem }
     ensures gmail_msgid { SpellsAndReadsBack gmail.gmail_msgid as_is canonical_msgid spells_msgid EndsItem }

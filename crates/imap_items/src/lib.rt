@@ -1,4 +1,5 @@
-//! What several kinds of line share: statuses, capabilities, flags, Gmail's items, UID sets, mailbox names, rights, and copies of texts.
+//! What several kinds of line share: statuses, capabilities, flags, Gmail's items, UID sets, mailbox names, rights,
+//! and copies of texts.
 #![tactic(auto)]
 
 pub mod at;

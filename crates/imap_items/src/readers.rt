@@ -1,7 +1,7 @@
 //! Readers of shared items, each of the rule of its name.
 //!
-//! Each answers `Error` where its rule denies what stands there, whatever follows; `Incomplete` where more bytes are needed
-//! to tell; and `Failure` only where memory ran out.
+//! Each answers `Error` where its rule denies what stands there, whatever follows; `Incomplete` where more bytes are
+//! needed to tell; and `Failure` only where memory ran out.
 
 pub mod capabilities;
 pub mod flags;

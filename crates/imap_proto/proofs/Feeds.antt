@@ -25,14 +25,6 @@ pub nothing_waits_for : WaitsFor [] 1
 nothing_waits_for [] lt = nothing_waits
 nothing_waits_for (b ∷ more) lt = absurd (omega arith)
 
--- it waits now
-pub waits_now : (held : Bytes) (n : ℕ) → WaitsFor held n → 0 < n → Waiting held
-waits_now held n h some = subst Waiting (append-nil held) (h [] some)
-
--- a piece came
-pub waits_less : (held piece : Bytes) (n : ℕ) → WaitsFor held n → WaitsFor (held ++ piece) (n - length piece)
-waits_less held piece n h more lt = subst Waiting (sym (append_assoc held piece more)) (h (piece ++ more) (omega (arith, lt, length-append piece more)))
-
 pub waiting : (m : Bytes) (w : Needed) → step response m ≡ Err (Incomplete w) → Waiting m
 waiting m w e = (λ v rest y. let f = sym e ∙ (agrees response m).yields v rest y in cc, λ d. let f = sym e ∙ (agrees response m).fails Error d in cc)
 
@@ -49,10 +41,6 @@ waits_for_some m e [] lt = subst Waiting (sym (append-nil m)) (waiting m Unknown
 waits_for_some m e (b ∷ more) lt = absurd (omega arith)
 
 -- ---- places
-
--- what is held, behind what was spent, as a piece is put behind it
-pub fed_behind : (bytes piece : Bytes) (start : ℕ) → start ≤ length bytes → drop start (bytes ++ piece) ≡ drop start bytes ++ piece
-fed_behind bytes piece start within = drop-append-le start bytes piece within
 
 -- behind the response
 pub left_behind : (bytes held rest : Bytes) (start : ℕ) (v : ResponseValue) → held ≡ drop start bytes → step response held ≡ Ok (rest, v) → drop (length bytes - length rest) bytes ≡ rest

@@ -21,7 +21,7 @@ use Rattle.imap_grammar.proofs.Reading.{reads-gives, reads-seq, reads-follow, re
 use Rattle.imap_grammar.proofs.ReadingWords.{apart_byte}
 use Rattle.imap_grammar.proofs.ReadingLists.{takes-text, takes-word, takes-none}
 use Rattle.imap_grammar.proofs.ReadingIf.{if-all, seq-if, after-if, before-if, gives-if, alt-if}
-use Rattle.imap_grammar.proofs.Spelling.{◌⨾ˢ◌, ◌▹ˢ◌, ◌◃ˢ◌, ◌orˢ◌, spells-gives, spells-wider, spells-where, spells-test, spells-tag, spells-word, spells-crlf, spells-run, spells-run0, spells-maybe_space}
+use Rattle.imap_grammar.proofs.Spelling.{◌⨾ˢ◌, ◌▹ˢ◌, ◌◃ˢ◌, ◌orˢ◌, spells-gives, spells-wider, spells-where, spells-tag, spells-word, spells-crlf, spells-utf8, spells-run0, spells-maybe_space}
 use Rattle.imap_bytes.specs.Numbers.{digits, number}
 use Rattle.imap_bytes.proofs.ReadingTexts.{not_digit, number_first, reads-number}
 use Rattle.imap_bytes.proofs.ReadingCounts.{number_starts, numbers_yield, reads-counted}
@@ -457,7 +457,7 @@ continuation_spells = spells-gives Continue (spells-tag "+" ▹ˢ spells-maybe_s
 
 tagged_spells : Spells tagged spells_response
 unfolding tagged request_tag
-tagged_spells = spells-gives done_of (spells-test is_utf8 (spells-run is_tag_char) ⨾ˢ spells-tag " " ▹ˢ status_spells ⨾ˢ spaced_spells ◃ˢ spells-crlf)
+tagged_spells = spells-gives done_of (spells-utf8 is_tag_char ⨾ˢ spells-tag " " ▹ˢ status_spells ⨾ˢ spaced_spells ◃ˢ spells-crlf)
 
 pub response_spells : Spells response spells_response
 unfolding response

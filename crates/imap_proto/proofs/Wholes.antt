@@ -63,13 +63,6 @@ read_denied all coming piece held responses end is so_far =
     read_piece all coming piece held (held ++ piece) responses responses end end so_far
     (takes_none (held ++ piece) responses end (subst (λ k. EndsAs (held ++ piece) k) (sym is) (stable.denies_more held piece denied)))
 
-pub read_all : (all held : Bytes) (responses : List Response) (w : Whole) → ReadSoFar all [] held responses w.end → w.responses.items ≡ responses → w.rest.items ≡ held → IsWhole all w
-read_all all held responses w so_far is left = (
-  so_far.values,
-  ap (λ items. map response_value items) is ∙ so_far.owned,
-  subst (λ m. Splits m so_far.values w.rest.items w.end) (sym (append-nil so_far.read) ∙ so_far.joins) (subst (λ k. Splits so_far.read so_far.values k w.end) (sym left) so_far.splits),
-)
-
 -- ---- one whole
 
 pub one_whole : OneWhole

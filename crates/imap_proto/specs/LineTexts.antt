@@ -6,7 +6,7 @@ use Rattle.imap_grammar.specs.Text.{Bytes}
 use Rattle.imap_grammar.specs.Rule.{meaning}
 use Rattle.imap_grammar.specs.Pieces.{Piece, Raw, Lit, Pieces, ◌then◌, words, raw, space, number_text, written}
 use Rattle.imap_grammar.specs.ReadBack.{Texts}
-use Rattle.imap_grammar.specs.Spelling.{this, exactly, in_any_case, ◌and◌, all_of, maybe, spells_number}
+use Rattle.imap_grammar.specs.Spelling.{this, exactly, in_any_case, ◌and◌, all_of, utf8_of, as_it_is, maybe, spells_number}
 use Rattle.imap_items.specs.StatusTexts.{canonical_status, spells_status}
 use Rattle.imap_items.specs.CapabilityTexts.{canonical_capabilities, spells_capability_data, spells_enabled_data}
 use Rattle.imap_data.specs.MailboxDataTexts.{canonical_datum, spells_datum}
@@ -17,7 +17,7 @@ use Rattle.imap_extensions.specs.AclTexts.{canonical_acl, spells_acl, canonical_
 use Rattle.imap_body.specs.AttributeTexts.{canonical_attributes, spells_attributes}
 use Rattle.imap_proto.specs.Responses.{ResponseValue, Capabilities, Continue, Done, Data, Expunge, Vanished, Fetch, MailboxData, Quota, QuotaRoot, Id, Acl, ListRights, MyRights, lent_response}
 use Rattle.imap_proto.specs.OutcomeTexts.{canonical_outcome, canonical_spaced, bracketed, spells_outcome, spells_spaced}
-use Rattle.imap_proto.specs.Lines.{is_space, response}
+use Rattle.imap_proto.specs.Lines.{is_space, is_tag_char, response}
 
 -- ---- canonical text
 
@@ -74,7 +74,7 @@ ends_line = this (carriage_return ∷ line_feed ∷ [])
 -- spaces may stand before the end of a data line
 abbrev pub spells_response : ResponseValue → Texts
 spells_response (Continue o) = exactly "+" and maybe (exactly " ") and spells_outcome o and ends_line
-spells_response (Done tag status o) = this tag and exactly " " and spells_status status and spells_spaced o and ends_line
+spells_response (Done tag status o) = as_it_is (utf8_of is_tag_char) tag and exactly " " and spells_status status and spells_spaced o and ends_line
 spells_response r = exactly "* " and spells_data r and all_of is_space and ends_line
 
 -- what stands before the rest spells the response

@@ -23,7 +23,7 @@ use Rattle.imap_body.specs.Attributes.{attribute_list}
 use Rattle.imap_proto.specs.Responses.{OutcomeValue, ResponseValue, Capabilities, Continue, Done, Data, Expunge, Vanished, Fetch, MailboxData, Quota, QuotaRoot, Id, Acl, ListRights, MyRights}
 use Rattle.imap_proto.specs.Outcomes.{outcome, spaced_outcome}
 
--- `+`, maybe a space, an outcome
+-- continue-req = "+" SP resp-text CRLF, where the space may be missing
 unfoldable pub continuation : Rule ResponseValue
 continuation = gives Continue (tag "+" ▹ maybe_space ▹ outcome ◃ crlf)
 
@@ -32,25 +32,29 @@ continuation = gives Continue (tag "+" ▹ maybe_space ▹ outcome ◃ crlf)
 abbrev pub data_of : Status × OutcomeValue → ResponseValue
 data_of (status, outcome) = Data status outcome
 
+-- resp-cond-state / resp-cond-auth / resp-cond-bye, where the text may be missing with its space
 unfoldable pub status_data : Rule ResponseValue
 status_data = gives data_of (status ⨾ spaced_outcome)
 
+-- message-data = nz-number SP "EXPUNGE", where zero is read, too
 unfoldable pub expunge : Rule ResponseValue
 expunge = gives Expunge (number ◃ word " EXPUNGE")
 
 abbrev pub fetch_of : ℕ × List AttributeValue → ResponseValue
 fetch_of (number, attributes) = Fetch number attributes
 
--- "FETCH" SP msg-att behind the number of a message
+-- SP "FETCH" SP msg-att
 unfoldable pub fetched : Rule (List AttributeValue)
 fetched = word " FETCH " ▹ attribute_list
 
+-- message-data = nz-number SP "FETCH" SP msg-att, where zero is read, too
 unfoldable pub fetch : Rule ResponseValue
 fetch = gives fetch_of (number ⨾ fetched)
 
 abbrev pub vanished_of : Bool × List Range → ResponseValue
 vanished_of (earlier, uids) = Vanished earlier uids
 
+-- expunged-resp (RFC 7162, section 7)
 unfoldable pub vanished_data : Rule ResponseValue
 vanished_data = gives vanished_of vanished
 
@@ -77,6 +81,7 @@ extension_datum =
     or gives ListRights list_rights
     or gives MyRights my_rights
 
+-- what stands behind "* ": resp-cond-state / mailbox-data / message-data / capability-data, and the data of extensions
 unfoldable pub datum : Rule ResponseValue
 datum = state_datum or extension_datum
 
@@ -93,7 +98,7 @@ ended a = a ◃ spaces ⨾ crlf
 unfoldable pub ended_datum : Rule ResponseValue
 ended_datum = ended datum
 
--- `* ` and a datum
+-- response-data = "*" SP datum CRLF, where spaces may stand before the CRLF
 unfoldable pub data_line : Rule ResponseValue
 data_line = tag "* " ▹ ended_datum
 
@@ -150,15 +155,17 @@ fetch_line = tag "* " ▹ ended fetch
 abbrev pub is_tag_char : ℕ → Bool
 is_tag_char b = is_astring_char b && not (b == plus)
 
+-- tag = 1*<any ASTRING-CHAR except "+">, in UTF-8
 unfoldable pub request_tag : Rule Bytes
 request_tag = in_utf8 (run1 is_tag_char)
 
 abbrev pub done_of : Bytes × (Status × OutcomeValue) → ResponseValue
 done_of (tag, (status, outcome)) = Done tag status outcome
 
--- the command's tag, a status, an outcome
+-- response-tagged = tag SP resp-cond-state CRLF
 unfoldable pub tagged : Rule ResponseValue
 tagged = gives done_of (request_tag ⨾ sp ▹ status ⨾ spaced_outcome ◃ crlf)
 
+-- one line: continue-req / response-data / response-tagged
 unfoldable pub response : Rule ResponseValue
 response = continuation or data_line or tagged

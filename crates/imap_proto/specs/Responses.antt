@@ -65,19 +65,7 @@ response_value (code.MyRights rights) = MyRights (my_rights_value rights)
 
 abbrev pub IsFetch : ResponseValue → Type 0
 IsFetch (Fetch n attributes) = Unit {0}
-IsFetch (Capabilities capabilities) = ⊥
-IsFetch (Continue o) = ⊥
-IsFetch (Done tag status o) = ⊥
-IsFetch (Data status o) = ⊥
-IsFetch (Expunge n) = ⊥
-IsFetch (Vanished earlier uids) = ⊥
-IsFetch (MailboxData datum) = ⊥
-IsFetch (Quota quota) = ⊥
-IsFetch (QuotaRoot root) = ⊥
-IsFetch (Id map) = ⊥
-IsFetch (Acl acl) = ⊥
-IsFetch (ListRights rights) = ⊥
-IsFetch (MyRights rights) = ⊥
+IsFetch other = ⊥
 
 -- a number and attributes whose spans name them in m
 abbrev pub fetch_in : Bytes → ℕ × Vec (SpannedAttribute SpannedText Span) Global → ResponseValue

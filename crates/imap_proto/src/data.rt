@@ -3,9 +3,8 @@
 //! The readers of lines are never inlined: one function that had them all in it would clear, at each response, the room
 //! on its stack for the values of all of them.
 
-ghost use Rattle.std.specs.Prelude.{◌≡◌, ◌<◌, length, map, position, IfSome, Err as Refused};
+ghost use Rattle.std.specs.Prelude.{◌≡◌, map, Err as Refused};
 ghost use Rattle.imap_grammar.specs.Answer.{Exactly, Gives};
-ghost use Rattle.imap_grammar.specs.Meaning.{outside};
 ghost use Rattle.imap_grammar.specs.Memory.{SucceedsFor};
 ghost use Rattle.imap_grammar.specs.Rule.{◌⨾◌};
 ghost use Rattle.imap_grammar.specs.Step.{step};
@@ -26,26 +25,25 @@ use imap_data::readers::{
     acl, capability_data, enabled_data, id, list_or_lsub, list_rights, mailbox_datum,
     metadata_solicited, metadata_unsolicited, my_rights, quota, quota_root, status, vanished,
 };
+use imap_grammar::scanning::{Class, run_end};
 use std::alloc::Global;
 
-fn is_space(c: u8) -> bool
-    ensures { result ≡ rule.is_space c }
-{
-    c == b' '
-}
+// A space.
+pub(crate) struct Space;
 
-pub(crate) fn spaces_end(i: &[u8]) -> Option<usize>
-    ensures at { result ≡ position (outside rule.is_space) i.now }
-    ensures within { IfSome result (λ n. n < length i.now) }
-{
-    i.iter().position(|c| !is_space(*c))
+impl Class for Space {
+    ghost class = { rule.is_space };
+
+    fn has(c: u8) -> bool {
+        c == b' '
+    }
 }
 
 #[tactic(auto, unfolding(crate::specs::Lines::spaces))]
 fn spaces(i: &[u8]) -> IResult<&[u8], &[u8]>
     ensures { Exactly (λ x. x.now) result (step rule.spaces i.now) }
 {
-    cut0(spaces_end(i), i)
+    cut0(run_end::<Space>(i), i)
 }
 
 // Spaces, and the end of the line.
@@ -57,7 +55,8 @@ fn line_end(i: &[u8]) -> IResult<&[u8], (&[u8], &[u8])>
     Ok((rest, (before, end)))
 }
 
-// Where the reader answers, ends its line and answers the response that is made of what it found; goes on where it denies.
+// Where the reader answers, ends its line and answers the response that is made of what it found; goes on where it
+// denies.
 macro_rules! whole_line {
     ($answer:expr, $found:ident => $response:expr) => {
         match $answer {

@@ -9,7 +9,7 @@ ghost use Rattle.imap_proto.specs.Kept.{Keeps, attributes_of, without_value};
 ghost use Rattle.imap_proto.specs.Responses.{fetch_in};
 ghost use Rattle.imap_proto.specs.Lines as rule;
 
-use crate::data::spaces_end;
+use crate::data::Space;
 use crate::response::Response;
 use imap_body::AttributeValue;
 use imap_body::spanned::{SpannedAttribute, attribute_list_at};
@@ -19,6 +19,7 @@ use imap_bytes::at::span::Span;
 use imap_bytes::at::tags::{cut0, tag, word};
 use imap_bytes::lists::tried;
 use imap_bytes::{Err, IResult};
+use imap_grammar::scanning::run_end;
 use std::alloc::{AllocError, Global};
 
 #[tactic(auto, unfolding(crate::specs::Lines::spaces))]
@@ -28,7 +29,7 @@ fn spaces(m: &[u8], p: usize) -> Reached<Span>
     ensures inside { Inside m.now p result }
 {
     let (_, i) = m.split_at(p);
-    cut0(spaces_end(i), m, p)
+    cut0(run_end::<Space>(i), m, p)
 }
 
 #[tactic(auto, unfolding(crate::specs::Lines::fetched))]
@@ -77,7 +78,8 @@ pub struct KeptFetch {
 }
 
 impl KeptFetch {
-    /// Keeps the `FETCH` at the front of the message (RFC 3501, section 7.4.2); `None` where another response stands there.
+    /// Keeps the `FETCH` at the front of the message (RFC 3501, section 7.4.2); `None` where another response stands
+    /// there.
     ///
     /// `Error`, `Incomplete` and `Failure` as `Response::parse`. The answer is for the whole message: the bytes that
     /// the `FETCH` took may be `Incomplete` when they are parsed alone.

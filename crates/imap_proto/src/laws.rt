@@ -37,7 +37,8 @@ pub fn stable()
     ensures response { Stable rule.response }
 {}
 
-/// A stream of responses has one split, however its bytes are cut into pieces; and what a response consumed waits until its last byte is there.
+/// A stream of responses has one split, however its bytes are cut into pieces; and what a response consumed waits
+/// until its last byte is there.
 #[tactic(auto, using(crate::proofs::Streams::some_split, crate::proofs::Streams::one_split, crate::proofs::Streams::beginnings_wait, crate::proofs::Streams::splits_go_on, crate::proofs::Streams::feeds_split, crate::proofs::Streams::cuttings_alike, crate::proofs::Wholes::one_whole))]
 pub fn streams()
     ensures some_split { SomeSplit }

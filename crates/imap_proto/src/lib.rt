@@ -25,7 +25,8 @@ pub use imap_data::{
 pub use outcome::Outcome;
 pub use response::{ParseResult, RequestId, Response};
 
-/// What readers answer, and the readers of bytes: classes, numbers, strings, texts and lists (the Rust crate's module `core`).
+/// What readers answer, and the readers of bytes: classes, numbers, strings, texts and lists (the Rust crate's module
+/// `core`).
 pub mod imap_core {
     pub use imap_bytes::{
         Err, IResult, Needed, astring, astring_utf8, atom, is_astring_char, is_atom_char,

@@ -1,10 +1,9 @@
 //! Lines: continuations, untagged data and tagged statuses.
 
-ghost use Rattle.std.specs.Prelude.{◌≡◌, ◌<◌, length, position, slice_get, IfSome};
+ghost use Rattle.std.specs.Prelude.{◌≡◌, slice_get};
 ghost use Rattle.std.specs.Option.{option_copied};
 ghost use Rattle.imap_grammar.specs.Answer.{Exactly, Gives};
 ghost use Rattle.imap_grammar.specs.Step.{step};
-ghost use Rattle.imap_grammar.specs.Meaning.{outside};
 ghost use Rattle.imap_grammar.specs.Memory.{SucceedsFor};
 ghost use Rattle.imap_grammar.specs.Rule.{run1};
 ghost use Rattle.imap_proto.specs.Memory.{TakesNone};
@@ -21,6 +20,7 @@ use imap_bytes::strings::as_utf8;
 use imap_bytes::tags::{cut1, maybe_space, tag};
 use imap_bytes::{Err, IResult, Needed, is_astring_char, number};
 use imap_data::readers::status;
+use imap_grammar::scanning::{Class, run_end};
 use imap_shapes::made;
 use std::alloc::Global;
 
@@ -37,23 +37,21 @@ fn continuation(alloc: Global, i: &[u8]) -> IResult<&[u8], Response<'_>>
     Ok((rest, Response::Continue(outcome)))
 }
 
-fn is_tag_char(c: u8) -> bool
-    ensures { result ≡ rule.is_tag_char c }
-{
-    is_astring_char(c) && c != b'+'
-}
+// An astring-char but `+` (RFC 3501, section 9: tag).
+struct TagChar;
 
-fn tag_end(i: &[u8]) -> Option<usize>
-    ensures at { result ≡ position (outside rule.is_tag_char) i.now }
-    ensures within { IfSome result (λ n. n < length i.now) }
-{
-    i.iter().position(|c| !is_tag_char(*c))
+impl Class for TagChar {
+    ghost class = { rule.is_tag_char };
+
+    fn has(c: u8) -> bool {
+        is_astring_char(c) && c != b'+'
+    }
 }
 
 fn tag_chars(i: &[u8]) -> IResult<&[u8], &[u8]>
     ensures { Exactly (λ x. x.now) result (step (run1 rule.is_tag_char) i.now) }
 {
-    cut1(tag_end(i), i)
+    cut1(run_end::<TagChar>(i), i)
 }
 
 #[tactic(auto, unfolding(crate::specs::Lines::request_tag))]
@@ -95,9 +93,11 @@ fn second(i: &[u8]) -> Option<&u8>
     i.get(1)
 }
 
-/// A response: a continuation, a tagged line, or `* `, a datum and the end of its line. Of the alternatives those are tried, in order, that may start with the first byte.
+/// A response: a continuation, a tagged line, or `* `, a datum and the end of its line. Of the alternatives those are
+/// tried, in order, that may start with the first byte.
 ///
-/// Each arm returns what one call answers, so that an answer is copied once on its way. The number of a line is read here: it is small, and what stands behind it is told apart by its second byte.
+/// Each arm returns what one call answers, so that an answer is copied once on its way. The number of a line is read
+/// here: it is small, and what stands behind it is told apart by its second byte.
 #[tactic(auto, using(crate::proofs::FirstBytes::response_none, crate::proofs::FirstBytes::response_plus, crate::proofs::FirstBytes::response_star, crate::proofs::FirstBytes::response_other, crate::proofs::FirstBytes::datum_none, crate::proofs::FirstBytes::datum_of_status, crate::proofs::FirstBytes::datum_of_number, crate::proofs::FirstBytes::datum_of_mailbox, crate::proofs::FirstBytes::datum_of_list, crate::proofs::FirstBytes::datum_of_capability, crate::proofs::FirstBytes::datum_of_enabled, crate::proofs::FirstBytes::datum_of_annotation, crate::proofs::FirstBytes::datum_of_vanished, crate::proofs::FirstBytes::datum_of_quota, crate::proofs::FirstBytes::datum_of_id, crate::proofs::FirstBytes::datum_of_acl, crate::proofs::FirstBytes::datum_other, crate::proofs::Numbered::number_stopped, crate::proofs::Numbered::number_and_fetch, crate::proofs::Numbered::number_and_count), unfolding(crate::specs::Lines::data_line))]
 #[inline(never)]
 pub(crate) fn response(alloc: Global, i: &[u8]) -> IResult<&[u8], Response<'_>>

@@ -50,7 +50,8 @@ impl RequestId {
 /// A response of a server (RFC 3501, section 7).
 #[derive(Debug, Drop, PartialEq, Eq)]
 pub enum Response<'a> {
-    /// `CAPABILITY` (RFC 3501, section 7.2.1), with `Imap4rev1` among them, and `ENABLED` (RFC 5161, section 3.2), each an `Atom`.
+    /// `CAPABILITY` (RFC 3501, section 7.2.1), with `Imap4rev1` among them, and `ENABLED` (RFC 5161, section 3.2),
+    /// each an `Atom`.
     Capabilities(Vec<Capability<'a>>),
     /// `+`: the server waits for the rest of a command (RFC 3501, section 7.5).
     Continue(Outcome<'a>),
@@ -124,8 +125,8 @@ fn owned_id(alloc: Global, id: Option<IdMap<'_>>) -> Result<Option<IdMap<'static
 impl<'a> Response<'a> {
     /// The same response with all texts owned, so that the bytes which it was read from need not be kept.
     ///
-    /// It takes memory for lists, for the map of an ID and for borrowed texts, in a `Fetch` also for texts that are owned
-    /// already; lists without texts are moved. `Err`: memory ran out.
+    /// It takes memory for lists, for the map of an ID and for borrowed texts, in a `Fetch` also for texts that are
+    /// owned already; lists without texts are moved. `Err`: memory ran out.
     pub fn into_owned(self, alloc: Global) -> Result<Response<'static>, AllocError>
         ensures { IfOk result (λ r. response_value r ≡ owned_response (response_value self.entry)) }
     {

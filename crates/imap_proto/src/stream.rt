@@ -45,10 +45,11 @@ impl From<AllocError> for FeedError {
 /// Bytes of a server that come in pieces, and that give their responses one by one.
 ///
 /// What is given is dropped from the front, and what is behind it is moved there only when more than half of all bytes
-/// are spent: so the responses of a piece cost time in proportion to their bytes. Where a literal lacks n bytes, nothing
-/// is read again until n bytes more were fed. Where it isn't known how many are lacking, the line is read from its
-/// start after each piece, since it may be denied by then: a line of L bytes in pieces of p costs about L * L / 2p
-/// bytes read. The feed has no limit of its own. A caller who fears such lines stops feeding where `held` grows too long.
+/// are spent: so the responses of a piece cost time in proportion to their bytes. Where a literal lacks n bytes,
+/// nothing is read again until n bytes more were fed. Where it isn't known how many are lacking, the line is read
+/// from its start after each piece, since it may be denied by then: a line of L bytes in pieces of p costs about L *
+/// L / 2p bytes read. The feed has no limit of its own. A caller who fears such lines stops feeding where `held`
+/// grows too long.
 #[derive(Drop)]
 pub struct Feed {
     alloc: Global,
@@ -67,7 +68,8 @@ impl Model for Feed {
     ghost invariant = { λ f. (f.start + f.start ≤ length f.bytes.items) × WaitsFor (drop f.start f.bytes.items) f.wanted };
 }
 
-// Drops the bytes in front of the start, where they are more than half of all, and tells the new start. Where it moves bytes, these are fewer than it drops.
+// Drops the bytes in front of the start, where they are more than half of all, and tells the new start. Where it
+// moves bytes, these are fewer than it drops.
 fn compacted(bytes: &mut Vec<u8>, start: usize) -> usize
     requires { start ≤ length bytes.old.items }
     ensures half { result + result ≤ length bytes.new.items }
@@ -125,8 +127,8 @@ impl Feed {
         held
     }
 
-    /// The response at the front of what it holds, with all its texts owned; its bytes are held no longer. `None` where more bytes are
-    /// needed, or nothing is held.
+    /// The response at the front of what it holds, with all its texts owned; its bytes are held no longer. `None`
+    /// where more bytes are needed, or nothing is held.
     ///
     /// It takes memory. `OutOfMemory`: memory ran out, and the same call may be made again. `Denied`: no response
     /// begins so, and every later call says that again, whatever is fed, or `OutOfMemory`. Both leave what is held.

@@ -57,9 +57,6 @@ pub stops_behind : (remaining mid left old now : Option (List ℕ)) (held : List
 stops_behind remaining mid left old now held reads n so_far b =
     stops_here remaining left old now (held ++ b.0) reads (piece_read remaining mid left old now held (held ++ b.0) b.0 reads reads so_far b.1 refl (omega arith))
 
-pub reads_long : (remaining left old now : Option (List ℕ)) (held : List ℕ) (reads n : ℕ) → SoFar remaining left old now held reads → n ≤ reads → ReadsAtLeast n remaining left
-reads_long remaining left old now held reads n so_far le = (so_far.read, so_far.consumed, omega (arith, so_far.each))
-
 -- behind what is held
 pub reads_long_behind : (remaining mid left old now : Option (List ℕ)) (held : List ℕ) (reads n : ℕ) → SoFar remaining mid old now held reads → ReadsAtLeast (n - length held) mid left → ReadsAtLeast n remaining left
 reads_long_behind remaining mid left old now held reads n so_far b = (so_far.read ++ b.0, consumes_both remaining mid left so_far.read b.0 so_far.consumed b.1, omega (arith, so_far.told.within, b.2, length-append so_far.read b.0))
@@ -92,9 +89,6 @@ pub record Counted (remaining left : Option (List ℕ)) (before total : ℕ) : T
   pub bytes : List ℕ
   pub consumed : Consumes remaining left bytes
   pub sum : total ≡ before + length bytes
-
-pub none_counted : (remaining : Option (List ℕ)) (before : ℕ) → Counted remaining remaining before before
-none_counted remaining before = record { bytes = []; consumed = consumes_nothing remaining; sum = omega arith }
 
 pub counted_more : (remaining mid left : Option (List ℕ)) (before total more n : ℕ) (buffer : List ℕ) → Counted remaining mid before total → Consumes mid left (take n buffer) → n ≤ length buffer → more ≡ total + n → Counted remaining left before more
 counted_more remaining mid left before total more n buffer so_far c le e =

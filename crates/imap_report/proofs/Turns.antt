@@ -130,10 +130,6 @@ line_begun m after text r old new y t w =
       (w.0, w.1 ++ more.0, ap (λ (k : List ℕ). k ++ more.0) w.2 ∙ append_assoc w.0 w.1 more.0, w.3),
     )
 
--- of a last line
-pub last_begun : (m text : List ℕ) (f : Finish) (old new : Option (List ℕ)) → IsReport m text f → AppendsFront old new text → Begins old new m
-last_begun m text f old new h w = (text, f, h, w)
-
 -- ---- responses of a feed
 
 -- a response has the same name with its texts owned

@@ -1,6 +1,6 @@
 //! Runs: input is read piece by piece, and its report is written as its bytes come.
 
-ghost use Rattle.std.specs.Prelude.{◌≡◌, ℕ, ◌+◌, ◌-◌, ◌^◌, ◌≤◌, ◌++◌, List, length, false, true, IfOk, OnOk, OnErr, IfErr};
+ghost use Rattle.std.specs.Prelude.{◌≡◌, ℕ, ◌+◌, ◌-◌, ◌^◌, ◌≤◌, ◌⊎◌, ◌++◌, List, length, false, true, IfOk, OnOk, OnErr, IfErr};
 ghost use Rattle.std.specs.Io.KnownBytes.{Consumes, IsAtEnd};
 ghost use Rattle.imap_report.specs.Report.{IsReport, ReportsAll, ReportsSome, ReadsAtLeast, TellsResponses};
 
@@ -61,8 +61,8 @@ fn count_on<R: Source>(reader: &mut R, counted: usize) -> Result<usize, Fault>
     }
 }
 
-// Reads all input piece by piece, and writes a line for each response as soon as its last byte is there. It tells how many bytes
-// are left behind them, and why these give no more; and holds only what waits.
+// Reads all input piece by piece, and writes a line for each response as soon as its last byte is there. It tells how
+// many bytes are left behind them, and why these give no more; and holds only what waits.
 fn tell_responses<R: Source, W: Sink>(
     alloc: Global,
     reader: &mut R,
@@ -95,12 +95,12 @@ fn tell_responses<R: Source, W: Sink>(
     Err(Fault::TooLong)
 }
 
-/// Reads all input piece by piece and writes its report: a line for each response as soon as its last byte is there, and a last
-/// line that tells what is left. It takes memory for a piece, for what waits, and for a response. After a `Fault` what was written
-/// is a beginning of the report of what was read.
+/// Reads all input piece by piece and writes its report: a line for each response as soon as its last byte is there,
+/// and a last line that tells what is left. It takes memory for a piece, for what waits, and for a response. After a
+/// `Fault` what was written is a beginning of the report of what was read.
 ///
-/// `Read`: the reader failed. `Write`: the writer failed. `TooLong`: at least 2^64 - 1 bytes were read. `OutOfMemory`: memory ran
-/// out.
+/// `Read`: the reader failed. `Write`: the writer failed. `TooLong`: at least 2^64 - 1 bytes were read.
+/// `OutOfMemory`: memory ran out.
 pub fn run<R: Source, W: Sink>(
     alloc: Global,
     reader: &mut R,
@@ -120,14 +120,18 @@ pub fn run<R: Source, W: Sink>(
 
 /// The report of these bytes, and what its last line tells.
 ///
-/// It takes memory. `Write`: memory ran out for the report itself. `OutOfMemory`: it ran out for something else.
-/// `TooLong`: the input has at least 2^64 - 1 bytes.
+/// It takes memory. `OutOfMemory`: memory ran out, for the report itself, too. `TooLong`: the input has at least
+/// 2^64 - 1 bytes. No other fault comes.
 pub fn report_of(alloc: Global, input: &[u8]) -> Result<(Finish, Vec<u8>), Fault>
     ensures report { IfOk result (λ told. IsReport input.now told.1.items told.0) }
     ensures long { IfErr result (λ e. e ≡ Fault.TooLong → 2 ^ 64 - 1 ≤ length input.now) }
+    ensures kinds { IfErr result (λ e. (e ≡ Fault.TooLong) ⊎ (e ≡ Fault.OutOfMemory)) }
 {
     let mut reader = Reading::new(input);
     let mut writer = Writing::new(Vec::new(alloc));
-    let finish = run(alloc, &mut reader, &mut writer)?;
-    Ok((finish, writer.into_inner()))
+    match run(alloc, &mut reader, &mut writer) {
+        Ok(finish) => Ok((finish, writer.into_inner())),
+        Err(Fault::TooLong) => Err(Fault::TooLong),
+        Err(_) => Err(Fault::OutOfMemory),
+    }
 }

@@ -12,7 +12,7 @@ use Rattle.imap_grammar.specs.ReadBack.{ReadsBack, Spells, SpellsAndReadsBack, A
 use Rattle.imap_grammar.proofs.Yields.{Yields, right_yields, named_yields, given_yields}
 use Rattle.imap_grammar.proofs.Reading.{reads-word, reads-gives, reads-opt, reads-before, reads-seq, reads-as, first, starts, first_yields, tag-on, apart-names, apart-alt, apart_forms, denials, denies-after, denies-tag, Begins, begun, closes-in, reads-follow, ◌▹ʳ◌, reads-list1_until, apart-where, denies-behind}
 use Rattle.imap_grammar.proofs.ReadingLists.{takes-text}
-use Rattle.imap_grammar.proofs.Spelling.{◌⨾ˢ◌, ◌▹ˢ◌, ◌◃ˢ◌, ◌orˢ◌, spells-gives, spells-wider, spells-where, spells-names, spells-nothing, spells-word, spells-tag, spells-maybe, spells-maybe_space, spells-list1}
+use Rattle.imap_grammar.proofs.Spelling.{◌⨾ˢ◌, ◌▹ˢ◌, ◌◃ˢ◌, ◌orˢ◌, spells-gives, spells-wider, spells-where, spells-names, spells-nothing, spells-word, spells-tag, spells-maybe, spells-maybe_space, some-between, spells-list1}
 use Rattle.imap_grammar.proofs.ReadingChoices.{reads-later_one}
 use Rattle.imap_bytes.specs.Numbers.{digits, number}
 use Rattle.imap_bytes.proofs.ReadingTexts.{not_digit, reads-number}
@@ -158,7 +158,7 @@ reads_section =
 
 header_names_spell : Spells (otherwise header_names tt) (λ _. spells_header_names)
 unfolding header_names
-header_names_spell = spells-gives _ (spells-wider (spells-list1 (spells-tag " ") spells-astring) (λ v c h. (v, h))) orˢ spells-nothing tt ([], refl)
+header_names_spell = spells-gives _ (spells-wider (spells-list1 (spells-tag " ") spells-astring) (λ v c h. (v, some-between _ _ v c h))) orˢ spells-nothing tt ([], refl)
 
 header_list_spells : Spells header_list (λ _. spells_header_list)
 unfolding header_list

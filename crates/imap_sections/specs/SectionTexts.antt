@@ -3,7 +3,7 @@ use Rattle.std.specs.Prelude.{ℕ, ◌⊎◌, List, [], Option, None, Some}
 use Rattle.imap_grammar.specs.Text.{Bytes}
 use Rattle.imap_grammar.specs.Pieces.{Pieces, ◌then◌, words, number_text, separated}
 use Rattle.imap_grammar.specs.ReadBack.{Texts}
-use Rattle.imap_grammar.specs.Spelling.{this, exactly, in_any_case, ◌and◌, maybe, with_between, spells_number, spells_astring}
+use Rattle.imap_grammar.specs.Spelling.{this, exactly, in_any_case, ◌and◌, maybe, some_with_between, with_between, spells_number, spells_astring}
 use Rattle.imap_sections.specs.declared.types.sections.MessageSection.{MessageSection}
 use Rattle.imap_sections.specs.declared.types.sections.MessageSection.TheVariants.{Header, Mime, Text}
 use Rattle.imap_sections.specs.SectionValues.{PathValue, Full, Part}
@@ -57,7 +57,7 @@ spells_text Mime = in_any_case "MIME"
 spells_text Text = in_any_case "TEXT"
 
 abbrev pub spells_part : List ℕ → Texts
-spells_part = with_between (exactly ".") spells_number
+spells_part = some_with_between (exactly ".") spells_number
 
 abbrev pub spells_text_behind : Option MessageSection → Texts
 spells_text_behind None = this []

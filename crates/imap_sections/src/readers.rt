@@ -1,6 +1,6 @@
 //! Readers of slices, each of the rule of its name.
 //!
-//! Each answers `Error` where its rule denies what stands there, whatever follows; `Incomplete` where more bytes are needed
-//! to tell; and `Failure` only where memory ran out.
+//! Each answers `Error` where its rule denies what stands there, whatever follows; `Incomplete` where more bytes are
+//! needed to tell; and `Failure` only where memory ran out.
 
 pub mod sections;

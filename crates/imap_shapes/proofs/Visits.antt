@@ -1,8 +1,7 @@
 -- What a search goes over.
 use Rattle.std.proofs.Common.{◌≡◌, ℕ, List, [], ◌∷◌, refl, sym, ap, ◌∙◌, subst, map, Vec, Global, Bool, true, false, ◌||◌, nat_lt, Option, Some, drop, inl, inr, ◌+◌, ◌<◌, ◌≤◌, suc, length, get_or, arith}
-use Rattle.std.proofs.Math.Seq.{drop-cons}
 use Rattle.std.proofs.lemmas.Bool.{lt-ltb, le-ltb}
-use Rattle.std.proofs.lemmas.List.{drop_all}
+use Rattle.std.proofs.lemmas.List.{drop_all, drop_more}
 use Rattle.std.specs.declared.borrow.CowStr.{CowStr}
 use Rattle.std.specs.declared.borrow.CowSlice.{CowSlice}
 use Rattle.imap_grammar.specs.Text.{text_of}
@@ -24,10 +23,7 @@ Body = BodyStructure (CowStr Global) (CowSlice ℕ Global)
 module _ {X : Type 0} (answers : X → Bool → Type 0) (path : X → List ℕ) (whole xs : List X) (i : ℕ) (inside : i < length xs) (x : X) (is : x ≡ get_or xs i x) where
   -- the part at hand is the first of those that are left
   here : drop i xs ≡ x ∷ drop (i + 1) xs
-  here = drop-cons xs i x inside ∙ ap (λ y. y ∷ drop (suc i) xs) (sym is) ∙ next
-    where
-      next : x ∷ drop (suc i) xs ≡ x ∷ drop (i + 1) xs
-      next = let e : suc i ≡ i + 1 = omega arith in ap (λ k. x ∷ drop k xs) e
+  here = drop_more xs i x inside ∙ ap (λ y. y ∷ drop (i + 1) xs) (sym is)
 
   pub found_here : ((r : Option (List ℕ)) → FindsFirst answers path (drop i xs) r → FindsFirst answers path whole r) → (r : Option (List ℕ)) → answers x true → r ≡ Some (path x) → FindsFirst answers path whole r
   found_here so_far r holds eq = so_far r (subst (λ l. FindsFirst answers path l r) (sym here) (inl (holds, eq)))
@@ -52,10 +48,7 @@ too_many_multipart b common v last is = rw (is, multipart_seen text_of bytes_of 
 
 -- the next body of those that are left
 pub opened : (xs : List Body) (k : ℕ) (x : Body) → k < length xs → x ≡ get_or xs k x → bodies_of (map (body_seen text_of bytes_of) (drop k xs)) ≡ one_body (body_seen text_of bytes_of x) (bodies_of (map (body_seen text_of bytes_of) (drop (k + 1) xs)))
-opened xs k x less is = ap (λ l. bodies_of (map seen l)) (drop-cons xs k x less ∙ ap (λ y. y ∷ drop (suc k) xs) (sym is) ∙ next)
-  where
-    next : x ∷ drop (suc k) xs ≡ x ∷ drop (k + 1) xs
-    next = let e : suc k ≡ k + 1 = omega arith in ap (λ n. x ∷ drop n xs) e
+opened xs k x less is = ap (λ l. bodies_of (map seen l)) (drop_more xs k x less ∙ ap (λ y. y ∷ drop (k + 1) xs) (sym is))
 
 pub many_here : (xs : List Body) (k : ℕ) (x : Body) → k < length xs → x ≡ get_or xs k x → too_many (body_seen text_of bytes_of x) ≡ true → too_many_in (bodies_of (map (body_seen text_of bytes_of) (drop k xs))) ≡ true
 many_here xs k x less is h = ap too_many_in (opened xs k x less is) ∙ ap (λ b. b || too_many_in (bodies_of (map seen (drop (k + 1) xs)))) h

@@ -5,7 +5,7 @@ use Rattle.imap_grammar.specs.Rule.{Rule, meaning}
 use Rattle.imap_grammar.specs.Text.{Bytes}
 use Rattle.imap_grammar.specs.Pieces.{Pieces, written, space, ◌then◌, each}
 use Rattle.imap_grammar.specs.ReadBack.{ReadsBack, Spells, SpellsAndReadsBack, Apart, Any, Closes}
-use Rattle.imap_grammar.specs.Spelling.{each_of}
+use Rattle.imap_grammar.specs.Spelling.{each_of, some_each_of}
 use Rattle.imap_grammar.proofs.Reading.{first, reads-seq, reads-gives, reads-same, reads-never, reads-before, reads-some1, reads-follow, apart-gives, apart-alt, denies-gives, denials, denies-after, denies-tag, Begins, begun, ◌⨾ʳ◌, ◌▹ʳ◌}
 use Rattle.imap_grammar.proofs.ReadingLists.{takes-text, takes-word}
 use Rattle.imap_grammar.proofs.Spelling.{◌⨾ˢ◌, ◌▹ˢ◌, ◌◃ˢ◌, ◌orˢ◌, spells-gives, spells-wider, spells-never, spells-word, spells-tag, spells-some1}
@@ -16,7 +16,7 @@ use Rattle.imap_bytes.proofs.SpellingTexts.{spells-number, spells-string_utf8}
 use Rattle.imap_shapes.specs.BodyValues.{BodyValue, Multipart, Bodies, one_body, bodies_of}
 use Rattle.imap_shapes.specs.Lent.{lent_body, lent_bodies}
 use Rattle.imap_structure.specs.Bodies.{text_of_parts, message_of, basic_of, multipart_of, body_type_text, message_word, body_type_msg, body_type_basic, some_bodies, body_type_mpart, body_type, bracketed_body, body, body_structure}
-use Rattle.imap_structure.specs.BodyTexts.{canonical_inside, canonical_each, canonical_body, spells_inside, spells_each, spells_body}
+use Rattle.imap_structure.specs.BodyTexts.{canonical_inside, canonical_each, canonical_body, spells_inside, spells_bodies, spells_each, spells_body}
 use Rattle.imap_envelopes.proofs.EnvelopeTexts.{reads_spaced, spaced_spells, reads_envelope, envelope_spells}
 use Rattle.imap_structure.proofs.FieldTexts.{reads_fields, fields_spell}
 use Rattle.imap_structure.proofs.ExtensionTexts.{reads_ext_1part, reads_ext_mpart, ext_1part_spells, ext_mpart_spells}
@@ -34,6 +34,10 @@ lent_each (b ∷ bs) = ap (λ x. one_body (lent_body b) x) (lent_each bs)
 each_spells : (bs : List BodyValue) (c : Bytes) → each_of spells_body bs c → spells_each (bodies_of bs) c
 each_spells [] c h = h
 each_spells (b ∷ bs) c (x, y, cut, here, others) = (x, y, cut, here, each_spells bs y others)
+
+bodies_spell : (bs : List BodyValue) (c : Bytes) → some_each_of spells_body bs c → spells_bodies (bodies_of bs) c
+bodies_spell [] c h = h
+bodies_spell (b ∷ bs) c (x, y, cut, here, others) = (x, y, cut, here, each_spells bs y others)
 
 -- ---- each type
 
@@ -98,7 +102,7 @@ module _ {inner : Rule BodyValue} where
   multipart_spells : Spells inner spells_body → Spells (body_type_mpart inner) spells_inside
   unfolding body_type_mpart some_bodies
   multipart_spells h =
-      spells-gives multipart_of (spells-wider (spells-wider (spells-some1 h) each_spells ⨾ˢ spaced_spells spells-string_utf8 ⨾ˢ ext_mpart_spells) (λ v c h. (refl, h)))
+      spells-gives multipart_of (spells-wider (spells-wider (spells-some1 h) bodies_spell ⨾ˢ spaced_spells spells-string_utf8 ⨾ˢ ext_mpart_spells) (λ v c h. (refl, h)))
 
 -- ---- which type it is
 

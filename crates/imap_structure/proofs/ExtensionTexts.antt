@@ -8,7 +8,7 @@ use Rattle.imap_grammar.specs.Text.{Bytes, Text, lent_text}
 use Rattle.imap_grammar.specs.Tags.{sp}
 use Rattle.imap_grammar.specs.Pieces.{Pieces, Fits, written, words, space, ◌then◌, each, separated, ntext, literal_text, list_text}
 use Rattle.imap_grammar.specs.ReadBack.{Texts, ReadsBack, Spells, SpellsAndReadsBack, Apart, Any, BeginsWith, Closes}
-use Rattle.imap_grammar.specs.Spelling.{exactly, ◌and◌, each_of, with_between, spells_ntext}
+use Rattle.imap_grammar.specs.Spelling.{exactly, ◌and◌, each_of, some_with_between, spells_ntext}
 use Rattle.imap_grammar.proofs.Reading.{reads-alt, reads-gives, reads-same, reads-never, reads-opt, reads-follow, apart-gives, apart-alt, denials, denies-gives, denies-after, closes-in, after-on, tag-on, gives-has, gives-on, written_on, ◌⨾ʳ◌, ◌▹ʳ◌, ◌◃ʳ◌}
 use Rattle.imap_grammar.proofs.ReadingLists.{reads-nonempty_list_of, takes-text, list_on_one}
 use Rattle.imap_grammar.proofs.Spelling.{◌⨾ˢ◌, ◌▹ˢ◌, ◌◃ˢ◌, ◌orˢ◌, spells-gives, spells-wider, spells-never, spells-nothing, spells-tag, spells-nonempty_list_of}
@@ -150,7 +150,7 @@ further_spell : (es : List ExtensionValue) (c : Bytes) → each_of (λ e. exactl
 further_spell [] c h = h
 further_spell (e ∷ es) c (a, b, cut, here, others) = (a, b, cut, here, further_spell es b others)
 
-members_spell : (es : List ExtensionValue) (c : Bytes) → with_between (exactly " ") spells_extension es c → spells_members (extensions_of es) c
+members_spell : (es : List ExtensionValue) (c : Bytes) → some_with_between (exactly " ") spells_extension es c → spells_members (extensions_of es) c
 members_spell [] c h = h
 members_spell (e ∷ es) c (a, b, cut, here, others) = (a, b, cut, here, further_spell es b others)
 

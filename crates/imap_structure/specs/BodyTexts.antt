@@ -76,7 +76,11 @@ abbrev mutual
       (in_any_case "\"MESSAGE\" \"RFC822\"" and behind_space (spells_fields (fields_in common single)) and behind_space (spells_envelope envelope)
       and behind_space (spelt_in_brackets (spells_inside body)) and behind_space (spells_number lines) and spells_ext_1part (ext_1part_in common single last)))
   spells_inside (Multipart common bodies last) =
-      of_type common.ty.ty "MULTIPART" (spells_each bodies and behind_space (spells_string_text common.ty.subtype) and spells_ext_mpart (ext_mpart_in common last))
+      of_type common.ty.ty "MULTIPART" (spells_bodies bodies and behind_space (spells_string_text common.ty.subtype) and spells_ext_mpart (ext_mpart_in common last))
+
+  pub spells_bodies : Bodies → Texts
+  spells_bodies no_bodies = λ c. ⊥
+  spells_bodies (one_body b bs) = spelt_in_brackets (spells_inside b) and spells_each bs
 
   pub spells_each : Bodies → Texts
   spells_each no_bodies = this []

@@ -68,7 +68,7 @@ abbrev mutual
   spells_extension (Listed members) = exactly "(" and spells_members members and blanks and exactly ")"
 
   pub spells_members : Extensions → Texts
-  spells_members no_extensions = this []
+  spells_members no_extensions = λ c. ⊥
   spells_members (one_extension e es) = spells_extension e and spells_further es
 
   pub spells_further : Extensions → Texts

@@ -3,8 +3,8 @@
 //! Each reads m from p on, and answers the position after what it read. p must be at most m's length; where `keep`
 //! holds a message, that must be m.
 //!
-//! Each answers `Error` where its rule denies what stands there, whatever follows; `Incomplete` where more bytes are needed
-//! to tell; and `Failure` only where memory ran out.
+//! Each answers `Error` where its rule denies what stands there, whatever follows; `Incomplete` where more bytes are
+//! needed to tell; and `Failure` only where memory ran out.
 
 pub mod bodies;
 pub mod extensions;

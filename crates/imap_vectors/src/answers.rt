@@ -103,7 +103,8 @@ fn assert_rows(rt: &impl Abort, alloc: Global, rows: Rows) {
     }
 }
 
-/// Asserts that `Response::parse` answers each line of the tables as its row says, and that the line may be cut anywhere.
+/// Asserts that `Response::parse` answers each line of the tables as its row says, and that the line may be cut
+/// anywhere.
 pub fn assert_lines(rt: &impl Abort, alloc: Global, tables: &[Rows]) {
     for rows in tables {
         assert_rows(rt, alloc, *rows);

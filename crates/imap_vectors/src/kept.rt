@@ -1,4 +1,5 @@
-//! Fetches that are kept, and attributes as positions: what they tell of their message, and of another one in its place.
+//! Fetches that are kept, and attributes as positions: what they tell of their message, and of another one in its
+//! place.
 
 use crate::answers::{NOTHING, Rows, assert_row, parses, says, says_at, told};
 use crate::{codes, extensions, fetches, mailboxes, statuses};

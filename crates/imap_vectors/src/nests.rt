@@ -1,4 +1,5 @@
-//! Bodies and extension lists inside one another, up to the deepest that are read and one further: by the readers, and in lines.
+//! Bodies and extension lists inside one another, up to the deepest that are read and one further: by the readers,
+//! and in lines.
 
 use crate::answers::{says, told};
 use crate::kept::is_kept;
@@ -133,12 +134,12 @@ const LINES: [(&[u8], &Nest, &[u8]); 3] = [
     (BEFORE_LISTS_IN_LINE, &LISTS, b"))\r\n"),
 ];
 
-// Lines up to this length are cut. A longer one, of a hundred messages inside one another, is not: each cut reads the line anew, so
-// its time grows with the square of its length.
+// Lines up to this length are cut. A longer one, of a hundred messages inside one another, is not: each cut reads the
+// line anew, so its time grows with the square of its length.
 const CUT: usize = 1000;
 
-// Whether the parsing of a line ends so, what is kept of the line and what is made owned are told as what is parsed, and a short
-// line may be cut anywhere.
+// Whether the parsing of a line ends so, what is kept of the line and what is made owned are told as what is parsed,
+// and a short line may be cut anywhere.
 fn line_ends(alloc: Global, line: &[u8], want: Ending) -> Result<bool, AllocError> {
     let parsed = told(alloc, Response::parse(alloc, line))?;
     Ok(
@@ -162,7 +163,8 @@ fn assert_nested(
     Ok(())
 }
 
-// A body that nests too deep is tried as an unknown attribute, which ends at the first closing bracket: so the line is denied.
+// A body that nests too deep is tried as an unknown attribute, which ends at the first closing bracket: so the line
+// is denied.
 #[test]
 fn nesting_in_lines(rt: HostRuntime) -> Result<(), Fail> {
     for (levels, want) in DEPTHS {

@@ -62,6 +62,9 @@ const NESTED: &[u8] =
 const BETWEEN: &[u8] =
     b"((\"A\" \"B\" NIL NIL NIL NIL 1)((\"A\" \"B\" NIL NIL NIL NIL 2)(\"A\" \"B\" NIL NIL NIL NIL 3) \"M\")(\"A\" \"B\" NIL NIL NIL NIL 4) \"M\")";
 
+const MIXED: &[u8] =
+    b"((\"TEXT\" \"PLAIN\" NIL NIL NIL \"7BIT\" 5 1)(\"IMAGE\" \"PNG\" NIL NIL NIL \"BASE64\" 9) \"MIXED\")";
+
 const MESSAGE: &[u8] =
     b"(\"MESSAGE\" \"RFC822\" NIL NIL NIL NIL 9 (NIL NIL NIL NIL NIL NIL NIL NIL NIL NIL) (\"TEXT\" \"B\" NIL NIL NIL NIL 3 1) 4)";
 
@@ -76,6 +79,8 @@ static SEARCHES: &[(&[u8], Sought, &str)] = &[
     (NESTED, Sought::Any, "Some([])"),
     (BETWEEN, Sought::Octets(2), "Some([2, 1])"),
     (BETWEEN, Sought::Octets(4), "Some([3])"),
+    (MIXED, Sought::Text, "Some([1])"),
+    (MIXED, Sought::Basic, "Some([2])"),
     (MESSAGE, Sought::Text, "None"),
     (MESSAGE, Sought::Octets(9), "Some([])"),
 ];

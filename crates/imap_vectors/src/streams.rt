@@ -107,7 +107,8 @@ fn do_beginnings_wait(alloc: Global, line: &[u8]) -> bool {
     }
 }
 
-/// Whether it is the same how a line is cut: one byte at a time gives what it gives, and what stands before its end waits.
+/// Whether it is the same how a line is cut: one byte at a time gives what it gives, and what stands before its end
+/// waits.
 pub fn may_be_cut(alloc: Global, line: &[u8]) -> bool {
     match is_same_in_bytes(alloc, line) {
         Ok(is_same) => is_same && do_beginnings_wait(alloc, line),

@@ -1,7 +1,6 @@
 //! Attributes of a message at a position: what is kept of their strings.
 
-ghost use Rattle.std.specs.Prelude.{◌≡◌, ◌≤◌, ◌<◌, length, drop, position, IfSome};
-ghost use Rattle.imap_grammar.specs.Meaning.{outside};
+ghost use Rattle.std.specs.Prelude.{◌≤◌, length, drop};
 ghost use Rattle.imap_grammar.specs.Positions.{ExactlyAt, GivesAt, Ahead, Inside, named_in};
 ghost use Rattle.imap_grammar.specs.Rule.{opt, run0, run1};
 ghost use Rattle.imap_grammar.specs.Step.{step};
@@ -22,6 +21,7 @@ use imap_envelopes::Keep;
 use imap_envelopes::at::envelopes::envelope;
 use imap_envelopes::at::texts::{byte_string, spaced_byte_string, string_text};
 use imap_envelopes::kept::kept_bytes;
+use imap_grammar::scanning::{Class, run_end};
 use imap_items::at::{gmail_msgid, gmail_thrid};
 use imap_sections::at::sections::section;
 use imap_shapes::made;
@@ -381,17 +381,14 @@ fn msg_att_thread_id<K: KeepAttribute>(keep: &K, m: &[u8], p: usize) -> Attribut
 }
 
 // Any byte but `)`.
-fn is_inside(c: u8) -> bool
-    ensures { result ≡ rules.is_inside c }
-{
-    c != b')'
-}
+struct InsideChar;
 
-fn inside_end(i: &[u8]) -> Option<usize>
-    ensures at { result ≡ position (outside rules.is_inside) i.now }
-    ensures within { IfSome result (λ n. n < length i.now) }
-{
-    i.iter().position(|c| !is_inside(*c))
+impl Class for InsideChar {
+    ghost class = { rules.is_inside };
+
+    fn has(c: u8) -> bool {
+        c != b')'
+    }
 }
 
 fn inside(m: &[u8], p: usize) -> Reached<Span>
@@ -400,21 +397,18 @@ fn inside(m: &[u8], p: usize) -> Reached<Span>
     ensures inside { Inside m.now p result }
 {
     let (_, i) = m.split_at(p);
-    cut0(inside_end(i), m, p)
+    cut0(run_end::<InsideChar>(i), m, p)
 }
 
 // Any byte but a space and `)`.
-fn is_bare(c: u8) -> bool
-    ensures { result ≡ rules.is_bare c }
-{
-    c != b' ' && c != b')'
-}
+struct BareChar;
 
-fn bare_end(i: &[u8]) -> Option<usize>
-    ensures at { result ≡ position (outside rules.is_bare) i.now }
-    ensures within { IfSome result (λ n. n < length i.now) }
-{
-    i.iter().position(|c| !is_bare(*c))
+impl Class for BareChar {
+    ghost class = { rules.is_bare };
+
+    fn has(c: u8) -> bool {
+        c != b' ' && c != b')'
+    }
 }
 
 fn bare(m: &[u8], p: usize) -> Reached<Span>
@@ -423,7 +417,7 @@ fn bare(m: &[u8], p: usize) -> Reached<Span>
     ensures inside { Inside m.now p result }
 {
     let (_, i) = m.split_at(p);
-    cut1(bare_end(i), m, p)
+    cut1(run_end::<BareChar>(i), m, p)
 }
 
 #[tactic(auto, unfolding(crate::specs::Attributes::skipped_brackets))]

@@ -21,7 +21,8 @@ fn digits_end(i: &[u8]) -> Option<usize>
     i.iter().position(|c| !is_digit(*c))
 }
 
-// What a digit stands for; of another byte it is more than 9. All of it is in 64 bits, so that no step of the loop below widens a byte.
+// What a digit stands for; of another byte it is more than 9. All of it is in 64 bits, so that no step of the loop
+// below widens a byte.
 fn digit_value(b: u8) -> u64
     ensures digit { classes.is_digit b ≡ true → (result ≤ 9) × (result ≡ b - 48) }
     ensures other { classes.is_digit b ≡ false → 9 < result }
@@ -51,9 +52,11 @@ fn many_digits_in_front(i: &[u8]) -> Option<(usize, Option<u32>)>
     None
 }
 
-// How many digits stand in front, and the number that they write, if 32 bits hold it. `None` where nothing follows them.
+// How many digits stand in front, and the number that they write, if 32 bits hold it. `None` where nothing follows
+// them.
 //
-// Eleven digits are read with no look at the size of their number, since 64 bits hold any of so many: the compiler writes these turns out one by one.
+// Eleven digits are read with no look at the size of their number, since 64 bits hold any of so many: the compiler
+// writes these turns out one by one.
 #[inline(always)]
 fn digits_in_front(i: &[u8]) -> Option<(usize, Option<u32>)>
     ensures at { DigitsInFront (2 ^ 32) i.now result }
@@ -81,7 +84,8 @@ fn with_digit(number: u64, byte: u8) -> Option<u64>
         .checked_add(u64::from(byte.saturating_sub(b'0')))
 }
 
-// How many digits stand in front, and the number that they write, if 64 bits hold it. `None` where nothing follows them.
+// How many digits stand in front, and the number that they write, if 64 bits hold it. `None` where nothing follows
+// them.
 fn digits_in_front_64(i: &[u8]) -> Option<(usize, Option<u64>)>
     ensures at { DigitsInFront (2 ^ 64) i.now result }
     ensures within { IfSome result (λ x. x.0 < length i.now) }
@@ -103,7 +107,8 @@ fn digits_in_front_64(i: &[u8]) -> Option<(usize, Option<u64>)>
 
 /// A number below 2^32, leading zeros allowed (RFC 3501, section 9: number). No memory.
 ///
-/// It is judged behind the byte that ends its digits: a larger one is `Error`, digits up to the end of the message wait.
+/// It is judged behind the byte that ends its digits: a larger one is `Error`, digits up to the end of the message
+/// wait.
 #[tactic(auto, using(imap_grammar::proofs::Agreement::exact_answered_at))]
 #[inline(always)]
 pub fn number(m: &[u8], p: usize) -> Reached<u32>

@@ -48,7 +48,7 @@ fn range_end(m: &[u8], p: usize) -> Reached<u32>
 /// A range, or a number n as n..=n (RFC 3501, section 9: sequence-set, without `*`). No memory.
 ///
 /// It ends before a colon behind which `number` denies. A number past 32 bits in front is `Error`.
-pub fn sequence_item(m: &[u8], p: usize) -> Reached<RangeInclusive<u32>>
+pub(crate) fn sequence_item(m: &[u8], p: usize) -> Reached<RangeInclusive<u32>>
     requires { p ≤ length m.now }
     ensures steps { ExactlyAt (λ x. range_of x) m.now result (step sets.sequence_item (drop p m.now)) }
     ensures ahead { Ahead m.now p result }

@@ -263,8 +263,8 @@ pub fn atom_chars0(m: &[u8], p: usize) -> Reached<Span>
     cut0(run_end::<AtomChar>(i), m, p)
 }
 
-/// At least one atom-char (RFC 3501, section 9: ATOM-CHAR). No memory.
-pub fn atom_chars(m: &[u8], p: usize) -> Reached<Span>
+// At least one atom-char (RFC 3501, section 9: ATOM-CHAR).
+fn atom_chars(m: &[u8], p: usize) -> Reached<Span>
     requires { p ≤ length m.now }
     ensures steps { ExactlyAt (λ x. named_in m.now x) m.now result (step (run1 classes.is_atom_char) (drop p m.now)) }
     ensures inside { Inside m.now p result }

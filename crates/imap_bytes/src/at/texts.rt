@@ -15,7 +15,7 @@ use imap_grammar::at::tags::cut0;
 use imap_grammar::scanning::{TextChar, long_run_end};
 
 /// Text-chars, maybe none (RFC 3501, section 9: TEXT-CHAR). No memory.
-pub fn text_chars(m: &[u8], p: usize) -> Reached<Span>
+pub(crate) fn text_chars(m: &[u8], p: usize) -> Reached<Span>
     requires { p ≤ length m.now }
     ensures steps { ExactlyAt (λ x. named_in m.now x) m.now result (step (run0 classes.is_text_char) (drop p m.now)) }
     ensures inside { Inside m.now p result }

@@ -23,8 +23,8 @@ impl FetchCommand<Messages> {
         Ok(args)
     }
 
-    /// Asks for one more message (RFC 3501, section 6.4.5). It takes memory; `Err`: memory ran
-    /// out.
+    /// Asks for one more message, by its number or, behind `uid_fetch`, by its UID (RFC 3501, sections
+    /// 6.4.5 and 6.4.8). It takes memory; `Err`: memory ran out.
     pub fn num(self, number: u32) -> Result<FetchCommand<Messages>, AllocError>
         ensures { IfOk result (λ command. (calls : List Call) → stage calls ≡ messages
             → self ≡ begun calls → command ≡ begun (call.num number ∷ calls)) }
@@ -34,8 +34,8 @@ impl FetchCommand<Messages> {
         Ok(FetchCommand::with_text(args))
     }
 
-    /// Asks for one more range of messages (RFC 3501, section 6.4.5). It takes memory; `Err`: memory
-    /// ran out.
+    /// Asks for one more range of messages, of numbers or, behind `uid_fetch`, of UIDs (RFC 3501,
+    /// sections 6.4.5 and 6.4.8). It takes memory; `Err`: memory ran out.
     pub fn range(self, range: RangeInclusive<u32>) -> Result<FetchCommand<Messages>, AllocError>
         ensures { IfOk result (λ command. (calls : List Call) → stage calls ≡ messages
             → self ≡ begun calls → command
@@ -46,8 +46,8 @@ impl FetchCommand<Messages> {
         Ok(FetchCommand::with_text(args))
     }
 
-    /// Asks also for the messages from a number on (RFC 3501, section 6.4.5). It takes memory;
-    /// `Err`: memory ran out.
+    /// Asks also for the messages from a number on, behind `uid_fetch` from a UID on (RFC 3501, sections
+    /// 6.4.5 and 6.4.8). It takes memory; `Err`: memory ran out.
     pub fn range_from(self, range: RangeFrom<u32>) -> Result<FetchCommand<Messages>, AllocError>
         ensures { IfOk result (λ command. (calls : List Call) → stage calls ≡ messages
             → self ≡ begun calls → command ≡ begun (call.range_from range.start ∷ calls)) }

@@ -12,9 +12,8 @@ use std::alloc::Global;
 
 /// Annotations with their values, at least one: METADATA as a response to GETMETADATA (RFC 5464, section 4.4.1).
 ///
-/// An entry's name is `/private/comment`, `/shared/comment` or `/shared/admin`, maybe with a path behind it, or a path
-/// behind `/private/vendor/` or `/shared/vendor/` (RFC 5464, section 3.2); any other is `Error`. It takes
-/// memory for the list, for each entry and value, and for a mailbox that is not UTF-8.
+/// Which names an entry may have is said at `imap_extensions::readers::annotations::annotations`; any other is `Error`.
+/// It takes memory for the list, for each entry and value, and for a mailbox that is not UTF-8.
 #[tactic(auto, using(imap_grammar::proofs::Agreement::answered), unfolding(crate::specs::Annotations::metadata_solicited))]
 pub fn metadata_solicited(alloc: Global, i: &[u8]) -> IResult<&[u8], MailboxDatum<'_>>
     ensures steps { Gives (λ x. mailbox_value x) result (step rules.metadata_solicited i.now) }
@@ -27,7 +26,8 @@ pub fn metadata_solicited(alloc: Global, i: &[u8]) -> IResult<&[u8], MailboxDatu
 
 /// Entries that changed, maybe none: METADATA that the server sends by itself (RFC 5464, section 4.4.2).
 ///
-/// It takes memory for the list, and for texts that are not UTF-8.
+/// The list ends before a name that no entry may have (`imap_extensions::readers::annotations::annotations`). It
+/// takes memory for the list, and for texts that are not UTF-8.
 #[tactic(auto, using(imap_grammar::proofs::Agreement::answered), unfolding(crate::specs::Annotations::metadata_unsolicited))]
 pub fn metadata_unsolicited(alloc: Global, i: &[u8]) -> IResult<&[u8], MailboxDatum<'_>>
     ensures steps { Gives (λ x. mailbox_value x) result (step rules.metadata_unsolicited i.now) }

@@ -241,9 +241,9 @@ fn any_code(alloc: Global, i: &[u8]) -> IResult<&[u8], ResponseCode<'_>>
 /// A code in brackets (RFC 3501, section 9: resp-text-code; RFC 4551, section 4: resp-text-code; RFC 4315, section 4:
 /// resp-code-apnd, resp-code-copy; RFC 5464, section 5: resp-text-code).
 ///
-/// A code that has no rule here, or lacks its closing bracket, is `Error`. Each range of its UIDs starts not above its end.
-/// It takes memory only after the word of a code that may hold a list:
-/// for lists, and for texts that are not UTF-8.
+/// A code that has no rule here, or lacks its closing bracket, is `Error`. Each range of its UIDs starts not above
+/// its end. It takes memory only after the word of a code that may hold a list: for lists, and for texts that are not
+/// UTF-8.
 #[tactic(auto, using(imap_grammar::proofs::Agreement::answered), unfolding(crate::specs::Codes::response_code))]
 pub fn response_code(alloc: Global, i: &[u8]) -> IResult<&[u8], ResponseCode<'_>>
     ensures steps { Gives (λ x. code_value x) result (step codes.response_code i.now) }

@@ -160,8 +160,8 @@ fn datum(alloc: Global, i: &[u8]) -> IResult<&[u8], MailboxDatum<'_>>
     }
 }
 
-/// Data of a mailbox: `FLAGS`, `EXISTS`, `LIST`, `LSUB`, `STATUS`, `RECENT`, `SEARCH`, `SORT` and Gmail's items, words in any case
-/// (RFC 3501, section 9: mailbox-data; RFC 5256, section 5: sort-data; Gmail's X-GM-EXT-1).
+/// Data of a mailbox: `FLAGS`, `EXISTS`, `LIST`, `LSUB`, `STATUS`, `RECENT`, `SEARCH`, `SORT` and Gmail's items,
+/// words in any case (RFC 3501, section 9: mailbox-data; RFC 5256, section 5: sort-data; Gmail's X-GM-EXT-1).
 ///
 /// Its lists take memory, and texts only for bytes that are not UTF-8. A datum that is one number takes none.
 #[tactic(auto, using(imap_grammar::proofs::Agreement::answered))]

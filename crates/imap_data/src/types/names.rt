@@ -45,9 +45,11 @@ pub enum NameAttribute<'a> {
 pub struct MailboxListData<'a> {
     /// The attributes of its name, in the order of the line.
     pub name_attributes: Vec<NameAttribute<'a>>,
-    /// The hierarchy delimiter: raw content of a quoted string, whose backslashes stay, so that a backslash is told as two. `None` is `NIL`: the names are flat.
+    /// The hierarchy delimiter: raw content of a quoted string, whose backslashes stay, so that a backslash is told
+    /// as two. `None` is `NIL`: the names are flat.
     pub delimiter: Option<CowStr<'a>>,
-    /// The name, raw: backslashes of a quoted string stay, and modified UTF-7 (section 5.1.3) isn't decoded. INBOX in any case is `INBOX`.
+    /// The name, raw: backslashes of a quoted string stay, and modified UTF-7 (section 5.1.3) isn't decoded. INBOX in
+    /// any case is `INBOX`.
     pub name: CowStr<'a>,
 }
 

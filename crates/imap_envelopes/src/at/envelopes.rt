@@ -185,8 +185,8 @@ fn spaced_addresses<K: Keep>(
     addresses(keep, alloc, m, p)
 }
 
-// To whom a message went, and which message it is, up to the end of the envelope. A reader of its own, since one of all ten
-// fields takes longer to prove.
+// To whom a message went, and which message it is, up to the end of the envelope. A reader of its own, since one of
+// all ten fields takes longer to prove.
 #[tactic(auto, unfolding(crate::specs::Envelopes::last_fields_seen))]
 #[inline(always)]
 fn last_fields<K: Keep>(

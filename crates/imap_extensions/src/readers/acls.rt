@@ -36,7 +36,7 @@ fn acl_entries(alloc: Global, i: &[u8]) -> IResult<&[u8], Vec<AclEntry<'_>>>
     maybe_separated(alloc, Separator::Blanks, entry, i)
 }
 
-/// The rights of each identifier on a mailbox, maybe of none (RFC 4314, section 7: acl-data).
+/// `ACL`, a mailbox, and the rights of each identifier on it, maybe of none (RFC 4314, section 7: acl-data).
 ///
 /// It takes memory for them, and for texts that are not UTF-8.
 #[tactic(auto, using(imap_grammar::proofs::Agreement::answered), unfolding(crate::specs::Acls::acl))]
@@ -103,8 +103,8 @@ fn list_rights_parts(alloc: Global, i: &[u8]) -> IResult<&[u8], ListRights<'_>>
     ))
 }
 
-/// The rights that an identifier always has on a mailbox, and those that it may be granted, in order
-/// (RFC 4314, section 7: listrights-data).
+/// `LISTRIGHTS`, a mailbox, an identifier, the rights that it always has there, and those that it may be granted, in
+/// order (RFC 4314, section 7: listrights-data).
 ///
 /// It takes memory for them, and for texts that are not UTF-8.
 #[tactic(auto, using(imap_grammar::proofs::Agreement::answered))]
@@ -127,7 +127,7 @@ fn my_rights_parts(alloc: Global, i: &[u8]) -> IResult<&[u8], MyRights<'_>>
     Ok((rest, MyRights { mailbox, rights }))
 }
 
-/// The client's own rights on a mailbox (RFC 4314, section 7: myrights-data).
+/// `MYRIGHTS`, a mailbox, and the client's own rights on it (RFC 4314, section 7: myrights-data).
 ///
 /// It takes memory for them, and for texts that are not UTF-8.
 #[tactic(auto, using(imap_grammar::proofs::Agreement::answered))]

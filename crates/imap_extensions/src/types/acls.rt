@@ -21,8 +21,8 @@ pub struct AclEntry<'a> {
 /// The access control list of a mailbox: ACL (RFC 4314, section 3.6).
 #[derive(Debug, Drop, PartialEq, Eq)]
 pub struct Acl<'a> {
-    /// The mailbox's name, raw: backslashes of a quoted string stay, and modified UTF-7 isn't decoded. INBOX in any case is
-    /// `INBOX`.
+    /// The mailbox's name, raw: backslashes of a quoted string stay, and modified UTF-7 isn't decoded. INBOX in any
+    /// case is `INBOX`.
     pub mailbox: CowStr<'a>,
     /// Its entries, maybe none.
     pub acls: Vec<AclEntry<'a>>,
@@ -31,8 +31,8 @@ pub struct Acl<'a> {
 /// The rights that an identifier always has, and those that it may be granted: LISTRIGHTS (RFC 4314, section 3.7).
 #[derive(Debug, Drop, PartialEq, Eq)]
 pub struct ListRights<'a> {
-    /// The mailbox's name, raw: backslashes of a quoted string stay, and modified UTF-7 isn't decoded. INBOX in any case is
-    /// `INBOX`.
+    /// The mailbox's name, raw: backslashes of a quoted string stay, and modified UTF-7 isn't decoded. INBOX in any
+    /// case is `INBOX`.
     pub mailbox: CowStr<'a>,
     /// Whose rights these are, raw.
     pub identifier: CowStr<'a>,
@@ -45,8 +45,8 @@ pub struct ListRights<'a> {
 /// The client's own rights: MYRIGHTS (RFC 4314, section 3.8).
 #[derive(Debug, Drop, PartialEq, Eq)]
 pub struct MyRights<'a> {
-    /// The mailbox's name, raw: backslashes of a quoted string stay, and modified UTF-7 isn't decoded. INBOX in any case is
-    /// `INBOX`.
+    /// The mailbox's name, raw: backslashes of a quoted string stay, and modified UTF-7 isn't decoded. INBOX in any
+    /// case is `INBOX`.
     pub mailbox: CowStr<'a>,
     /// The rights, in the order in which their letters stand.
     pub rights: Vec<AclRight>,

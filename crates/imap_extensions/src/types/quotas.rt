@@ -43,7 +43,8 @@ pub struct Quota<'a> {
 /// The quota roots of a mailbox (RFC 2087, section 5.2).
 #[derive(Debug, Drop, PartialEq, Eq, Hash)]
 pub struct QuotaRoot<'a> {
-    /// The mailbox's name, raw: backslashes of a quoted string stay, modified UTF-7 isn't decoded, and INBOX stays as it is written.
+    /// The mailbox's name, raw: backslashes of a quoted string stay, modified UTF-7 isn't decoded, and INBOX stays as
+    /// it is written.
     pub mailbox_name: CowStr<'a>,
     /// The names of its quota roots, maybe none, raw.
     pub quota_root_names: Vec<CowStr<'a>>,

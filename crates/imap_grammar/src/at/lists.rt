@@ -1,4 +1,5 @@
-//! Lists at a position, over a reader of positions that is passed: f takes a position of m, and answers one that is not before it, and not past m's end.
+//! Lists at a position, over a reader of positions that is passed: f takes a position of m, and answers one that is
+//! not before it, and not past m's end.
 
 ghost use Rattle.std.specs.Prelude.{◌≤◌, ℕ, length, drop};
 ghost use Rattle.imap_grammar.specs.Positions.{ExactlyAt, Ahead, named_in};
@@ -14,7 +15,8 @@ use crate::at::tags::{blanks0, blanks1, maybe_space, tag};
 use crate::lists::{Separator, tried};
 use std::alloc::Global;
 
-// How many elements a list that has one gets room for: as many as most lists of a response have, so that it seldom grows.
+// How many elements a list that has one gets room for: as many as most lists of a response have, so that it seldom
+// grows.
 const ROOM: usize = 8;
 
 fn read_separator(between: Separator, m: &[u8], p: usize) -> Reached<Span>
@@ -83,8 +85,8 @@ pub fn repeated<O: Drop, F: Fn(usize) -> Reached<O>>(
 
 /// What f reads, and again behind each separator: one or more.
 ///
-/// It ends before a separator behind which f denies. f's other faults go through. f has to consume at least a byte.
-/// It takes memory for the list.
+/// It ends before a separator behind which f denies. `Error` where f denies at once; f's other faults go through. f has
+/// to consume at least a byte. It takes memory for the list.
 pub fn separated<O: Drop, F: Fn(usize) -> Reached<O>>(
     alloc: Global,
     between: Separator,
@@ -133,7 +135,8 @@ pub fn maybe_separated<O: Drop, F: Fn(usize) -> Reached<O>>(
 
 /// A list in parentheses of zero or more: what f reads, with one space between, and maybe a space before the `)`.
 ///
-/// f has to consume at least a byte. Its `Incomplete` and `Failure` go through. It takes memory for the list.
+/// `Error` where no `(` stands, or the list isn't closed where f denies. f has to consume at least a byte. Its
+/// `Incomplete` and `Failure` go through. It takes memory for the list.
 pub fn parenthesized_list<O: Drop, F: Fn(usize) -> Reached<O>>(
     alloc: Global,
     f: F,
@@ -156,7 +159,8 @@ pub fn parenthesized_list<O: Drop, F: Fn(usize) -> Reached<O>>(
 /// A list in parentheses of one or more: what f reads, with one space between, and maybe spaces and tabs before the
 /// `)`.
 ///
-/// f has to consume at least a byte. Its `Incomplete` and `Failure` go through. It takes memory for the list.
+/// `Error` where no `(` stands, f denies at once, or the list isn't closed where f denies. f has to consume at least a
+/// byte. Its `Incomplete` and `Failure` go through. It takes memory for the list.
 pub fn parenthesized_nonempty_list<O: Drop, F: Fn(usize) -> Reached<O>>(
     alloc: Global,
     f: F,
@@ -176,7 +180,8 @@ pub fn parenthesized_nonempty_list<O: Drop, F: Fn(usize) -> Reached<O>>(
     Ok((p, items))
 }
 
-/// What f reads, in parentheses. It takes no memory of its own; f's `Incomplete` and `Failure` go through.
+/// What f reads, in parentheses; `Error` where one is missing or f denies. It takes no memory of its own; f's
+/// `Incomplete` and `Failure` go through.
 pub fn paren_delimited<O: Drop, F: Fn(usize) -> Reached<O>>(f: F, m: &[u8], p: usize) -> Reached<O>
     requires start { p ≤ length m.now }
     requires may { (k : ℕ) → k ≤ length m.now → F.pre f k }
@@ -190,7 +195,8 @@ pub fn paren_delimited<O: Drop, F: Fn(usize) -> Reached<O>>(f: F, m: &[u8], p: u
     Ok((p, item))
 }
 
-/// What f reads, and `None` at this place where it denies. It takes no memory of its own; f's `Incomplete` and `Failure` go through.
+/// What f reads, and `None` at this place where it denies. It takes no memory of its own; f's `Incomplete` and
+/// `Failure` go through.
 pub fn opt_opt<O: Drop, F: Fn(usize) -> Reached<Option<O>>>(
     f: F,
     m: &[u8],

@@ -98,8 +98,8 @@ pub fn maybe_space(m: &[u8], p: usize) -> Reached<Option<Span>>
 
 /// The run of a class from p on: `end` bytes, up to where the first byte outside the class stands. No memory.
 ///
-/// `None`: no such byte is there yet, so the answer is `Incomplete`. `end`, where there is one, must be a place in m: p and
-/// `end` together are below m's length.
+/// `None`: no such byte is there yet, so the answer is `Incomplete`. `end`, where there is one, must be a place in m:
+/// p and `end` together are below m's length.
 #[tactic(auto, using(crate::proofs::Positions::stepped), unfolding(crate::specs::Step::run0_step))]
 pub fn cut0(end: Option<usize>, m: &[u8], p: usize) -> Reached<Span>
     requires { ForSome end (λ n. p + n < length m.now) }
@@ -119,8 +119,8 @@ pub fn cut0(end: Option<usize>, m: &[u8], p: usize) -> Reached<Span>
 /// The run of a class from p on, at least one byte: `end` bytes, up to where the first byte outside the class stands.
 /// No memory.
 ///
-/// An `end` of 0 is `Error`. `None`: no such byte is there yet, so the answer is `Incomplete`. `end`, where there is one,
-/// must be a place in m: p and `end` together are below m's length.
+/// An `end` of 0 is `Error`. `None`: no such byte is there yet, so the answer is `Incomplete`. `end`, where there is
+/// one, must be a place in m: p and `end` together are below m's length.
 pub fn cut1(end: Option<usize>, m: &[u8], p: usize) -> Reached<Span>
     requires { ForSome end (λ n. p + n < length m.now) }
     ensures steps { (class : ℕ → Bool) → end ≡ position (outside class) (drop p m.now) → ExactlyAt (λ x. named_in m.now x) m.now result (step (run1 class) (drop p m.now)) }

@@ -101,7 +101,7 @@ pub fn capability_data(alloc: Global, i: &[u8]) -> IResult<&[u8], Vec<Capability
     with_revision(alloc, i)
 }
 
-/// `ENABLED` and the names of capabilities, each as it stands, maybe none (RFC 5161, section 4: response-data).
+/// `ENABLED` and the names of capabilities, each as it stands, maybe none (RFC 5161, section 4: enable-data).
 ///
 /// Any other word is `Error`. It takes memory for the list.
 #[tactic(auto, using(imap_grammar::proofs::Agreement::answered), unfolding(crate::specs::Capabilities::enabled_data))]

@@ -59,7 +59,7 @@ pub fn flag_perm(i: &[u8]) -> IResult<&[u8], &str>
 /// Bytes that are not UTF-8 are `Error`.
 #[tactic(auto, using(imap_grammar::proofs::Agreement::exact_answered), unfolding(crate::specs::Flags::flag_text))]
 #[inline(always)]
-pub fn flag_text(i: &[u8]) -> IResult<&[u8], CowStr<'_>>
+pub(crate) fn flag_text(i: &[u8]) -> IResult<&[u8], CowStr<'_>>
     ensures steps { Exactly (λ x. text_of x) result (step flags.flag_text i.now) }
     ensures answer { Answers flags.flag_text (λ x. text_of x) i.now result }
     ensures no_failure { NeverFails result }

@@ -43,8 +43,8 @@ fn labels(alloc: Global, i: &[u8]) -> IResult<&[u8], Vec<CowStr<'_>>>
 
 /// `X-GM-LABELS` and the labels of a message in parentheses, maybe none (Gmail's X-GM-EXT-1).
 ///
-/// A label that is neither a flag nor a quoted string is `Error`. It takes memory only behind that word: for the list, and
-/// for texts that are not UTF-8.
+/// A label that is neither a flag nor a quoted string is `Error`. It takes memory only behind that word: for the
+/// list, and for texts that are not UTF-8.
 #[tactic(auto, using(imap_grammar::proofs::Agreement::answered))]
 pub fn gmail_label_list(alloc: Global, i: &[u8]) -> IResult<&[u8], Vec<CowStr<'_>>>
     ensures steps { Gives (λ x. map text_of x.items) result (step rules.gmail_label_list i.now) }

@@ -18,7 +18,8 @@ fn rights_in(alloc: Global, text: &str) -> Result<Vec<AclRight>, AllocError>
 
 /// The rights that the characters of an astring name, in order (RFC 4314, section 7: rights).
 ///
-/// What is no astring is `Error`; each character is a right. It takes memory for them, and for a text that is not UTF-8.
+/// What is no astring is `Error`; each character is a right. It takes memory for them, and for a text that is not
+/// UTF-8.
 #[tactic(auto, using(imap_grammar::proofs::Agreement::answered), unfolding(crate::specs::Rights::rights))]
 pub fn rights(alloc: Global, i: &[u8]) -> IResult<&[u8], Vec<AclRight>>
     ensures steps { Gives (λ x. x.items) result (step rule.rights i.now) }

@@ -142,7 +142,8 @@ fn mime(m: &[u8], p: usize) -> Reached<MessageSection>
     Ok((p, MessageSection::Mime))
 }
 
-/// What of a message is meant (RFC 3501, section 9: section-msgtext). No memory: names of header fields are read and dropped.
+/// What of a message is meant (RFC 3501, section 9: section-msgtext). No memory: names of header fields are read and
+/// dropped.
 #[tactic(auto, using(imap_grammar::proofs::Memory::exactly_never_at, crate::proofs::SectionFirstBytes::msgtext_none, crate::proofs::SectionFirstBytes::msgtext_is_header, crate::proofs::SectionFirstBytes::msgtext_is_text, crate::proofs::SectionFirstBytes::msgtext_other))]
 #[inline(always)]
 pub fn section_msgtext(m: &[u8], p: usize) -> Reached<MessageSection>
@@ -226,7 +227,8 @@ fn part_path(alloc: Global, m: &[u8], p: usize) -> Reached<SectionPath>
     Ok((p, SectionPath::Part(numbers, what)))
 }
 
-/// What of a message is meant, or of which part (RFC 3501, section 9: section-spec). It takes memory for the path of a part.
+/// What of a message is meant, or of which part (RFC 3501, section 9: section-spec). It takes memory for the path of
+/// a part.
 #[tactic(auto, unfolding(crate::specs::Sections::section_spec))]
 pub fn section_spec(alloc: Global, m: &[u8], p: usize) -> Reached<SectionPath>
     requires { p ≤ length m.now }

@@ -25,7 +25,8 @@ pub fn section_part(alloc: Global, i: &[u8]) -> IResult<&[u8], Vec<u32>>
     Ok((rest(i, q), path))
 }
 
-/// `HEADER`, `HEADER.FIELDS` or `HEADER.FIELDS.NOT` with names of header fields, or `TEXT` (RFC 3501, section 9: section-msgtext).
+/// `HEADER`, `HEADER.FIELDS` or `HEADER.FIELDS.NOT` with names of header fields, or `TEXT` (RFC 3501, section 9:
+/// section-msgtext).
 ///
 /// It takes no memory: the names are read and dropped. Where the names are denied, `HEADER` alone is read.
 #[tactic(auto, using(imap_grammar::proofs::Agreement::exact_answered))]

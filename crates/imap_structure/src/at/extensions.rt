@@ -168,8 +168,8 @@ fn string_extension<K: Keep>(keep: &K, m: &[u8], p: usize) -> Reached<BodyExtens
     Ok((p, BodyExtension::Str(kept_text(keep, m, text)?)))
 }
 
-/// Extension data, with up to `level` lists inside one another (RFC 3501, section 9: body-extension). At level 0 a list is
-/// `Error`.
+/// Extension data, with up to `level` lists inside one another (RFC 3501, section 9: body-extension). At level 0 a
+/// list is `Error`.
 ///
 /// It takes memory for lists, and, where values are kept of its strings, for texts that are not UTF-8.
 #[cycle(extension)]
@@ -285,8 +285,8 @@ fn spaced_extension<K: Keep>(
     extension(keep, alloc, level, m, p)
 }
 
-/// Extension data, up to `MAX_EXTENSION_DEPTH` lists inside one another (RFC 3501, section 9: body-extension). A deeper list is
-/// `Error`. It takes memory as `extension` does.
+/// Extension data, up to `MAX_EXTENSION_DEPTH` lists inside one another (RFC 3501, section 9: body-extension). A
+/// deeper list is `Error`. It takes memory as `extension` does.
 #[tactic(auto, unfolding(crate::specs::Extensions::body_extension))]
 pub fn body_extension<K: Keep>(
     keep: &K,
