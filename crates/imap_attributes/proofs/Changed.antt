@@ -3,10 +3,10 @@ use Rattle.std.proofs.Common.{◌≡◌, ℕ, List, [], ◌∷◌, map, refl, sy
 use Rattle.std.specs.declared.borrow.CowSlice.{CowSlice}
 use Rattle.std.specs.declared.borrow.CowStr.{CowStr}
 use Rattle.std.proofs.lemmas.Simd.{map-map}
-use Rattle.imap_grammar.specs.Text.{Text, text_of}
+use Rattle.imap_grammar.specs.Text.{Text, text_of, owned_text}
 use Rattle.imap_grammar.proofs.Seen.{option_twice}
 use Rattle.imap_shapes.specs.BodyValues.{body_seen}
-use Rattle.imap_shapes.specs.Spans.{bytes_of, owned}
+use Rattle.imap_shapes.specs.Spans.{bytes_of}
 use Rattle.imap_shapes.specs.declared.shapes.bodies.BodyStructure.{BodyStructure as Structure}
 use Rattle.imap_shapes.proofs.Changed.{envelope_changed, body_changed}
 use Rattle.imap_attributes.specs.AttributeValues.{BodySection, BodyStructure, Envelope, Flags, Rfc822, Rfc822Header, Rfc822Text, GmailLabels, ThreadId, attribute_seen, attribute_value, attribute_owned}
@@ -37,7 +37,7 @@ module _ {S B : Type 0} (f : S → Text) (g : B → Text) (h : Text → Text) wh
   attribute_changed parts.Unknown = refl
 
 pub attribute_is_owned : {Z : Type 0} (x : AttributeParts (CowStr Z) (CowSlice ℕ Z) (Structure (CowStr Z) (CowSlice ℕ Z))) → attribute_owned x ≡ owned_attribute (attribute_value x)
-attribute_is_owned x = attribute_changed text_of bytes_of owned x
+attribute_is_owned x = attribute_changed text_of bytes_of owned_text x
 
 pub attributes_are_owned : {Z : Type 0} (xs : List (AttributeParts (CowStr Z) (CowSlice ℕ Z) (Structure (CowStr Z) (CowSlice ℕ Z)))) → map attribute_owned xs ≡ map owned_attribute (map attribute_value xs)
 attributes_are_owned [] = refl

@@ -14,7 +14,8 @@ use Rattle.imap_shapes.specs.Lent.{lent_ntext, lent_body}
 use Rattle.imap_shapes.proofs.Equality.{field, envelope_tells}
 use Rattle.imap_sections.specs.SectionValues.{path_value}
 use Rattle.imap_sections.proofs.Equality.{paths_tell}
-use Rattle.imap_attributes.specs.AttributeValues.{AttributeValue, BodySection, BodyStructure, Envelope, Flags, InternalDate, ModSeq, Rfc822, Rfc822Header, Rfc822Size, Rfc822Text, Uid, GmailLabels, GmailMsgId, GmailThrId, EmailId, ThreadId, Unknown, attribute_seen, lent_attribute}
+use Rattle.imap_attributes.specs.AttributeValues.{AttributeValue, BodySection, BodyStructure, Envelope, Flags, InternalDate, ModSeq, Rfc822, Rfc822Header, Rfc822Size, Rfc822Text, Uid, GmailLabels, GmailMsgId, GmailThrId, EmailId, ThreadId, Unknown, attribute_seen}
+use Rattle.imap_attributes.specs.Changed.{lent_attribute}
 use Rattle.imap_attributes.specs.declared.attributes.AttributeParts.{AttributeParts}
 use Rattle.imap_attributes.specs.declared.attributes.AttributeParts.TheVariants as parts
 use Rattle.imap_attributes.specs.contracts.attributes.AttributePartsPartialEq.TheImpl as parts_eq

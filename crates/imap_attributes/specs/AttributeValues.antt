@@ -5,10 +5,9 @@ use Rattle.std.specs.declared.alloc.Global.{Global}
 use Rattle.std.specs.declared.borrow.CowSlice.{CowSlice}
 use Rattle.std.specs.declared.borrow.CowStr.{CowStr}
 use Rattle.std.specs.declared.boxed.Box.{Box}
-use Rattle.imap_grammar.specs.Text.{Text, text_of, lent_text}
+use Rattle.imap_grammar.specs.Text.{Text, text_of}
 use Rattle.imap_grammar.specs.declared.at.span.Span.{Span}
 use Rattle.imap_sections.specs.SectionValues.{PathValue, path_value}
-use Rattle.imap_shapes.specs.Lent.{lent_ntext, lent_envelope, lent_body}
 use Rattle.imap_shapes.specs.EnvelopeValues.{EnvelopeValue, envelope_seen}
 use Rattle.imap_shapes.specs.BodyValues.{BodyValue, body_seen, boxed_seen}
 use Rattle.imap_shapes.specs.Spans.{Lookup, bytes_in, text_in, bytes_of, text_owned, bytes_owned}
@@ -37,8 +36,11 @@ pub data AttributeValue : Type 0 where
   Unknown : AttributeValue
 
 -- where f says a text, g a byte string and h a body structure
-abbrev pub attribute_seen : {S B Y : Type 0} → (S → Text) → (B → Text) → (Y → BodyValue) → AttributeParts S B Y → AttributeValue
-attribute_seen f g h (parts.BodySection section index contents) = BodySection (option_map path_value section) index (option_map g contents)
+abbrev pub attribute_seen :
+    {S B Y : Type 0} → (S → Text) → (B → Text) → (Y → BodyValue) → AttributeParts S B Y →
+    AttributeValue
+attribute_seen f g h (parts.BodySection section index contents) =
+    BodySection (option_map path_value section) index (option_map g contents)
 attribute_seen f g h (parts.BodyStructure body) = BodyStructure (h body)
 attribute_seen f g h (parts.Envelope envelope) = Envelope (envelope_seen g envelope.value)
 attribute_seen f g h (parts.Flags flags) = Flags (map f flags.items)
@@ -66,14 +68,19 @@ abbrev pub AttributeSpans : Type 0
 AttributeSpans = AttributeKept SpannedText Span
 
 -- the value that it stands for where spans are looked up so, by the values of its texts and byte strings
-abbrev pub parts_said : {S B : Type 0} → (Lookup → S → Text) → (Lookup → B → Text) → Lookup → AttributeKept S B → AttributeValue
-parts_said text bytes n x = attribute_seen (text n) (bytes n) (λ b. boxed_seen (text n) (bytes n) b) x
+abbrev pub parts_said :
+    {S B : Type 0} → (Lookup → S → Text) → (Lookup → B → Text) → Lookup → AttributeKept S B →
+    AttributeValue
+parts_said text bytes n x =
+    attribute_seen (text n) (bytes n) (λ b. boxed_seen (text n) (bytes n) b) x
 
 -- what the spans of an attribute name
 abbrev pub parts_in : Lookup → AttributeSpans → AttributeValue
 parts_in n x = parts_said text_in bytes_in n x
 
-abbrev pub attribute_value : {Z : Type 0} → AttributeParts (CowStr Z) (CowSlice ℕ Z) (Structure (CowStr Z) (CowSlice ℕ Z)) → AttributeValue
+abbrev pub attribute_value :
+    {Z : Type 0} → AttributeParts (CowStr Z) (CowSlice ℕ Z) (Structure (CowStr Z) (CowSlice ℕ Z)) →
+    AttributeValue
 attribute_value x = attribute_seen text_of bytes_of (body_seen text_of bytes_of) x
 
 -- the same where its body structure still lies in its box
@@ -81,26 +88,7 @@ abbrev pub kept_value : {Z : Type 0} → AttributeKept (CowStr Z) (CowSlice ℕ 
 kept_value x = attribute_seen text_of bytes_of (λ b. boxed_seen text_of bytes_of b) x
 
 -- with all its texts owned
-abbrev pub attribute_owned : {Z : Type 0} → AttributeParts (CowStr Z) (CowSlice ℕ Z) (Structure (CowStr Z) (CowSlice ℕ Z)) → AttributeValue
+abbrev pub attribute_owned :
+    {Z : Type 0} → AttributeParts (CowStr Z) (CowSlice ℕ Z) (Structure (CowStr Z) (CowSlice ℕ Z)) →
+    AttributeValue
 attribute_owned x = attribute_seen text_owned bytes_owned (body_seen text_owned bytes_owned) x
-
--- ---- with all texts borrowed: two values say the same where these are one
-
-abbrev pub lent_attribute : AttributeValue → AttributeValue
-lent_attribute (BodySection section index contents) = BodySection section index (lent_ntext contents)
-lent_attribute (BodyStructure body) = BodyStructure (lent_body body)
-lent_attribute (Envelope envelope) = Envelope (lent_envelope envelope)
-lent_attribute (Flags flags) = Flags (map lent_text flags)
-lent_attribute (InternalDate date) = InternalDate (lent_text date)
-lent_attribute (ModSeq n) = ModSeq n
-lent_attribute (Rfc822 message) = Rfc822 (lent_ntext message)
-lent_attribute (Rfc822Header header) = Rfc822Header (lent_ntext header)
-lent_attribute (Rfc822Size n) = Rfc822Size n
-lent_attribute (Rfc822Text text) = Rfc822Text (lent_ntext text)
-lent_attribute (Uid n) = Uid n
-lent_attribute (GmailLabels labels) = GmailLabels (map lent_text labels)
-lent_attribute (GmailMsgId n) = GmailMsgId n
-lent_attribute (GmailThrId n) = GmailThrId n
-lent_attribute (EmailId id) = EmailId (lent_text id)
-lent_attribute (ThreadId id) = ThreadId (lent_ntext id)
-lent_attribute Unknown = Unknown

@@ -1,12 +1,12 @@
 -- What an attribute of a message says with each text changed by h.
 use Rattle.std.specs.Prelude.{map}
-use Rattle.imap_grammar.specs.Text.{Text}
+use Rattle.imap_grammar.specs.Text.{Text, owned_text, lent_text}
 use Rattle.imap_shapes.specs.Changed.{changed_ntext, changed_envelope, changed_body}
-use Rattle.imap_shapes.specs.Spans.{owned}
 use Rattle.imap_attributes.specs.AttributeValues.{AttributeValue, BodySection, BodyStructure, Envelope, Flags, InternalDate, ModSeq, Rfc822, Rfc822Header, Rfc822Size, Rfc822Text, Uid, GmailLabels, GmailMsgId, GmailThrId, EmailId, ThreadId, Unknown}
 
 abbrev pub changed_attribute : (Text → Text) → AttributeValue → AttributeValue
-changed_attribute h (BodySection section index contents) = BodySection section index (changed_ntext h contents)
+changed_attribute h (BodySection section index contents) =
+    BodySection section index (changed_ntext h contents)
 changed_attribute h (BodyStructure body) = BodyStructure (changed_body h body)
 changed_attribute h (Envelope envelope) = Envelope (changed_envelope h envelope)
 changed_attribute h (Flags flags) = Flags (map h flags)
@@ -26,4 +26,8 @@ changed_attribute h Unknown = Unknown
 
 -- with all its texts owned
 abbrev pub owned_attribute : AttributeValue → AttributeValue
-owned_attribute x = changed_attribute owned x
+owned_attribute x = changed_attribute owned_text x
+
+-- with all its texts borrowed: two attributes say the same where these are one
+abbrev pub lent_attribute : AttributeValue → AttributeValue
+lent_attribute x = changed_attribute lent_text x

@@ -44,7 +44,10 @@ impl<S: Drop, B: Drop, Y: Drop> Parts<S, B, Y> {
         e: &E,
         others: &mut Vec<Parts<C::To, D::To, E::To>>,
     ) -> Result<(), AllocError>
-        ensures { OnOk result (map (attribute_seen C.after D.after E.after) others.new.items ≡ map (attribute_seen C.after D.after E.after) others.old.items ++ attribute_seen (C.before c.now) (D.before d.now) (E.before e.now) self.now ∷ []) }
+        ensures { OnOk result
+            (map (attribute_seen C.after D.after E.after) others.new.items
+            ≡ map (attribute_seen C.after D.after E.after) others.old.items
+            ++ attribute_seen (C.before c.now) (D.before d.now) (E.before e.now) self.now ∷ []) }
     {
         others.reserve(1)?;
         match self {
@@ -95,7 +98,9 @@ impl<S: Drop, B: Drop, Y: Drop> Parts<S, B, Y> {
         d: &D,
         e: &E,
     ) -> Result<Parts<C::To, D::To, E::To>, AllocError>
-        ensures { IfOk result (λ x. attribute_seen C.after D.after E.after x ≡ attribute_seen (C.before c.now) (D.before d.now) (E.before e.now) self.now) }
+        ensures { IfOk result (λ x.
+            attribute_seen C.after D.after E.after x
+            ≡ attribute_seen (C.before c.now) (D.before d.now) (E.before e.now) self.now) }
     {
         let mut mapped = Vec::with_capacity(alloc, 1)?;
         self.push_mapped(alloc, c, d, e, &mut mapped)?;
@@ -107,7 +112,11 @@ impl<S: Drop, B: Drop, Y: Drop> Parts<S, B, Box<Y>> {
     /// Puts this attribute behind the others, its body structure out of its box. It takes memory where the list has no
     /// room; `Err`: memory ran out, and nothing is said of the list.
     pub fn push_unboxed(self, others: &mut Vec<Parts<S, B, Y>>) -> Result<(), AllocError>
-        ensures { (f : S → Text) (h : B → Text) (k : Y → BodyValue) → OnOk result (map (attribute_seen f h k) others.new.items ≡ map (attribute_seen f h k) others.old.items ++ attribute_seen f h (λ b. k b.value) self ∷ []) }
+        ensures { (f : S → Text) (h : B → Text) (k : Y → BodyValue) →
+            OnOk result
+            (map (attribute_seen f h k) others.new.items
+            ≡ map (attribute_seen f h k) others.old.items
+            ++ attribute_seen f h (λ b. k b.value) self ∷ []) }
     {
         others.reserve(1)?;
         match self {
@@ -149,7 +158,11 @@ fn push_body<S: Drop, B: Drop, Y, E: BodyChange<Y>>(
     body: &Y,
     others: &mut Vec<Parts<S, B, E::To>>,
 ) -> Result<(), AllocError>
-    ensures { (f : S → Text) (h : B → Text) → OnOk result (map (attribute_seen f h E.after) others.new.items ≡ map (attribute_seen f h E.after) others.old.items ++ BodyStructure (E.before e.now body.now) ∷ []) }
+    ensures { (f : S → Text) (h : B → Text) →
+        OnOk result
+        (map (attribute_seen f h E.after) others.new.items
+        ≡ map (attribute_seen f h E.after) others.old.items
+        ++ BodyStructure (E.before e.now body.now) ∷ []) }
 {
     others.reserve(1)?;
     others.push_reserved(Parts::BodyStructure(made!(e.change_body(body))));
@@ -163,7 +176,10 @@ fn push_structure<S: Drop, B: Drop, Y: Drop>(
     body: Box<Y>,
     others: &mut Vec<Parts<S, B, Y>>,
 ) -> Result<(), AllocError>
-    ensures { (f : S → Text) (h : B → Text) (k : Y → BodyValue) → OnOk result (map (attribute_seen f h k) others.new.items ≡ map (attribute_seen f h k) others.old.items ++ BodyStructure (k body.value) ∷ []) }
+    ensures { (f : S → Text) (h : B → Text) (k : Y → BodyValue) →
+        OnOk result
+        (map (attribute_seen f h k) others.new.items
+        ≡ map (attribute_seen f h k) others.old.items ++ BodyStructure (k body.value) ∷ []) }
 {
     others.reserve(1)?;
     others.push_reserved(Parts::BodyStructure(Box::into_inner(body)));

@@ -12,9 +12,9 @@ use Rattle.imap_grammar.specs.Pieces.{written, plain, ntext}
 use Rattle.imap_grammar.specs.ReadBack.{ReadsBack, Spells, SpellsAndReadsBack, Apart, Any, BeginsWith, Closes, EndsItem, as_is}
 use Rattle.imap_grammar.specs.Spelling.{all_of, some_of}
 use Rattle.imap_grammar.proofs.Yields.{Yields, right_yields, named_yields}
-use Rattle.imap_grammar.proofs.Reading.{reads-gives, reads-opt, reads-after, reads-before, reads-seq, reads-follow, reads-test, reads-run1, after-on, first, apart-where, apart-alt, apart-gives, denials, denies-after, denies-behind, denies-tag, test-has, test-on, run1-has, tag-on, takes-absent, Begins, begun, ends_item-in, ◌⨾ʳ◌, ◌▹ʳ◌}
+use Rattle.imap_grammar.proofs.Reading.{reads-gives, reads-opt, reads-after, reads-before, reads-seq, reads-follow, reads-test, reads-run1, after-on, first, apart-where, apart-alt, apart-gives, denials, denies-after, denies-behind, denies-tag, test-on, tag-on, takes-absent, Begins, begun, ends_item-in, ◌⨾ʳ◌, ◌▹ʳ◌}
 use Rattle.imap_grammar.proofs.ReadingLists.{takes-text, takes-word, reads-nonempty_list_of}
-use Rattle.imap_grammar.proofs.Spelling.{◌⨾ˢ◌, ◌▹ˢ◌, ◌◃ˢ◌, ◌orˢ◌, spells-gives, spells-wider, spells-where, spells-names, spells-nothing, spells-word, spells-tag, spells-test, spells-utf8, spells-run0, spells-run1, spells-maybe_space, spells-nonempty_list_of}
+use Rattle.imap_grammar.proofs.Spelling.{◌⨾ˢ◌, ◌▹ˢ◌, ◌◃ˢ◌, ◌orˢ◌, spells-gives, spells-wider, spells-where, spells-names, spells-nothing, spells-word, spells-tag, spells-utf8, spells-run0, spells-run1, spells-maybe_space, spells-nonempty_list_of}
 use Rattle.imap_bytes.proofs.ReadingTexts.{not_digit, reads-number, reads-number_64, reads-string_utf8, reads-nil_or, nil_or-none}
 use Rattle.imap_bytes.proofs.SpellingTexts.{spells-number, spells-number_64, spells-string_utf8, spells-nil_or, spells-nstring}
 use Rattle.imap_bytes.specs.Strings.{atom, string, nstring}
@@ -31,9 +31,10 @@ use Rattle.imap_structure.specs.BodyTexts.{canonical_body, spells_body}
 use Rattle.imap_sections.proofs.SectionTexts.{reads_section, section_spells}
 use Rattle.imap_body.proofs.Behind.{Alike, given_behind, alike_behind, alike_through, reads-alike, spells-alike, reads-behind, apart-alike, apart-behind, spells-behind}
 use Rattle.imap_sections.specs.Sections.{section}
-use Rattle.imap_attributes.specs.AttributeValues.{BodyStructure, Envelope, Flags, InternalDate, ModSeq, Rfc822, Rfc822Header, Rfc822Size, Rfc822Text, Uid, GmailLabels, GmailMsgId, GmailThrId, EmailId, ThreadId, Unknown, lent_attribute}
+use Rattle.imap_attributes.specs.AttributeValues.{BodyStructure, Envelope, Flags, InternalDate, ModSeq, Rfc822, Rfc822Header, Rfc822Size, Rfc822Text, Uid, GmailLabels, GmailMsgId, GmailThrId, EmailId, ThreadId, Unknown}
+use Rattle.imap_attributes.specs.Changed.{lent_attribute}
 use Rattle.imap_body.specs.Attributes.{origin, section_of, section_contents, msg_att_body_section, msg_att_body_structure, msg_att_envelope, date, msg_att_internal_date, msg_att_flags, msg_att_mod_seq, msg_att_rfc822, msg_att_rfc822_header, msg_att_rfc822_size, msg_att_rfc822_text, msg_att_uid, msg_att_gmail_labels, msg_att_gmail_msgid, msg_att_gmail_thrid, id_bytes, object_id, bracketed_id, msg_att_email_id, msg_att_thread_id, is_inside, is_bare, skipped_brackets, skipped_nstring, skipped_bare, skipped_value, msg_att_unknown, attribute, attribute_list}
-use Rattle.imap_body.specs.AttributeTexts.{canonical_origin, canonical_id, canonical_nid, canonical_attribute, canonical_attributes, spells_origin, spells_id, is_name, is_any_value, spells_attribute, spells_attributes}
+use Rattle.imap_body.specs.AttributeTexts.{canonical_origin, canonical_id, canonical_nid, canonical_attribute, canonical_attributes, spells_origin, spells_id, is_name, is_any_value, spells_attribute, spells_attributes, AttributeReadsBack}
 
 -- what ends an item ends a number
 ends_number : (t : Bytes) → EndsItem t → BeginsWith not_digit t
@@ -342,58 +343,58 @@ attribute_list_spells = spells-nonempty_list_of attribute_spells
 
 -- ---- both laws
 
-pub keeps_body_section : SpellsAndReadsBack msg_att_body_section lent_attribute canonical_attribute spells_attribute EndsItem
+pub keeps_body_section : AttributeReadsBack msg_att_body_section
 keeps_body_section = record { spelled = body_section_spells; back = reads_body_section }
 
-pub keeps_body_structure : SpellsAndReadsBack msg_att_body_structure lent_attribute canonical_attribute spells_attribute EndsItem
+pub keeps_body_structure : AttributeReadsBack msg_att_body_structure
 keeps_body_structure = record { spelled = body_structure_spells; back = reads_body_structure }
 
-pub keeps_envelope : SpellsAndReadsBack msg_att_envelope lent_attribute canonical_attribute spells_attribute EndsItem
+pub keeps_envelope : AttributeReadsBack msg_att_envelope
 keeps_envelope = record { spelled = msg_envelope_spells; back = reads_msg_envelope }
 
-pub keeps_internal_date : SpellsAndReadsBack msg_att_internal_date lent_attribute canonical_attribute spells_attribute EndsItem
+pub keeps_internal_date : AttributeReadsBack msg_att_internal_date
 keeps_internal_date = record { spelled = internal_date_spells; back = reads_date }
 
-pub keeps_flags : SpellsAndReadsBack msg_att_flags lent_attribute canonical_attribute spells_attribute EndsItem
+pub keeps_flags : AttributeReadsBack msg_att_flags
 keeps_flags = record { spelled = flags_spells; back = reads_flags }
 
-pub keeps_mod_seq : SpellsAndReadsBack msg_att_mod_seq lent_attribute canonical_attribute spells_attribute EndsItem
+pub keeps_mod_seq : AttributeReadsBack msg_att_mod_seq
 keeps_mod_seq = record { spelled = mod_seq_spells; back = reads_mod_seq }
 
-pub keeps_rfc822 : SpellsAndReadsBack msg_att_rfc822 lent_attribute canonical_attribute spells_attribute EndsItem
+pub keeps_rfc822 : AttributeReadsBack msg_att_rfc822
 keeps_rfc822 = record { spelled = rfc822_spells; back = reads_rfc822 }
 
-pub keeps_rfc822_header : SpellsAndReadsBack msg_att_rfc822_header lent_attribute canonical_attribute spells_attribute EndsItem
+pub keeps_rfc822_header : AttributeReadsBack msg_att_rfc822_header
 keeps_rfc822_header = record { spelled = header_spells; back = reads_header }
 
-pub keeps_rfc822_size : SpellsAndReadsBack msg_att_rfc822_size lent_attribute canonical_attribute spells_attribute EndsItem
+pub keeps_rfc822_size : AttributeReadsBack msg_att_rfc822_size
 keeps_rfc822_size = record { spelled = rfc822_size_spells; back = reads_size }
 
-pub keeps_rfc822_text : SpellsAndReadsBack msg_att_rfc822_text lent_attribute canonical_attribute spells_attribute EndsItem
+pub keeps_rfc822_text : AttributeReadsBack msg_att_rfc822_text
 keeps_rfc822_text = record { spelled = rfc822_text_spells; back = reads_text }
 
-pub keeps_uid : SpellsAndReadsBack msg_att_uid lent_attribute canonical_attribute spells_attribute EndsItem
+pub keeps_uid : AttributeReadsBack msg_att_uid
 keeps_uid = record { spelled = uid_spells; back = reads_uid }
 
-pub keeps_gmail_labels : SpellsAndReadsBack msg_att_gmail_labels lent_attribute canonical_attribute spells_attribute EndsItem
+pub keeps_gmail_labels : AttributeReadsBack msg_att_gmail_labels
 keeps_gmail_labels = record { spelled = labels_spell; back = reads_labels }
 
-pub keeps_gmail_msgid : SpellsAndReadsBack msg_att_gmail_msgid lent_attribute canonical_attribute spells_attribute EndsItem
+pub keeps_gmail_msgid : AttributeReadsBack msg_att_gmail_msgid
 keeps_gmail_msgid = record { spelled = msgid_spell; back = reads_msgid }
 
-pub keeps_gmail_thrid : SpellsAndReadsBack msg_att_gmail_thrid lent_attribute canonical_attribute spells_attribute EndsItem
+pub keeps_gmail_thrid : AttributeReadsBack msg_att_gmail_thrid
 keeps_gmail_thrid = record { spelled = thrid_spell; back = reads_thrid }
 
-pub keeps_email_id : SpellsAndReadsBack msg_att_email_id lent_attribute canonical_attribute spells_attribute EndsItem
+pub keeps_email_id : AttributeReadsBack msg_att_email_id
 keeps_email_id = record { spelled = email_id_spells; back = reads_email_id }
 
-pub keeps_thread_id : SpellsAndReadsBack msg_att_thread_id lent_attribute canonical_attribute spells_attribute EndsItem
+pub keeps_thread_id : AttributeReadsBack msg_att_thread_id
 keeps_thread_id = record { spelled = thread_id_spells; back = reads_thread_id }
 
-pub keeps_unknown : SpellsAndReadsBack msg_att_unknown lent_attribute canonical_attribute spells_attribute EndsItem
+pub keeps_unknown : AttributeReadsBack msg_att_unknown
 keeps_unknown = record { spelled = unknown_spells; back = reads_unknown }
 
-pub keeps_attribute : SpellsAndReadsBack attribute lent_attribute canonical_attribute spells_attribute EndsItem
+pub keeps_attribute : AttributeReadsBack attribute
 keeps_attribute = record { spelled = attribute_spells; back = reads_attribute }
 
 pub keeps_attribute_list : SpellsAndReadsBack attribute_list (map lent_attribute) canonical_attributes spells_attributes Closes

@@ -1,4 +1,5 @@
--- A word and then a value made of what follows it, as a value made of what follows the word: the two rules yield the same.
+-- A word and then a value made of what follows it, as a value made of what follows the word: the two rules yield the
+-- same.
 use Rattle.std.proofs.Common.{◌∙◌, ap, refl}
 use Rattle.imap_grammar.specs.Rule.{Rule, meaning, gives, ◌▹◌}
 use Rattle.imap_grammar.specs.Text.{Bytes}

@@ -3,7 +3,8 @@ use Rattle.std.specs.Prelude.{ℕ, ◌⊎◌, List, [], Option, None, Some}
 use Rattle.imap_grammar.specs.Classes.{is_atom_char, is_astring_char}
 use Rattle.imap_grammar.specs.Text.{Bytes, Text}
 use Rattle.imap_grammar.specs.Pieces.{Pieces, ◌then◌, words, space, number_text, plain, literal_text, ntext, list_text}
-use Rattle.imap_grammar.specs.ReadBack.{Texts}
+use Rattle.imap_grammar.specs.Rule.{Rule}
+use Rattle.imap_grammar.specs.ReadBack.{Texts, EndsItem, SpellsAndReadsBack}
 use Rattle.imap_grammar.specs.Spelling.{this, exactly, in_any_case, ◌and◌, all_of, some_of, utf8_of, as_it_is, maybe, nil_or, spells_number, spells_nstring, spells_string_text, spells_some_list}
 use Rattle.imap_items.specs.FlagTexts.{canonical_flag_list, spells_flag_list}
 use Rattle.imap_items.specs.GmailTexts.{canonical_label_list, canonical_msgid, canonical_thrid, spells_label_list, spells_msgid, spells_thrid}
@@ -12,6 +13,7 @@ use Rattle.imap_structure.specs.BodyTexts.{canonical_body, spells_body}
 use Rattle.imap_sections.specs.SectionTexts.{canonical_section, spells_section}
 use Rattle.imap_body.specs.Attributes.{is_inside, is_bare}
 use Rattle.imap_attributes.specs.AttributeValues.{AttributeValue, BodySection, BodyStructure, Envelope, Flags, InternalDate, ModSeq, Rfc822, Rfc822Header, Rfc822Size, Rfc822Text, Uid, GmailLabels, GmailMsgId, GmailThrId, EmailId, ThreadId, Unknown}
+use Rattle.imap_attributes.specs.Changed.{lent_attribute}
 
 -- ---- canonical text
 
@@ -30,7 +32,12 @@ canonical_nid (Some id) = canonical_id id
 
 -- an unknown attribute's name and value are not kept: `X NIL` stands for any
 abbrev pub canonical_attribute : AttributeValue → Pieces
-canonical_attribute (BodySection path origin contents) = words "BODY" then canonical_section path then canonical_origin origin then space then ntext contents
+canonical_attribute (BodySection path origin contents) =
+    words "BODY"
+    then canonical_section path
+    then canonical_origin origin
+    then space
+    then ntext contents
 canonical_attribute (BodyStructure body) = words "BODYSTRUCTURE " then canonical_body body
 canonical_attribute (Envelope envelope) = words "ENVELOPE " then canonical_envelope envelope
 canonical_attribute (InternalDate date) = words "INTERNALDATE " then literal_text date
@@ -71,14 +78,20 @@ is_any_value c =
     ⊎ (((v : Option Bytes) × spells_nstring v c) ⊎ some_of is_bare c)
 
 abbrev pub spells_attribute : AttributeValue → Texts
-spells_attribute (BodySection path origin contents) = in_any_case "BODY" and spells_section path and spells_origin origin and behind_space (spells_bytes contents)
+spells_attribute (BodySection path origin contents) =
+    in_any_case "BODY"
+    and spells_section path
+    and spells_origin origin
+    and behind_space (spells_bytes contents)
 spells_attribute (BodyStructure body) = in_any_case "BODYSTRUCTURE " and spells_body body
 spells_attribute (Envelope envelope) = in_any_case "ENVELOPE " and spells_envelope envelope
 spells_attribute (InternalDate date) = in_any_case "INTERNALDATE " and spells_string_text date
 spells_attribute (Flags flags) = in_any_case "FLAGS " and spells_flag_list flags
-spells_attribute (ModSeq n) = in_any_case "MODSEQ " and exactly "(" and spells_number n and exactly ")"
+spells_attribute (ModSeq n) =
+    in_any_case "MODSEQ " and exactly "(" and spells_number n and exactly ")"
 spells_attribute (Rfc822 message) = in_any_case "RFC822 " and spells_bytes message
-spells_attribute (Rfc822Header header) = in_any_case "RFC822.HEADER " and maybe (exactly " ") and spells_bytes header
+spells_attribute (Rfc822Header header) =
+    in_any_case "RFC822.HEADER " and maybe (exactly " ") and spells_bytes header
 spells_attribute (Rfc822Size n) = in_any_case "RFC822.SIZE " and spells_number n
 spells_attribute (Rfc822Text text) = in_any_case "RFC822.TEXT " and spells_bytes text
 spells_attribute (Uid n) = in_any_case "UID " and spells_number n
@@ -91,3 +104,9 @@ spells_attribute Unknown = is_name and exactly " " and is_any_value
 
 abbrev pub spells_attributes : List AttributeValue → Texts
 spells_attributes = spells_some_list spells_attribute
+
+-- ---- what is promised of a rule that yields an attribute
+
+-- What it takes spells the attribute, and the attribute's canonical text reads back, also before a space.
+abbrev pub AttributeReadsBack : Rule AttributeValue → Type 0
+AttributeReadsBack r = SpellsAndReadsBack r lent_attribute canonical_attribute spells_attribute EndsItem

@@ -1,4 +1,5 @@
--- Attributes of a message (RFC 3501, section 9: msg-att, msg-att-dynamic, msg-att-static; RFC 7162, section 7: permsg-modsequence; RFC 8474, section 7; X-GM-EXT-1).
+-- Attributes of a message (RFC 3501, section 9: msg-att, msg-att-dynamic, msg-att-static; RFC 7162, section 7:
+-- permsg-modsequence; RFC 8474, section 7; X-GM-EXT-1).
 use Rattle.std.specs.Prelude.{ℕ, Bool, ◌==◌, ◌&&◌, not, List, Option}
 use Rattle.imap_grammar.specs.Ascii.{space, close_parenthesis}
 use Rattle.imap_grammar.specs.Classes.{is_astring_char}
@@ -136,7 +137,8 @@ skipped_nstring = dropped nstring
 unfoldable pub skipped_bare : Rule (Unit {0})
 skipped_bare = dropped (run1 is_bare)
 
--- a value that is skipped: in parentheses up to the first `)`, an nstring, or bytes up to a space or a `)`, line ends among them
+-- a value that is skipped: in parentheses up to the first `)`, an nstring, or bytes up to a space or a `)`, line ends
+-- among them
 unfoldable pub skipped_value : Rule (Unit {0})
 skipped_value = skipped_brackets or skipped_nstring or skipped_bare
 
@@ -167,7 +169,8 @@ attribute =
     or msg_att_thread_id
     or msg_att_unknown
 
--- msg-att = "(" (msg-att-dynamic / msg-att-static) *(SP (msg-att-dynamic / msg-att-static)) ")", where blanks may stand before the `)`
+-- msg-att = "(" (msg-att-dynamic / msg-att-static) *(SP (msg-att-dynamic / msg-att-static)) ")", where blanks may
+--     stand before the `)`
 unfoldable pub attribute_list : Rule (List AttributeValue)
 attribute_list = nonempty_list_of attribute
 
@@ -227,4 +230,5 @@ unfoldable pub attribute_of_u : Rule AttributeValue
 attribute_of_u = msg_att_uid or msg_att_unknown
 
 unfoldable pub attribute_of_x : Rule AttributeValue
-attribute_of_x = msg_att_gmail_labels or msg_att_gmail_msgid or msg_att_gmail_thrid or msg_att_unknown
+attribute_of_x =
+    msg_att_gmail_labels or msg_att_gmail_msgid or msg_att_gmail_thrid or msg_att_unknown

@@ -14,20 +14,28 @@ use Rattle.imap_shapes.specs.Spans.{Lookup, Rests, bytes_in, text_in}
 use Rattle.imap_shapes.specs.declared.shapes.bodies.BodyStructure.{BodyStructure as Structure}
 use Rattle.imap_shapes.specs.declared.spans.SpannedText.{SpannedText}
 use Rattle.imap_shapes.specs.declared.spans.SpannedText.TheVariants as spanned
-use Rattle.imap_attributes.specs.AttributeValues.{AttributeValue, AttributeSpans, attribute_seen, parts_said, lent_attribute}
+use Rattle.imap_attributes.specs.AttributeValues.{AttributeValue, AttributeSpans, attribute_seen, parts_said}
+use Rattle.imap_attributes.specs.Changed.{lent_attribute}
 use Rattle.imap_body.specs.Attributes.{attribute}
 
 -- The value that the attribute stands for in m, by the values of its texts and byte strings. Its positions count from
 -- where its span starts, and name bytes of the span alone.
-abbrev pub attribute_said : {S B : Type 0} → (Lookup → S → Text) → (Lookup → B → Text) → Bytes → SpannedAttribute S B → AttributeValue
+abbrev pub attribute_said :
+    {S B : Type 0} → (Lookup → S → Text) → (Lookup → B → Text) → Bytes → SpannedAttribute S B →
+    AttributeValue
 attribute_said text bytes m s = parts_said text bytes (named_in (named_in m s.span)) s.parts
+
+-- Where it stands in its message.
+abbrev pub span_of : SpannedAttribute SpannedText Span → Span
+span_of s = s.span
 
 -- What it names in m.
 abbrev pub attribute_in : Bytes → SpannedAttribute SpannedText Span → AttributeValue
 attribute_in m s = attribute_said text_in bytes_in m s
 
 -- All positions of the attribute lie in its span: counted from where that starts, none is behind its end.
-abbrev pub Within : {S B : Type 0} → (Lookup → S → Text) → (Lookup → B → Text) → SpannedAttribute S B → Type 0
+abbrev pub Within :
+    {S B : Type 0} → (Lookup → S → Text) → (Lookup → B → Text) → SpannedAttribute S B → Type 0
 Within text bytes s = Rests (λ n x. parts_said text bytes n x) (s.span.end - s.span.start) s.parts
 
 abbrev pub WithinItsSpan : SpannedAttribute SpannedText Span → Type 0
@@ -35,7 +43,10 @@ WithinItsSpan s = Within text_in bytes_in s
 
 -- The attribute stands in m at p, and ends at q or before: the rule yields its value at p, and the rest begins where
 -- its span ends. Its positions lie in its span.
-pub record StandsAt {S B : Type 0} (text : Lookup → S → Text) (bytes : Lookup → B → Text) (m : Bytes) (p q : ℕ) (s : SpannedAttribute S B) : Type 0 where
+pub record StandsAt {S B : Type 0}
+    (text : Lookup → S → Text) (bytes : Lookup → B → Text) (m : Bytes) (p q : ℕ)
+    (s : SpannedAttribute S B) :
+    Type 0 where
   pub start : s.span.start ≡ p
   pub ordered : p ≤ s.span.end
   pub ends : s.span.end ≤ q
@@ -43,16 +54,21 @@ pub record StandsAt {S B : Type 0} (text : Lookup → S → Text) (bytes : Looku
   pub is : (meaning attribute).yields (drop p m) (attribute_said text bytes m s) (drop s.span.end m)
 
 -- They stand one behind another with a byte between, the first from p on, and end by q.
-abbrev pub TurnsAt : {S B : Type 0} → (Lookup → S → Text) → (Lookup → B → Text) → Bytes → ℕ → ℕ → List (SpannedAttribute S B) → Type 0
+abbrev pub TurnsAt :
+    {S B : Type 0} → (Lookup → S → Text) → (Lookup → B → Text) → Bytes → ℕ → ℕ →
+    List (SpannedAttribute S B) → Type 0
 TurnsAt text bytes m p q [] = Unit {0}
-TurnsAt text bytes m p q (s ∷ rest) = StandsAt text bytes m p q s × TurnsAt text bytes m (s.span.end + 1) q rest
+TurnsAt text bytes m p q (s ∷ rest) =
+    StandsAt text bytes m p q s × TurnsAt text bytes m (s.span.end + 1) q rest
 
 -- The same of spans.
 abbrev pub InTurn : Bytes → ℕ → ℕ → List (SpannedAttribute SpannedText Span) → Type 0
 InTurn m p q xs = TurnsAt text_in bytes_in m p q xs
 
 -- It stands there, and ends at q.
-abbrev pub EndsAt : {S B : Type 0} → (Lookup → S → Text) → (Lookup → B → Text) → Bytes → ℕ → ℕ → SpannedAttribute S B → Type 0
+abbrev pub EndsAt :
+    {S B : Type 0} → (Lookup → S → Text) → (Lookup → B → Text) → Bytes → ℕ → ℕ →
+    SpannedAttribute S B → Type 0
 EndsAt text bytes m p q s = StandsAt text bytes m p q s × (s.span.end ≡ q)
 
 -- What x names in a message stands in its first q bytes.
@@ -66,8 +82,15 @@ InFront view (Err e) = Unit {0}
 
 -- What a reader keeps of the attributes that it read from p on, where s is the rule's answer: s yields the values that
 -- they stand for in m; and they stand in turn from p on, and end at the position that was reached, or before.
-abbrev pub KeepsAt : {S B K : Type 0} → (Lookup → S → Text) → (Lookup → B → Text) → (List (SpannedAttribute S B) → List K → Type 0) → Bytes → ℕ → Reached (Vec K Global) → Step (List AttributeValue) → Type 0
-KeepsAt {S} {B} text bytes keeps m p (Ok x) s = (read : List (SpannedAttribute S B)) × keeps read x.1.items × (s ≡ Ok (drop x.0 m, map (attribute_said text bytes m) read)) × TurnsAt text bytes m p x.0 read
+abbrev pub KeepsAt :
+    {S B K : Type 0} → (Lookup → S → Text) → (Lookup → B → Text) →
+    (List (SpannedAttribute S B) → List K → Type 0) → Bytes → ℕ → Reached (Vec K Global) →
+    Step (List AttributeValue) → Type 0
+KeepsAt {S} {B} text bytes keeps m p (Ok x) s =
+    (read : List (SpannedAttribute S B))
+    × keeps read x.1.items
+    × (s ≡ Ok (drop x.0 m, map (attribute_said text bytes m) read))
+    × TurnsAt text bytes m p x.0 read
 KeepsAt text bytes keeps m p (Err e) s = Stops e s
 
 -- ---- the positions themselves, whatever message they are of: a span is seen as a text of its two numbers

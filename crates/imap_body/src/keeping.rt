@@ -37,7 +37,10 @@ pub(crate) trait KeepAttribute: Keep + Drop {
     type Attribute: Drop;
 
     /// These are kept of the attributes that were read.
-    ghost keeps: { Self → List (SpannedAttribute Self.Text Self.Bytes) → List Self.Attribute → Type 0 };
+    ghost keeps: { Self →
+        List (SpannedAttribute Self.Text Self.Bytes) →
+        List Self.Attribute →
+        Type 0 };
 
     /// The keeper of what stands from p on in its message. No memory.
     fn behind(&self, m: &[u8], p: usize) -> Self
@@ -49,7 +52,8 @@ pub(crate) trait KeepAttribute: Keep + Drop {
     fn flags(&self, alloc: Global, m: &[u8], p: usize) -> Reached<Vec<Self::Text>>
         requires start { p ≤ length m.now }
         requires serves { Self.serves self.now m.now }
-        ensures steps { GivesAt (λ x. map (Self.text_said (named_in m.now)) x.items) m.now result (step flags.flag_list (drop p m.now)) }
+        ensures steps { GivesAt (λ x. map (Self.text_said (named_in m.now)) x.items) m.now result
+            (step flags.flag_list (drop p m.now)) }
         ensures ahead { Ahead m.now p result }
         ensures rests { RestsOn (λ n x. map (Self.text_said n) x.items) result };
 
@@ -58,7 +62,8 @@ pub(crate) trait KeepAttribute: Keep + Drop {
     fn labels(&self, alloc: Global, m: &[u8], p: usize) -> Reached<Vec<Self::Text>>
         requires start { p ≤ length m.now }
         requires serves { Self.serves self.now m.now }
-        ensures steps { GivesAt (λ x. map (Self.text_said (named_in m.now)) x.items) m.now result (step gmail.gmail_label_list (drop p m.now)) }
+        ensures steps { GivesAt (λ x. map (Self.text_said (named_in m.now)) x.items) m.now result
+            (step gmail.gmail_label_list (drop p m.now)) }
         ensures ahead { Ahead m.now p result }
         ensures rests { RestsOn (λ n x. map (Self.text_said n) x.items) result };
 
@@ -72,7 +77,9 @@ pub(crate) trait KeepAttribute: Keep + Drop {
         attribute: SpannedAttribute<Self::Text, Self::Bytes>,
         kept: &mut Vec<Self::Attribute>,
     ) -> Result<(), AllocError>
-        ensures { (read : List (SpannedAttribute Self.Text Self.Bytes)) → keeps self.now read kept.old.items → OnOk result (keeps self.now (read ++ attribute ∷ []) kept.new.items) };
+        ensures { (read : List (SpannedAttribute Self.Text Self.Bytes)) →
+            keeps self.now read kept.old.items →
+            OnOk result (keeps self.now (read ++ attribute ∷ []) kept.new.items) };
 }
 
 impl KeepAttribute for Positions {
@@ -86,7 +93,8 @@ impl KeepAttribute for Positions {
 
     fn flags(&self, alloc: Global, m: &[u8], p: usize) -> Reached<Vec<SpannedText>>
         requires start { p ≤ length m.now }
-        ensures steps { GivesAt (λ x. map (text_in (named_in m.now)) x.items) m.now result (step flags.flag_list (drop p m.now)) }
+        ensures steps { GivesAt (λ x. map (text_in (named_in m.now)) x.items) m.now result
+            (step flags.flag_list (drop p m.now)) }
         ensures ahead { Ahead m.now p result }
         ensures rests { RestsOn (λ n x. map (text_in n) x.items) result }
     {
@@ -96,7 +104,8 @@ impl KeepAttribute for Positions {
 
     fn labels(&self, alloc: Global, m: &[u8], p: usize) -> Reached<Vec<SpannedText>>
         requires start { p ≤ length m.now }
-        ensures steps { GivesAt (λ x. map (text_in (named_in m.now)) x.items) m.now result (step gmail.gmail_label_list (drop p m.now)) }
+        ensures steps { GivesAt (λ x. map (text_in (named_in m.now)) x.items) m.now result
+            (step gmail.gmail_label_list (drop p m.now)) }
         ensures ahead { Ahead m.now p result }
         ensures rests { RestsOn (λ n x. map (text_in n) x.items) result }
     {
@@ -113,7 +122,9 @@ impl KeepAttribute for Positions {
         attribute: SpannedAttribute,
         kept: &mut Vec<SpannedAttribute>,
     ) -> Result<(), AllocError>
-        ensures { (read : List (SpannedAttribute SpannedText Span)) → kept.old.items ≡ read → OnOk result (kept.new.items ≡ read ++ attribute ∷ []) }
+        ensures { (read : List (SpannedAttribute SpannedText Span)) →
+            kept.old.items ≡ read →
+            OnOk result (kept.new.items ≡ read ++ attribute ∷ []) }
     {
         kept.reserve(1)?;
         kept.push_reserved(attribute);
@@ -124,7 +135,9 @@ impl KeepAttribute for Positions {
 impl<'a> KeepAttribute for Named<'a> {
     type Attribute = AttributeValue<'a>;
 
-    ghost keeps = { λ k read kept. map attribute_value kept ≡ map (attribute_said (λ n t. text_of t) (λ n t. bytes_of t) k.m.now) read };
+    ghost keeps = { λ k read kept.
+        map attribute_value kept
+        ≡ map (attribute_said (λ n t. text_of t) (λ n t. bytes_of t) k.m.now) read };
 
     fn behind(&self, _m: &[u8], p: usize) -> Named<'a> {
         let (_, m) = self.m.split_at(p);
@@ -137,7 +150,8 @@ impl<'a> KeepAttribute for Named<'a> {
     fn flags(&self, alloc: Global, m: &[u8], p: usize) -> Reached<Vec<CowStr<'a>>>
         requires start { p ≤ length m.now }
         requires serves { self.now.m.now ≡ m.now }
-        ensures steps { GivesAt (λ x. map text_of x.items) m.now result (step flags.flag_list (drop p m.now)) }
+        ensures steps { GivesAt (λ x. map text_of x.items) m.now result
+            (step flags.flag_list (drop p m.now)) }
         ensures ahead { Ahead m.now p result }
         ensures rests { RestsOn (λ n x. map text_of x.items) result }
     {
@@ -149,7 +163,8 @@ impl<'a> KeepAttribute for Named<'a> {
     fn labels(&self, alloc: Global, m: &[u8], p: usize) -> Reached<Vec<CowStr<'a>>>
         requires start { p ≤ length m.now }
         requires serves { self.now.m.now ≡ m.now }
-        ensures steps { GivesAt (λ x. map text_of x.items) m.now result (step gmail.gmail_label_list (drop p m.now)) }
+        ensures steps { GivesAt (λ x. map text_of x.items) m.now result
+            (step gmail.gmail_label_list (drop p m.now)) }
         ensures ahead { Ahead m.now p result }
         ensures rests { RestsOn (λ n x. map text_of x.items) result }
     {
@@ -168,7 +183,13 @@ impl<'a> KeepAttribute for Named<'a> {
         attribute: SpannedAttribute<CowStr<'a>, CowSlice<'a, u8>>,
         kept: &mut Vec<AttributeValue<'a>>,
     ) -> Result<(), AllocError>
-        ensures { (read : List (SpannedAttribute _ _)) → map attribute_value kept.old.items ≡ map (attribute_said (λ n t. text_of t) (λ n t. bytes_of t) self.now.m.now) read → OnOk result (map attribute_value kept.new.items ≡ map (attribute_said (λ n t. text_of t) (λ n t. bytes_of t) self.now.m.now) (read ++ attribute.entry ∷ [])) }
+        ensures { (read : List (SpannedAttribute _ _)) →
+            map attribute_value kept.old.items
+            ≡ map (attribute_said (λ n t. text_of t) (λ n t. bytes_of t) self.now.m.now) read →
+            OnOk result
+            (map attribute_value kept.new.items
+            ≡ map (attribute_said (λ n t. text_of t) (λ n t. bytes_of t) self.now.m.now)
+            (read ++ attribute.entry ∷ [])) }
     {
         attribute.push_value(self.m, kept)
     }
@@ -193,7 +214,8 @@ fn spaced_attribute<K: KeepAttribute>(
 ) -> Reached<SpannedAttribute<K::Text, K::Bytes>>
     requires start { p ≤ length m.now }
     requires serves { K.serves keep.now m.now }
-    ensures steps { GivesAt (λ x. attribute_said K.text_said K.bytes_said m.now x) m.now result (step (sp ▹ rules.attribute) (drop p m.now)) }
+    ensures steps { GivesAt (λ x. attribute_said K.text_said K.bytes_said m.now x) m.now result
+        (step (sp ▹ rules.attribute) (drop p m.now)) }
     ensures ahead { Ahead m.now p result }
     ensures stands { IfOk result (λ x. EndsAt K.text_said K.bytes_said m.now (p + 1) x.0 x.1) }
 {
@@ -209,7 +231,8 @@ fn some_attributes<K: KeepAttribute>(
 ) -> Reached<Vec<K::Attribute>>
     requires start { p ≤ length m.now }
     requires serves { K.serves keep.now m.now }
-    ensures kept { KeepsAt K.text_said K.bytes_said (K.keeps keep.now) m.now p result (step (list1 sp rules.attribute) (drop p m.now)) }
+    ensures kept { KeepsAt K.text_said K.bytes_said (K.keeps keep.now) m.now p result
+        (step (list1 sp rules.attribute) (drop p m.now)) }
     ensures ahead { Ahead m.now p result }
 {
     // The list first: an attribute that is read before it is taken apart, and put together to be handed on.
@@ -236,7 +259,8 @@ pub(crate) fn kept_list<K: KeepAttribute>(
 ) -> Reached<Vec<K::Attribute>>
     requires start { p ≤ length m.now }
     requires serves { K.serves keep.now m.now }
-    ensures kept { KeepsAt K.text_said K.bytes_said (K.keeps keep.now) m.now (p + 1) result (step rules.attribute_list (drop p m.now)) }
+    ensures kept { KeepsAt K.text_said K.bytes_said (K.keeps keep.now) m.now (p + 1) result
+        (step rules.attribute_list (drop p m.now)) }
     ensures ahead { Ahead m.now p result }
 {
     let (p, _) = tag(b"(", m, p)?;

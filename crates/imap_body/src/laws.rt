@@ -1,14 +1,14 @@
 //! Laws of the rules of this crate, of `imap_envelopes`, of `imap_structure` and of `imap_sections`, and of `==` of
 //! what they read, as contracts of functions that do nothing.
 
-ghost use Rattle.imap_grammar.specs.Text.{Text, text_of, lent_text};
+ghost use Rattle.imap_grammar.specs.Text.{text_of};
 ghost use Rattle.imap_grammar.specs.Equality.{Tells};
 ghost use Rattle.imap_grammar.specs.Copying.{CopiesFreely};
 ghost use Rattle.imap_shapes.specs.Spans.{bytes_of};
 ghost use Rattle.imap_shapes.specs.EnvelopeValues.{address_seen, envelope_seen};
 ghost use Rattle.imap_shapes.specs.FieldValues.{params_seen, encoding_seen};
 ghost use Rattle.imap_shapes.specs.ExtensionValues.{disposition_seen, extension_seen};
-ghost use Rattle.imap_shapes.specs.BodyValues.{BodyValue, type_seen, common_seen, single_seen, body_seen};
+ghost use Rattle.imap_shapes.specs.BodyValues.{type_seen, common_seen, single_seen, body_seen};
 ghost use Rattle.imap_sections.specs.SectionValues.{path_value};
 ghost use Rattle.imap_grammar.specs.Stable.{Stable};
 ghost use Rattle.imap_sections.specs.Sections as sections;
@@ -19,12 +19,13 @@ ghost use Rattle.imap_structure.specs.Extensions as extensions;
 ghost use Rattle.imap_structure.specs.Bodies as bodies;
 ghost use Rattle.std.specs.Option.{option_map};
 ghost use Rattle.std.specs.Prelude.{ℕ, map};
-ghost use Rattle.imap_grammar.specs.ReadBack.{SpellsAndReadsBack, Closes, EndsItem, as_is};
+ghost use Rattle.imap_grammar.specs.ReadBack.{SpellsAndReadsBack, Closes, as_is};
 ghost use Rattle.imap_shapes.specs.Lent.{lent_address, lent_addresses, lent_envelope, lent_params, lent_encoding, lent_fields, lent_disposition, lent_languages, lent_extension, lent_ext_1part, lent_ext_mpart, lent_type, lent_common, lent_single, lent_body};
 ghost use Rattle.imap_sections.specs.SectionTexts.{canonical_text, canonical_part, canonical_path, canonical_section, spells_message_text, spells_text, spells_part, spells_path, spells_section};
-ghost use Rattle.imap_attributes.specs.AttributeValues.{attribute_value, lent_attribute};
+ghost use Rattle.imap_attributes.specs.AttributeValues.{attribute_value};
+ghost use Rattle.imap_attributes.specs.Changed.{lent_attribute};
 ghost use Rattle.imap_body.specs.SpannedAttributes.{places_of_body, places_of, spanned_value};
-ghost use Rattle.imap_body.specs.AttributeTexts.{canonical_attribute, canonical_attributes, spells_attribute, spells_attributes};
+ghost use Rattle.imap_body.specs.AttributeTexts.{canonical_attributes, spells_attributes, AttributeReadsBack};
 ghost use Rattle.imap_envelopes.specs.EnvelopeTexts.{canonical_address, canonical_addresses, canonical_envelope, spells_address, spells_addresses, spells_envelope};
 ghost use Rattle.imap_structure.specs.FieldTexts.{canonical_params, canonical_encoding, canonical_fields, spells_params, spells_encoding, spells_fields};
 ghost use Rattle.imap_structure.specs.ExtensionTexts.{canonical_disposition, canonical_languages, canonical_extension, canonical_ext_1part, canonical_ext_mpart, spells_disposition, spells_languages, spells_extension, spells_ext_1part, spells_ext_mpart};
@@ -96,75 +97,110 @@ pub fn stable()
 /// What each rule takes spells the value that it yields. On the canonical text of a value that it yields, the rule
 /// yields that value again, with all texts borrowed. What follows the text is left whole: any bytes that begin with `)`
 /// or CR, and after an attribute also with a space. Excepted is a text too long to be written as a literal.
-#[tactic(auto, using(imap_sections::proofs::SectionTexts::keeps_section_msgtext, imap_sections::proofs::SectionTexts::keeps_section_text, imap_sections::proofs::SectionTexts::keeps_section_part, imap_sections::proofs::SectionTexts::keeps_section_spec, imap_sections::proofs::SectionTexts::keeps_section, imap_envelopes::proofs::EnvelopeTexts::keeps_address, imap_envelopes::proofs::EnvelopeTexts::keeps_addresses, imap_envelopes::proofs::EnvelopeTexts::keeps_envelope, imap_structure::proofs::FieldTexts::keeps_params, imap_structure::proofs::FieldTexts::keeps_encoding, imap_structure::proofs::FieldTexts::keeps_fields, imap_structure::proofs::ExtensionTexts::keeps_disposition, imap_structure::proofs::ExtensionTexts::keeps_language, imap_structure::proofs::ExtensionTexts::keeps_body_extension, imap_structure::proofs::ExtensionTexts::keeps_ext_1part, imap_structure::proofs::ExtensionTexts::keeps_ext_mpart, imap_structure::proofs::BodyTexts::keeps_body_structure, crate::proofs::AttributeTexts::keeps_body_section, crate::proofs::AttributeTexts::keeps_body_structure, crate::proofs::AttributeTexts::keeps_envelope, crate::proofs::AttributeTexts::keeps_internal_date, crate::proofs::AttributeTexts::keeps_flags, crate::proofs::AttributeTexts::keeps_mod_seq, crate::proofs::AttributeTexts::keeps_rfc822, crate::proofs::AttributeTexts::keeps_rfc822_header, crate::proofs::AttributeTexts::keeps_rfc822_size, crate::proofs::AttributeTexts::keeps_rfc822_text, crate::proofs::AttributeTexts::keeps_uid, crate::proofs::AttributeTexts::keeps_gmail_labels, crate::proofs::AttributeTexts::keeps_gmail_msgid, crate::proofs::AttributeTexts::keeps_gmail_thrid, crate::proofs::AttributeTexts::keeps_email_id, crate::proofs::AttributeTexts::keeps_thread_id, crate::proofs::AttributeTexts::keeps_unknown, crate::proofs::AttributeTexts::keeps_attribute, crate::proofs::AttributeTexts::keeps_attribute_list))]
 pub fn read_back()
-    ensures section_msgtext { SpellsAndReadsBack sections.section_msgtext as_is canonical_text spells_message_text Closes }
-    ensures section_text { SpellsAndReadsBack sections.section_text as_is canonical_text spells_text Closes }
-    ensures section_part { SpellsAndReadsBack sections.section_part as_is canonical_part spells_part Closes }
-    ensures section_spec { SpellsAndReadsBack sections.section_spec as_is canonical_path spells_path Closes }
-    ensures section { SpellsAndReadsBack sections.section as_is canonical_section spells_section Closes }
-    ensures address { SpellsAndReadsBack envelopes.address lent_address canonical_address spells_address Closes }
-    ensures addresses { SpellsAndReadsBack envelopes.addresses lent_addresses canonical_addresses spells_addresses Closes }
-    ensures envelope { SpellsAndReadsBack envelopes.envelope lent_envelope canonical_envelope spells_envelope Closes }
-    ensures body_fld_param { SpellsAndReadsBack fields.body_fld_param lent_params canonical_params spells_params Closes }
-    ensures body_fld_enc { SpellsAndReadsBack fields.body_fld_enc lent_encoding canonical_encoding spells_encoding Closes }
-    ensures body_fields { SpellsAndReadsBack fields.body_fields lent_fields canonical_fields spells_fields Closes }
-    ensures body_fld_dsp { SpellsAndReadsBack extensions.body_fld_dsp (option_map lent_disposition) canonical_disposition spells_disposition Closes }
-    ensures body_fld_lang { SpellsAndReadsBack extensions.body_fld_lang lent_languages canonical_languages spells_languages Closes }
-    ensures extension { (level : ℕ) → SpellsAndReadsBack (extensions.extension level) lent_extension canonical_extension spells_extension Closes }
-    ensures body_extension { SpellsAndReadsBack extensions.body_extension lent_extension canonical_extension spells_extension Closes }
-    ensures body_ext_1part { SpellsAndReadsBack extensions.body_ext_1part lent_ext_1part canonical_ext_1part spells_ext_1part Closes }
-    ensures body_ext_mpart { SpellsAndReadsBack extensions.body_ext_mpart lent_ext_mpart canonical_ext_mpart spells_ext_mpart Closes }
-    ensures body { (level : ℕ) → SpellsAndReadsBack (bodies.body level) lent_body canonical_body spells_body Closes }
-    ensures body_structure { SpellsAndReadsBack bodies.body_structure lent_body canonical_body spells_body Closes }
-    ensures msg_att_body_section { SpellsAndReadsBack attributes.msg_att_body_section lent_attribute canonical_attribute spells_attribute EndsItem }
-    ensures msg_att_body_structure { SpellsAndReadsBack attributes.msg_att_body_structure lent_attribute canonical_attribute spells_attribute EndsItem }
-    ensures msg_att_envelope { SpellsAndReadsBack attributes.msg_att_envelope lent_attribute canonical_attribute spells_attribute EndsItem }
-    ensures msg_att_internal_date { SpellsAndReadsBack attributes.msg_att_internal_date lent_attribute canonical_attribute spells_attribute EndsItem }
-    ensures msg_att_flags { SpellsAndReadsBack attributes.msg_att_flags lent_attribute canonical_attribute spells_attribute EndsItem }
-    ensures msg_att_mod_seq { SpellsAndReadsBack attributes.msg_att_mod_seq lent_attribute canonical_attribute spells_attribute EndsItem }
-    ensures msg_att_rfc822 { SpellsAndReadsBack attributes.msg_att_rfc822 lent_attribute canonical_attribute spells_attribute EndsItem }
-    ensures msg_att_rfc822_header { SpellsAndReadsBack attributes.msg_att_rfc822_header lent_attribute canonical_attribute spells_attribute EndsItem }
-    ensures msg_att_rfc822_size { SpellsAndReadsBack attributes.msg_att_rfc822_size lent_attribute canonical_attribute spells_attribute EndsItem }
-    ensures msg_att_rfc822_text { SpellsAndReadsBack attributes.msg_att_rfc822_text lent_attribute canonical_attribute spells_attribute EndsItem }
-    ensures msg_att_uid { SpellsAndReadsBack attributes.msg_att_uid lent_attribute canonical_attribute spells_attribute EndsItem }
-    ensures msg_att_gmail_labels { SpellsAndReadsBack attributes.msg_att_gmail_labels lent_attribute canonical_attribute spells_attribute EndsItem }
-    ensures msg_att_gmail_msgid { SpellsAndReadsBack attributes.msg_att_gmail_msgid lent_attribute canonical_attribute spells_attribute EndsItem }
-    ensures msg_att_gmail_thrid { SpellsAndReadsBack attributes.msg_att_gmail_thrid lent_attribute canonical_attribute spells_attribute EndsItem }
-    ensures msg_att_email_id { SpellsAndReadsBack attributes.msg_att_email_id lent_attribute canonical_attribute spells_attribute EndsItem }
-    ensures msg_att_thread_id { SpellsAndReadsBack attributes.msg_att_thread_id lent_attribute canonical_attribute spells_attribute EndsItem }
-    ensures msg_att_unknown { SpellsAndReadsBack attributes.msg_att_unknown lent_attribute canonical_attribute spells_attribute EndsItem }
-    ensures attribute { SpellsAndReadsBack attributes.attribute lent_attribute canonical_attribute spells_attribute EndsItem }
-    ensures attribute_list { SpellsAndReadsBack attributes.attribute_list (map lent_attribute) canonical_attributes spells_attributes Closes }
+    ensures section_msgtext { SpellsAndReadsBack sections.section_msgtext as_is canonical_text
+        spells_message_text Closes }
+    ensures section_text { SpellsAndReadsBack sections.section_text as_is canonical_text spells_text
+        Closes }
+    ensures section_part { SpellsAndReadsBack sections.section_part as_is canonical_part spells_part
+        Closes }
+    ensures section_spec { SpellsAndReadsBack sections.section_spec as_is canonical_path spells_path
+        Closes }
+    ensures section { SpellsAndReadsBack sections.section as_is canonical_section spells_section
+        Closes }
+    ensures address { SpellsAndReadsBack envelopes.address lent_address canonical_address
+        spells_address Closes }
+    ensures addresses { SpellsAndReadsBack envelopes.addresses lent_addresses canonical_addresses
+        spells_addresses Closes }
+    ensures envelope { SpellsAndReadsBack envelopes.envelope lent_envelope canonical_envelope
+        spells_envelope Closes }
+    ensures body_fld_param { SpellsAndReadsBack fields.body_fld_param lent_params canonical_params
+        spells_params Closes }
+    ensures body_fld_enc { SpellsAndReadsBack fields.body_fld_enc lent_encoding canonical_encoding
+        spells_encoding Closes }
+    ensures body_fields { SpellsAndReadsBack fields.body_fields lent_fields canonical_fields
+        spells_fields Closes }
+    ensures body_fld_dsp { SpellsAndReadsBack extensions.body_fld_dsp (option_map lent_disposition)
+        canonical_disposition spells_disposition Closes }
+    ensures body_fld_lang { SpellsAndReadsBack extensions.body_fld_lang lent_languages
+        canonical_languages spells_languages Closes }
+    ensures extension { (level : ℕ) →
+        SpellsAndReadsBack (extensions.extension level) lent_extension canonical_extension
+        spells_extension Closes }
+    ensures body_extension { SpellsAndReadsBack extensions.body_extension lent_extension
+        canonical_extension spells_extension Closes }
+    ensures body_ext_1part { SpellsAndReadsBack extensions.body_ext_1part lent_ext_1part
+        canonical_ext_1part spells_ext_1part Closes }
+    ensures body_ext_mpart { SpellsAndReadsBack extensions.body_ext_mpart lent_ext_mpart
+        canonical_ext_mpart spells_ext_mpart Closes }
+    ensures body { (level : ℕ) →
+        SpellsAndReadsBack (bodies.body level) lent_body canonical_body spells_body Closes }
+    ensures body_structure { SpellsAndReadsBack bodies.body_structure lent_body canonical_body
+        spells_body Closes }
+    ensures msg_att_body_section { AttributeReadsBack attributes.msg_att_body_section }
+    ensures msg_att_body_structure { AttributeReadsBack attributes.msg_att_body_structure }
+    ensures msg_att_envelope { AttributeReadsBack attributes.msg_att_envelope }
+    ensures msg_att_internal_date { AttributeReadsBack attributes.msg_att_internal_date }
+    ensures msg_att_flags { AttributeReadsBack attributes.msg_att_flags }
+    ensures msg_att_mod_seq { AttributeReadsBack attributes.msg_att_mod_seq }
+    ensures msg_att_rfc822 { AttributeReadsBack attributes.msg_att_rfc822 }
+    ensures msg_att_rfc822_header { AttributeReadsBack attributes.msg_att_rfc822_header }
+    ensures msg_att_rfc822_size { AttributeReadsBack attributes.msg_att_rfc822_size }
+    ensures msg_att_rfc822_text { AttributeReadsBack attributes.msg_att_rfc822_text }
+    ensures msg_att_uid { AttributeReadsBack attributes.msg_att_uid }
+    ensures msg_att_gmail_labels { AttributeReadsBack attributes.msg_att_gmail_labels }
+    ensures msg_att_gmail_msgid { AttributeReadsBack attributes.msg_att_gmail_msgid }
+    ensures msg_att_gmail_thrid { AttributeReadsBack attributes.msg_att_gmail_thrid }
+    ensures msg_att_email_id { AttributeReadsBack attributes.msg_att_email_id }
+    ensures msg_att_thread_id { AttributeReadsBack attributes.msg_att_thread_id }
+    ensures msg_att_unknown { AttributeReadsBack attributes.msg_att_unknown }
+    ensures attribute { AttributeReadsBack attributes.attribute }
+    ensures attribute_list { SpellsAndReadsBack attributes.attribute_list (map lent_attribute)
+        canonical_attributes spells_attributes Closes }
 {}
 
 // `==` tells body structures and attributes of spans by their positions.
 fn spans_equality()
-    ensures body_structure { Tells ⟦<Structure<SpannedText, Span> as PartialEq>⟧.eq (λ x. lent_body (places_of_body x)) }
-    ensures attribute { Tells ⟦<AttributeSpans as PartialEq>⟧.eq (λ x. lent_attribute (places_of x)) }
+    ensures body_structure { Tells ⟦<Structure<SpannedText, Span> as PartialEq>⟧.eq (λ x.
+        lent_body (places_of_body x)) }
+    ensures attribute { Tells ⟦<AttributeSpans as PartialEq>⟧.eq (λ x.
+        lent_attribute (places_of x)) }
 {
     laws::equality::<SpannedText, Span>();
     attributes_equality::<SpannedText, Span, Box<Structure<SpannedText, Span>>>();
 }
 
-/// `==` tells whether two values say the same: texts by their bytes, whichever lie in the input. What is kept as
+/// `==` tells whether two values say the same: texts by their bytes, whichever are borrowed. What is kept as
 /// positions it tells by these, field by field, whatever they name in a message.
 pub fn equality()
     ensures message_section { Tells ⟦<MessageSection as PartialEq>⟧.eq (λ x. x) }
     ensures section_path { Tells ⟦<SectionPath as PartialEq>⟧.eq path_value }
-    ensures address { Tells ⟦<Address<'static> as PartialEq>⟧.eq (λ x. lent_address (address_seen bytes_of x)) }
-    ensures envelope { Tells ⟦<Envelope<'static> as PartialEq>⟧.eq (λ x. lent_envelope (envelope_seen bytes_of x)) }
-    ensures body_params { Tells ⟦<BodyParams<'static> as PartialEq>⟧.eq (λ x. lent_params (params_seen text_of x)) }
-    ensures content_encoding { Tells ⟦<ContentEncoding<'static> as PartialEq>⟧.eq (λ x. lent_encoding (encoding_seen text_of x)) }
-    ensures content_disposition { Tells ⟦<ContentDisposition<'static> as PartialEq>⟧.eq (λ x. lent_disposition (disposition_seen text_of x)) }
-    ensures body_extension { Tells ⟦<BodyExtension<'static> as PartialEq>⟧.eq (λ x. lent_extension (extension_seen text_of x)) }
-    ensures content_type { Tells ⟦<ContentType<'static> as PartialEq>⟧.eq (λ x. lent_type (type_seen text_of x)) }
-    ensures content_common { Tells ⟦<BodyContentCommon<'static> as PartialEq>⟧.eq (λ x. lent_common (common_seen text_of x)) }
-    ensures content_single_part { Tells ⟦<BodyContentSinglePart<'static> as PartialEq>⟧.eq (λ x. lent_single (single_seen text_of x)) }
-    ensures body_structure { Tells ⟦<BodyStructure<'static> as PartialEq>⟧.eq (λ x. lent_body (body_seen text_of bytes_of x)) }
-    ensures attribute { Tells ⟦<AttributeValue<'static> as PartialEq>⟧.eq (λ x. lent_attribute (attribute_value x)) }
-    ensures spanned_body_structure { Tells ⟦<Structure<SpannedText, Span> as PartialEq>⟧.eq (λ x. lent_body (places_of_body x)) }
-    ensures spanned_attribute { Tells ⟦<SpannedAttribute<SpannedText, Span> as PartialEq>⟧.eq spanned_value }
+    ensures address { Tells ⟦<Address<'static> as PartialEq>⟧.eq (λ x.
+        lent_address (address_seen bytes_of x)) }
+    ensures envelope { Tells ⟦<Envelope<'static> as PartialEq>⟧.eq (λ x.
+        lent_envelope (envelope_seen bytes_of x)) }
+    ensures body_params { Tells ⟦<BodyParams<'static> as PartialEq>⟧.eq (λ x.
+        lent_params (params_seen text_of x)) }
+    ensures content_encoding { Tells ⟦<ContentEncoding<'static> as PartialEq>⟧.eq (λ x.
+        lent_encoding (encoding_seen text_of x)) }
+    ensures content_disposition { Tells ⟦<ContentDisposition<'static> as PartialEq>⟧.eq (λ x.
+        lent_disposition (disposition_seen text_of x)) }
+    ensures body_extension { Tells ⟦<BodyExtension<'static> as PartialEq>⟧.eq (λ x.
+        lent_extension (extension_seen text_of x)) }
+    ensures content_type { Tells ⟦<ContentType<'static> as PartialEq>⟧.eq (λ x.
+        lent_type (type_seen text_of x)) }
+    ensures content_common { Tells ⟦<BodyContentCommon<'static> as PartialEq>⟧.eq (λ x.
+        lent_common (common_seen text_of x)) }
+    ensures content_single_part { Tells ⟦<BodyContentSinglePart<'static> as PartialEq>⟧.eq (λ x.
+        lent_single (single_seen text_of x)) }
+    ensures body_structure { Tells ⟦<BodyStructure<'static> as PartialEq>⟧.eq (λ x.
+        lent_body (body_seen text_of bytes_of x)) }
+    ensures attribute { Tells ⟦<AttributeValue<'static> as PartialEq>⟧.eq (λ x.
+        lent_attribute (attribute_value x)) }
+    ensures spanned_body_structure { Tells ⟦<Structure<SpannedText, Span> as PartialEq>⟧.eq (λ x.
+        lent_body (places_of_body x)) }
+    ensures spanned_attribute { Tells ⟦<SpannedAttribute<SpannedText, Span> as PartialEq>⟧.eq
+        spanned_value }
 {
     spans_equality();
     laws::equality::<CowStr<'static>, CowSlice<'static, u8>>();
@@ -173,5 +209,6 @@ pub fn equality()
 
 /// A clone takes no memory, and is the same value.
 pub fn cloning()
-    ensures message_section { CopiesFreely ⟦<MessageSection as Clone>⟧.is_infallible ⟦<MessageSection as Clone>⟧.is_clone }
+    ensures message_section { CopiesFreely ⟦<MessageSection as Clone>⟧.is_infallible
+        ⟦<MessageSection as Clone>⟧.is_clone }
 {}

@@ -5,7 +5,7 @@ ghost use Rattle.std.specs.Prelude.{◌≡◌, ◌≤◌, ◌+◌, ◌++◌, ◌
 ghost use Rattle.imap_grammar.specs.Positions.{AnswersAt, GivesAt, Ahead};
 ghost use Rattle.imap_grammar.specs.Step.{step};
 ghost use Rattle.imap_attributes.specs.AttributeValues.{attribute_value, kept_value};
-ghost use Rattle.imap_body.specs.SpannedAttributes.{attribute_in, attribute_said, EndsAt, InFront, InTurn, WithinItsSpan};
+ghost use Rattle.imap_body.specs.SpannedAttributes.{span_of, attribute_in, attribute_said, EndsAt, InFront, InTurn, WithinItsSpan};
 ghost use Rattle.imap_body.specs.Attributes as rules;
 
 use crate::at::attributes::attribute;
@@ -30,7 +30,7 @@ pub struct SpannedAttribute<S = SpannedText, B = Span> {
 impl SpannedAttribute {
     /// Where it stands in its message. No memory.
     pub fn span(&self) -> Span
-        ensures { result ≡ self.now.span }
+        ensures { result ≡ span_of self.now }
     {
         self.span
     }
@@ -56,7 +56,9 @@ impl<'a> SpannedAttribute<CowStr<'a>, CowSlice<'a, u8>> {
         m: &[u8],
         values: &mut Vec<AttributeValue<'a>>,
     ) -> Result<(), AllocError>
-        ensures { OnOk result (map attribute_value values.new.items ≡ map attribute_value values.old.items ++ kept_value self.entry.parts ∷ []) }
+        ensures { OnOk result
+            (map attribute_value values.new.items
+            ≡ map attribute_value values.old.items ++ kept_value self.entry.parts ∷ []) }
     {
         make_first_room(values, m, self.span.end)?;
         self.parts.push_unboxed(values)
@@ -92,7 +94,8 @@ pub(crate) fn spanned_attribute<K: KeepAttribute>(
 ) -> Reached<SpannedAttribute<K::Text, K::Bytes>>
     requires start { p ≤ length m.now }
     requires serves { K.serves keep.now m.now }
-    ensures steps { GivesAt (λ x. attribute_said K.text_said K.bytes_said m.now x) m.now result (step rules.attribute (drop p m.now)) }
+    ensures steps { GivesAt (λ x. attribute_said K.text_said K.bytes_said m.now x) m.now result
+        (step rules.attribute (drop p m.now)) }
     ensures ahead { Ahead m.now p result }
     ensures stands { IfOk result (λ x. EndsAt K.text_said K.bytes_said m.now p x.0 x.1) }
 {
@@ -110,8 +113,10 @@ pub(crate) fn spanned_attribute<K: KeepAttribute>(
 /// It takes memory for the list, and for the lists, envelopes and body structures in it; for no text.
 pub fn attribute_list_at(alloc: Global, m: &[u8], p: usize) -> Reached<Vec<SpannedAttribute>>
     requires { p ≤ length m.now }
-    ensures steps { GivesAt (λ x. map (attribute_in m.now) x.items) m.now result (step rules.attribute_list (drop p m.now)) }
-    ensures answer { AnswersAt rules.attribute_list (λ x. map (attribute_in m.now) x.items) m.now p result }
+    ensures steps { GivesAt (λ x. map (attribute_in m.now) x.items) m.now result
+        (step rules.attribute_list (drop p m.now)) }
+    ensures answer { AnswersAt rules.attribute_list (λ x. map (attribute_in m.now) x.items) m.now p
+        result }
     ensures ahead { Ahead m.now p result }
     ensures rests { InFront (λ n x. map (attribute_in n) x.items) result }
     ensures spans { IfOk result (λ x. InTurn m.now (p + 1) x.0 x.1.items) }

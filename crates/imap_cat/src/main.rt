@@ -1,4 +1,4 @@
-//! Reads standard input to its end, and writes a line for each response as soon as its last byte was read, and a last
+//! Reads standard input to its end, and writes a line for each response as soon as the bytes read tell it, and a last
 //! line on what is left. The exit status is 0, 2 or 3 by that line (`end`, `waiting`, `denied`), and 1 after a fault.
 #![tactic(auto)]
 

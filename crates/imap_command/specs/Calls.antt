@@ -104,7 +104,8 @@ added state (range first last) = comma state ++ (decimal first ++ (codes ":" ++ 
 added state (range_from first) = comma state ++ (decimal first ++ codes ":*")
 added state (attr_macro group) = codes " " ++ macro_word group
 added state (attr attribute) = opening state ++ attribute_word attribute
-added state (changed_since n) = closing state ++ (codes " (CHANGEDSINCE " ++ (decimal n ++ codes ")"))
+added state (changed_since n) =
+    closing state ++ (codes " (CHANGEDSINCE " ++ (decimal n ++ codes ")"))
 
 -- the text so far
 abbrev pub begun : List Call → List ℕ
@@ -136,3 +137,13 @@ told calls = record { text = begun calls ++ closing (stage calls); next_state = 
 pub record Holds (calls : List Call) (command : Command) : Type 0 where
   pub text : command.args.items ≡ (told calls).text
   pub next_state : command.next_state ≡ (told calls).next_state
+
+-- What calls that end in this state began, goes on by one call more.
+abbrev pub Adds : Stage → Call → List ℕ → List ℕ → Type 0
+Adds state call old new =
+    (calls : List Call) → stage calls ≡ state → old ≡ begun calls → new ≡ begun (call ∷ calls)
+
+-- What calls that end in this state began, is this finished command.
+abbrev pub Finishes : Stage → List ℕ → Command → Type 0
+Finishes state old command =
+    (calls : List Call) → stage calls ≡ state → old ≡ begun calls → Holds calls command

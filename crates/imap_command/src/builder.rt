@@ -20,7 +20,7 @@ pub struct CommandBuilder {}
 impl CommandBuilder {
     /// CHECK (RFC 3501, section 6.4.1). It takes memory; `Err`: memory ran out.
     pub fn check(alloc: Global) -> Result<Command, AllocError>
-        ensures { IfOk result (λ command. Holds (call.check ∷ []) command) }
+        ensures { IfOk result (Holds (call.check ∷ [])) }
     {
         let args = Vec::from_slice(alloc, b"CHECK")?;
         Ok(Command {
@@ -31,7 +31,7 @@ impl CommandBuilder {
 
     /// CLOSE (RFC 3501, section 6.4.2). It takes memory; `Err`: memory ran out.
     pub fn close(alloc: Global) -> Result<Command, AllocError>
-        ensures { IfOk result (λ command. Holds (call.close ∷ []) command) }
+        ensures { IfOk result (Holds (call.close ∷ [])) }
     {
         let args = Vec::from_slice(alloc, b"CLOSE")?;
         Ok(Command {
@@ -70,8 +70,7 @@ impl CommandBuilder {
     /// `OutOfMemory`: memory ran out.
     pub fn list(alloc: Global, reference: &str, glob: &str) -> Result<Command, BuildError>
         ensures judged { Judges (option_or (refusal reference.now) (refusal glob.now)) result }
-        ensures told { IfOk result (λ command.
-            Holds (call.list reference.now glob.now ∷ []) command) }
+        ensures told { IfOk result (Holds (call.list reference.now glob.now ∷ [])) }
     {
         let args = with_arguments(alloc, b"LIST ", reference, glob)?;
         Ok(Command {
@@ -86,8 +85,7 @@ impl CommandBuilder {
     /// `OutOfMemory`: memory ran out.
     pub fn login(alloc: Global, user_name: &str, password: &str) -> Result<Command, BuildError>
         ensures judged { Judges (option_or (refusal user_name.now) (refusal password.now)) result }
-        ensures told { IfOk result (λ command.
-            Holds (call.login user_name.now password.now ∷ []) command) }
+        ensures told { IfOk result (Holds (call.login user_name.now password.now ∷ [])) }
     {
         let args = with_arguments(alloc, b"LOGIN ", user_name, password)?;
         Ok(Command {

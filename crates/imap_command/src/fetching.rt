@@ -1,8 +1,8 @@
 //! FETCH and UID FETCH.
 
-ghost use Rattle.std.specs.Prelude.{◌≡◌, ℕ, List, ◌∷◌, IfOk};
+ghost use Rattle.std.specs.Prelude.{◌≡◌, ℕ, List, IfOk};
 ghost use Rattle.std.specs.Range.{range_inclusive_start, range_inclusive_end};
-ghost use Rattle.imap_command.specs.Calls.{Call, stage, begun, empty, modifiers, Holds};
+ghost use Rattle.imap_command.specs.Calls.{empty, modifiers, Adds, Finishes};
 ghost use Rattle.imap_command.specs.Calls as call;
 
 use crate::Command;
@@ -15,8 +15,8 @@ use std::ops::{RangeFrom, RangeInclusive};
 mod attributes;
 mod messages;
 
-/// A FETCH or UID FETCH that is being built; `T` is what it has been told so far. Where a growth is
-/// refused, the command is given up.
+/// A FETCH or UID FETCH that is being built; `T` is what it has been told so far. Where memory runs
+/// out, the command is given up.
 #[derive(Drop)]
 pub struct FetchCommand<T> {
     args: Vec<u8>,
@@ -44,8 +44,7 @@ impl FetchCommand<Empty> {
     /// Asks for the message with this number, behind `uid_fetch` with this UID (RFC 3501, sections 6.4.5
     /// and 6.4.8). It takes memory; `Err`: memory ran out.
     pub fn num(self, number: u32) -> Result<FetchCommand<Messages>, AllocError>
-        ensures { IfOk result (λ command. (calls : List Call) → stage calls ≡ empty
-            → self ≡ begun calls → command ≡ begun (call.num number ∷ calls)) }
+        ensures { IfOk result (Adds empty (call.num number) self) }
     {
         let mut args = self.args;
         push_number(&mut args, u64::from(number))?;
@@ -55,9 +54,9 @@ impl FetchCommand<Empty> {
     /// Asks for the messages from one number to another, behind `uid_fetch` from one UID to another
     /// (RFC 3501, sections 6.4.5 and 6.4.8). It takes memory; `Err`: memory ran out.
     pub fn range(self, range: RangeInclusive<u32>) -> Result<FetchCommand<Messages>, AllocError>
-        ensures { IfOk result (λ command. (calls : List Call) → stage calls ≡ empty
-            → self ≡ begun calls → command
-            ≡ begun (call.range (range_inclusive_start range) (range_inclusive_end range) ∷ calls)) }
+        ensures { IfOk result
+            (Adds empty (call.range (range_inclusive_start range) (range_inclusive_end range))
+            self) }
     {
         let mut args = self.args;
         push_range(&mut args, range)?;
@@ -67,8 +66,7 @@ impl FetchCommand<Empty> {
     /// Asks for the messages from a number on, behind `uid_fetch` from a UID on (RFC 3501, sections 6.4.5
     /// and 6.4.8). It takes memory; `Err`: memory ran out.
     pub fn range_from(self, range: RangeFrom<u32>) -> Result<FetchCommand<Messages>, AllocError>
-        ensures { IfOk result (λ command. (calls : List Call) → stage calls ≡ empty
-            → self ≡ begun calls → command ≡ begun (call.range_from range.start ∷ calls)) }
+        ensures { IfOk result (Adds empty (call.range_from range.start) self) }
     {
         let mut args = self.args;
         push_open_range(&mut args, range.start)?;
@@ -80,8 +78,7 @@ impl FetchCommand<Modifiers> {
     /// Asks only for messages that changed after this mod-sequence (RFC 4551, section 3.3.1). A limit
     /// that was set before stays. It takes memory; `Err`: memory ran out.
     pub fn changed_since(self, mod_seq: u64) -> Result<FetchCommand<Modifiers>, AllocError>
-        ensures { IfOk result (λ command. (calls : List Call) → stage calls ≡ modifiers
-            → self ≡ begun calls → command ≡ begun (call.changed_since mod_seq ∷ calls)) }
+        ensures { IfOk result (Adds modifiers (call.changed_since mod_seq) self) }
     {
         let mut args = self.args;
         push_changed_since(&mut args, mod_seq)?;
@@ -91,8 +88,7 @@ impl FetchCommand<Modifiers> {
 
 /// The finished command. It takes no memory.
 impl From<FetchCommand<Modifiers>> for Command {
-    ghost from_gives = { λ fetch command. (calls : List Call) → stage calls ≡ modifiers
-        → fetch ≡ begun calls → Holds calls command };
+    ghost from_gives = { Finishes modifiers };
 
     fn from(fetch: FetchCommand<Modifiers>) -> Command {
         Command {

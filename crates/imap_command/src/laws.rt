@@ -15,7 +15,8 @@ pub fn calls_told_apart()
 
 /// `==` tells whether two values are the same.
 pub fn equality()
-    ensures build_error { (x y : BuildError) → IsTrue (⟦<BuildError as PartialEq>⟧.eq x y) ↔ (x ≡ y) }
+    ensures build_error { (x y : BuildError) →
+        IsTrue (⟦<BuildError as PartialEq>⟧.eq x y) ↔ (x ≡ y) }
     ensures state { (x y : State) → IsTrue (⟦<State as PartialEq>⟧.eq x y) ↔ (x ≡ y) }
     ensures attr_macro { (x y : AttrMacro) → IsTrue (⟦<AttrMacro as PartialEq>⟧.eq x y) ↔ (x ≡ y) }
     ensures attribute { (x y : Attribute) → IsTrue (⟦<Attribute as PartialEq>⟧.eq x y) ↔ (x ≡ y) }
@@ -23,7 +24,12 @@ pub fn equality()
 
 /// A clone takes no memory, and is the same value.
 pub fn cloning()
-    ensures state { (x copy : State) → ⟦<State as Clone>⟧.is_infallible x × (⟦<State as Clone>⟧.is_clone x copy → copy ≡ x) }
-    ensures attr_macro { (x copy : AttrMacro) → ⟦<AttrMacro as Clone>⟧.is_infallible x × (⟦<AttrMacro as Clone>⟧.is_clone x copy → copy ≡ x) }
-    ensures attribute { (x copy : Attribute) → ⟦<Attribute as Clone>⟧.is_infallible x × (⟦<Attribute as Clone>⟧.is_clone x copy → copy ≡ x) }
+    ensures state { (x copy : State) →
+        ⟦<State as Clone>⟧.is_infallible x × (⟦<State as Clone>⟧.is_clone x copy → copy ≡ x) }
+    ensures attr_macro { (x copy : AttrMacro) →
+        ⟦<AttrMacro as Clone>⟧.is_infallible x
+        × (⟦<AttrMacro as Clone>⟧.is_clone x copy → copy ≡ x) }
+    ensures attribute { (x copy : Attribute) →
+        ⟦<Attribute as Clone>⟧.is_infallible x
+        × (⟦<Attribute as Clone>⟧.is_clone x copy → copy ≡ x) }
 {}

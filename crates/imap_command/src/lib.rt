@@ -2,7 +2,7 @@
 //!
 //! A [`CommandBuilder`] begins a command, later calls add to it, and the finished [`Command`] holds
 //! its text without tag and line end, and the state that it leads to. A call that takes memory
-//! answers an error where a growth was refused, and the command is then given up.
+//! answers an error where memory ran out, and the command is then given up.
 #![tactic(auto)]
 
 mod arguments;

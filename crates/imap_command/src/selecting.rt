@@ -1,7 +1,7 @@
 //! SELECT and EXAMINE.
 
-ghost use Rattle.std.specs.Prelude.{◌≡◌, ℕ, List, ◌∷◌, IfOk};
-ghost use Rattle.imap_command.specs.Calls.{Call, stage, begun, no_params, params, Holds};
+ghost use Rattle.std.specs.Prelude.{◌≡◌, ℕ, List, IfOk};
+ghost use Rattle.imap_command.specs.Calls.{no_params, params, Adds, Finishes};
 ghost use Rattle.imap_command.specs.Calls as call;
 
 use crate::select::{NoParams, Params};
@@ -9,8 +9,8 @@ use crate::{Command, State};
 use std::alloc::AllocError;
 use std::marker::{Model, PhantomData};
 
-/// A SELECT or EXAMINE that is being built; `T` is what it has been told so far. Where a growth is
-/// refused, the command is given up.
+/// A SELECT or EXAMINE that is being built; `T` is what it has been told so far. Where memory runs
+/// out, the command is given up.
 #[derive(Drop)]
 pub struct SelectCommand<T> {
     args: Vec<u8>,
@@ -49,8 +49,7 @@ impl SelectCommand<NoParams> {
     /// Asks for mod-sequences from now on (RFC 4551, section 3.7). It takes memory; `Err`: memory
     /// ran out.
     pub fn cond_store(self) -> Result<SelectCommand<Params>, AllocError>
-        ensures { IfOk result (λ command. (calls : List Call) → stage calls ≡ no_params
-            → self ≡ begun calls → command ≡ begun (call.cond_store ∷ calls)) }
+        ensures { IfOk result (Adds no_params call.cond_store self) }
     {
         let mut args = self.args;
         args.extend_from_slice(b" (CONDSTORE")?;
@@ -62,8 +61,7 @@ impl SelectCommand<Params> {
     /// The finished command. It takes memory; `Err`: memory ran out.
     #[tactic(auto, using(crate::proofs::NextStates::selects_with_params))]
     pub fn into_command(self) -> Result<Command, AllocError>
-        ensures { IfOk result (λ command. (calls : List Call) → stage calls ≡ params
-            → self ≡ begun calls → Holds calls command) }
+        ensures { IfOk result (Finishes params self) }
     {
         let mut args = self.args;
         args.push(b')')?;
@@ -73,8 +71,7 @@ impl SelectCommand<Params> {
 
 /// The finished command. It takes no memory.
 impl From<SelectCommand<NoParams>> for Command {
-    ghost from_gives = { λ select command. (calls : List Call) → stage calls ≡ no_params
-        → select ≡ begun calls → Holds calls command };
+    ghost from_gives = { Finishes no_params };
 
     fn from(select: SelectCommand<NoParams>) -> Command {
         selecting(select.args)

@@ -1,4 +1,5 @@
--- Codes that may hold a list: want of memory is answered only behind their words, and where these stand no other code is yielded.
+-- Codes that may hold a list: want of memory is answered only behind their words, and where these stand no other code
+-- is yielded.
 use Rattle.std.proofs.Common.{◌≡◌, ℕ, List, ◌++◌, Ok, Err, refl, sym, ap, subst, ◌∙◌, inl, inr}
 use Prim.Native.String.{String}
 use Rattle.std.specs.Prelude.{codes}

@@ -27,8 +27,15 @@ canonical_code ReadOnly = words "READ-ONLY"
 canonical_code ReadWrite = words "READ-WRITE"
 canonical_code TryCreate = words "TRYCREATE"
 canonical_code (HighestModSeq n) = words "HIGHESTMODSEQ " then number_text n
-canonical_code (AppendUid n uids) = words "APPENDUID " then number_text n then space then canonical_uid_set uids
-canonical_code (CopyUid n from to) = words "COPYUID " then number_text n then space then canonical_uid_set from then space then canonical_uid_set to
+canonical_code (AppendUid n uids) =
+    words "APPENDUID " then number_text n then space then canonical_uid_set uids
+canonical_code (CopyUid n from to) =
+    words "COPYUID "
+    then number_text n
+    then space
+    then canonical_uid_set from
+    then space
+    then canonical_uid_set to
 canonical_code UidNotSticky = words "UIDNOTSTICKY"
 canonical_code (MetadataLongEntries n) = words "METADATA LONGENTRIES " then number_text n
 canonical_code (MetadataMaxSize n) = words "METADATA MAXSIZE " then number_text n
@@ -55,8 +62,15 @@ spells_code ReadOnly = in_any_case "READ-ONLY"
 spells_code ReadWrite = in_any_case "READ-WRITE"
 spells_code TryCreate = in_any_case "TRYCREATE"
 spells_code (HighestModSeq n) = in_any_case "HIGHESTMODSEQ " and spells_number n
-spells_code (AppendUid n uids) = in_any_case "APPENDUID " and spells_number n and exactly " " and spells_uid_set uids
-spells_code (CopyUid n from to) = in_any_case "COPYUID " and spells_number n and exactly " " and spells_uid_set from and exactly " " and spells_uid_set to
+spells_code (AppendUid n uids) =
+    in_any_case "APPENDUID " and spells_number n and exactly " " and spells_uid_set uids
+spells_code (CopyUid n from to) =
+    in_any_case "COPYUID "
+    and spells_number n
+    and exactly " "
+    and spells_uid_set from
+    and exactly " "
+    and spells_uid_set to
 spells_code UidNotSticky = in_any_case "UIDNOTSTICKY"
 spells_code (MetadataLongEntries n) = in_any_case "METADATA LONGENTRIES " and spells_number n
 spells_code (MetadataMaxSize n) = in_any_case "METADATA MAXSIZE " and spells_number n

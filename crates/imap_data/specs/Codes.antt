@@ -1,4 +1,5 @@
--- Response codes (RFC 3501, RFC 4551 and RFC 5464: resp-text-code, in sections 9, 4 and 5; RFC 4315, section 4: resp-code-apnd, resp-code-copy).
+-- Response codes (RFC 3501, RFC 4551 and RFC 5464: resp-text-code, in sections 9, 4 and 5; RFC 4315, section 4:
+-- resp-code-apnd, resp-code-copy).
 use Rattle.std.specs.Prelude.{◌≡◌, ℕ, ◌⊎◌, List, ◌++◌, Option, Some, option_map, map, codes}
 use Rattle.imap_grammar.specs.Text.{Bytes, Text, text_of, lent_text}
 use Rattle.imap_grammar.specs.Memory.{BeginsWord}
@@ -41,7 +42,8 @@ code_value (code.UidNext n) = UidNext n
 code_value (code.UidValidity n) = UidValidity n
 code_value (code.Unseen n) = Unseen n
 code_value (code.AppendUid n uids) = AppendUid n (map member_value uids.items)
-code_value (code.CopyUid n from to) = CopyUid n (map member_value from.items) (map member_value to.items)
+code_value (code.CopyUid n from to) =
+    CopyUid n (map member_value from.items) (map member_value to.items)
 code_value code.UidNotSticky = UidNotSticky
 code_value (code.MetadataLongEntries n) = MetadataLongEntries n
 code_value (code.MetadataMaxSize n) = MetadataMaxSize n
@@ -66,7 +68,12 @@ HoldsNoList other = Unit {0}
 
 -- the word of a code that may hold a list stands in front
 abbrev pub BeginsListWord : Bytes → Type 0
-BeginsListWord m = BeginsWord "APPENDUID " m ⊎ BeginsWord "BADCHARSET " m ⊎ BeginsWord "CAPABILITY" m ⊎ BeginsWord "COPYUID " m ⊎ BeginsWord "PERMANENTFLAGS " m
+BeginsListWord m =
+    BeginsWord "APPENDUID " m
+    ⊎ BeginsWord "BADCHARSET " m
+    ⊎ BeginsWord "CAPABILITY" m
+    ⊎ BeginsWord "COPYUID " m
+    ⊎ BeginsWord "PERMANENTFLAGS " m
 
 -- and a bracket before it
 abbrev pub BeginsListCode : Bytes → Type 0
@@ -96,10 +103,11 @@ charsets = sp ▹ charset_list
 unfoldable pub bad_charset : Rule CodeValue
 bad_charset = gives BadCharset (word "BADCHARSET" ▹ opt charsets)
 
--- a UIDVALIDITY and UIDs; the same with a second set
+-- a UIDVALIDITY and UIDs
 abbrev pub append_uid_of : ℕ × List MemberValue → CodeValue
 append_uid_of (validity, uids) = AppendUid validity uids
 
+-- a UIDVALIDITY, the UIDs of the messages, and those of their copies
 abbrev pub copy_uid_of : ℕ × (List MemberValue × List MemberValue) → CodeValue
 copy_uid_of (validity, (source, destination)) = CopyUid validity source destination
 

@@ -1,4 +1,5 @@
--- Items of STATUS, and numbers that were found (RFC 3501, section 9: status-att-list, mailbox-data; RFC 4551, section 4: status-att-val; RFC 5256, section 5: sort-data).
+-- Items of STATUS, and numbers that were found (RFC 3501, section 9: status-att-list, mailbox-data; RFC 4551, section
+-- 4: status-att-val; RFC 5256, section 5: sort-data).
 use Rattle.std.specs.Prelude.{ℕ, List}
 use Rattle.imap_grammar.specs.Rule.{Rule, gives, many, ◌▹◌, ◌◃◌, ◌or◌}
 use Rattle.imap_grammar.specs.Tags.{word, sp, maybe_space}

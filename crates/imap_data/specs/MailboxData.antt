@@ -49,7 +49,18 @@ unfoldable pub sort : Rule MailboxValue
 sort = gives Sort (word "SORT" ▹ found_numbers)
 
 unfoldable pub mailbox_datum : Rule MailboxValue
-mailbox_datum = flags or exists or list or lsub or status or recent or search or labels or msgid or thrid or sort
+mailbox_datum =
+    flags
+    or exists
+    or list
+    or lsub
+    or status
+    or recent
+    or search
+    or labels
+    or msgid
+    or thrid
+    or sort
 
 -- alternatives of `mailbox_datum` by their first byte
 

@@ -28,7 +28,8 @@ abbrev pub canonical_datum : MailboxValue → Pieces
 canonical_datum (Flags flags) = words "FLAGS " then canonical_flag_list flags
 canonical_datum (Exists n) = number_text n then words " EXISTS"
 canonical_datum (Listed l) = words "LIST " then canonical_list l
-canonical_datum (Status mailbox items) = words "STATUS " then canonical_mailbox mailbox then space then list_text canonical_item items
+canonical_datum (Status mailbox items) =
+    words "STATUS " then canonical_mailbox mailbox then space then list_text canonical_item items
 canonical_datum (Recent n) = number_text n then words " RECENT"
 canonical_datum (Search ns) = words "SEARCH" then canonical_numbers ns
 canonical_datum (Sort ns) = words "SORT" then canonical_numbers ns
@@ -53,8 +54,14 @@ spells_numbers ns = each_of (λ n. exactly " " and spells_number n) ns and maybe
 abbrev pub spells_datum : MailboxValue → Texts
 spells_datum (Flags flags) = in_any_case "FLAGS " and spells_flag_list flags
 spells_datum (Exists n) = spells_number n and in_any_case " EXISTS"
-spells_datum (Listed l) = λ c. (in_any_case "LIST " and spells_list_data l) c ⊎ (in_any_case "LSUB " and spells_list_data l) c
-spells_datum (Status mailbox items) = in_any_case "STATUS " and spells_mailbox mailbox and exactly " " and spells_list spells_item items
+spells_datum (Listed l) =
+    λ c.
+    (in_any_case "LIST " and spells_list_data l) c ⊎ (in_any_case "LSUB " and spells_list_data l) c
+spells_datum (Status mailbox items) =
+    in_any_case "STATUS "
+    and spells_mailbox mailbox
+    and exactly " "
+    and spells_list spells_item items
 spells_datum (Recent n) = spells_number n and in_any_case " RECENT"
 spells_datum (Search ns) = in_any_case "SEARCH" and spells_numbers ns
 spells_datum (Sort ns) = in_any_case "SORT" and spells_numbers ns

@@ -1,4 +1,4 @@
--- The values of mailbox data: texts by their bytes, and whether they lie in the input.
+-- The values of mailbox data: texts by their bytes, and whether they are borrowed.
 use Rattle.std.specs.Prelude.{ℕ, List, map}
 use Rattle.imap_grammar.specs.Text.{Text, text_of, lent_text}
 use Rattle.imap_extensions.specs.Annotations.{MetadataValue, metadata_value}
@@ -31,8 +31,10 @@ mailbox_value (datum.Search ns) = Search ns.items
 mailbox_value (datum.Sort ns) = Sort ns.items
 mailbox_value (datum.Status mailbox items) = Status (text_of mailbox) items.items
 mailbox_value (datum.Recent n) = Recent n
-mailbox_value (datum.MetadataSolicited mailbox values) = MetadataSolicited (text_of mailbox) (map metadata_value values.items)
-mailbox_value (datum.MetadataUnsolicited mailbox values) = MetadataUnsolicited (text_of mailbox) (map text_of values.items)
+mailbox_value (datum.MetadataSolicited mailbox values) =
+    MetadataSolicited (text_of mailbox) (map metadata_value values.items)
+mailbox_value (datum.MetadataUnsolicited mailbox values) =
+    MetadataUnsolicited (text_of mailbox) (map text_of values.items)
 mailbox_value (datum.GmailLabels labels) = GmailLabels (map text_of labels.items)
 mailbox_value (datum.GmailMsgId n) = GmailMsgId n
 mailbox_value (datum.GmailThrId n) = GmailThrId n
@@ -52,7 +54,8 @@ lent_mailbox (Flags flags) = Flags (map lent_text flags)
 lent_mailbox (Listed l) = Listed (lent_list l)
 lent_mailbox (Status mailbox items) = Status (lent_text mailbox) items
 lent_mailbox (MetadataSolicited mailbox values) = MetadataSolicited (lent_text mailbox) values
-lent_mailbox (MetadataUnsolicited mailbox values) = MetadataUnsolicited (lent_text mailbox) (map lent_text values)
+lent_mailbox (MetadataUnsolicited mailbox values) =
+    MetadataUnsolicited (lent_text mailbox) (map lent_text values)
 lent_mailbox (GmailLabels labels) = GmailLabels (map lent_text labels)
 lent_mailbox other = other
 

@@ -19,7 +19,8 @@ unfoldable pub attribute_of_a : Rule NameAttributeValue
 attribute_of_a = names "\\All" All or names "\\Archive" Archive or extension
 
 unfoldable pub attribute_of_d_f_j : Rule NameAttributeValue
-attribute_of_d_f_j = names "\\Drafts" Drafts or names "\\Flagged" Flagged or names "\\Junk" Junk or extension
+attribute_of_d_f_j =
+    names "\\Drafts" Drafts or names "\\Flagged" Flagged or names "\\Junk" Junk or extension
 
 unfoldable pub attribute_of_s_t : Rule NameAttributeValue
 attribute_of_s_t = names "\\Sent" Sent or names "\\Trash" Trash or extension

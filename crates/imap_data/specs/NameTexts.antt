@@ -29,7 +29,12 @@ canonical_delimiter None = words "NIL"
 canonical_delimiter (Some t) = quoted_text t
 
 abbrev pub canonical_list : ListValue → Pieces
-canonical_list l = list_text canonical_attribute l.name_attributes then space then canonical_delimiter l.delimiter then space then canonical_mailbox l.name
+canonical_list l =
+    list_text canonical_attribute l.name_attributes
+    then space
+    then canonical_delimiter l.delimiter
+    then space
+    then canonical_mailbox l.name
 
 -- a backslash and atom-chars, maybe none, in UTF-8
 abbrev pub is_extension : Texts
@@ -50,4 +55,9 @@ spells_attribute Trash = in_any_case "\\Trash"
 spells_attribute (Extension t) = as_it_is is_extension t.bytes
 
 abbrev pub spells_list_data : ListValue → Texts
-spells_list_data l = spells_list spells_attribute l.name_attributes and exactly " " and nil_or spells_quoted_text l.delimiter and exactly " " and spells_mailbox l.name
+spells_list_data l =
+    spells_list spells_attribute l.name_attributes
+    and exactly " "
+    and nil_or spells_quoted_text l.delimiter
+    and exactly " "
+    and spells_mailbox l.name

@@ -1,4 +1,5 @@
--- Attributes of mailbox names and the data of LIST (RFC 3501, section 9: mailbox-list, mbx-list-flags; RFC 6154, section 6: use-attr).
+-- Attributes of mailbox names and the data of LIST (RFC 3501, section 9: mailbox-list, mbx-list-flags; RFC 6154,
+-- section 6: use-attr).
 use Rattle.std.specs.Prelude.{List, Option, None, Some, option_map, map}
 use Rattle.imap_grammar.specs.Text.{Bytes, Text, as_text, text_of, lent_text}
 use Rattle.imap_grammar.specs.Rule.{Rule, gives, nothing, ◌⨾◌, ◌▹◌, ◌or◌}
@@ -41,7 +42,12 @@ attribute_value name.Trash = Trash
 attribute_value (name.Extension t) = Extension (text_of t)
 
 abbrev pub list_value : MailboxListData → ListValue
-list_value l = record { name_attributes = map attribute_value l.name_attributes.items; delimiter = option_map text_of l.delimiter; name = text_of l.name }
+list_value l =
+    record {
+      name_attributes = map attribute_value l.name_attributes.items;
+      delimiter = option_map text_of l.delimiter;
+      name = text_of l.name;
+    }
 
 -- ---- with all texts borrowed: two values are the same where these are one
 
@@ -50,7 +56,12 @@ lent_attribute (Extension t) = Extension (lent_text t)
 lent_attribute other = other
 
 abbrev pub lent_list : ListValue → ListValue
-lent_list l = record { name_attributes = map lent_attribute l.name_attributes; delimiter = option_map lent_text l.delimiter; name = lent_text l.name }
+lent_list l =
+    record {
+      name_attributes = map lent_attribute l.name_attributes;
+      delimiter = option_map lent_text l.delimiter;
+      name = lent_text l.name;
+    }
 
 abbrev pub attribute_content : NameAttribute → NameAttributeValue
 attribute_content a = lent_attribute (attribute_value a)
@@ -96,7 +107,12 @@ unfoldable pub delimiter : Rule (Option Text)
 delimiter = some_delimiter or nil ▹ nothing None
 
 abbrev pub listed : List NameAttributeValue × (Option Text × Text) → ListValue
-listed (attributes, (delimiter, name)) = record { name_attributes = attributes; delimiter = delimiter; name = name }
+listed (attributes, (delimiter, name)) =
+    record {
+      name_attributes = attributes;
+      delimiter = delimiter;
+      name = name;
+    }
 
 unfoldable pub list_data : Rule ListValue
 list_data = gives listed (name_attributes ⨾ sp ▹ delimiter ⨾ sp ▹ mailbox)

@@ -1,6 +1,7 @@
 -- The same values with all texts owned.
 use Rattle.std.specs.Prelude.{option_map, map}
-use Rattle.imap_items.specs.Owned.{owned_text, owned_capability}
+use Rattle.imap_grammar.specs.Text.{owned_text}
+use Rattle.imap_items.specs.Owned.{owned_capability}
 use Rattle.imap_data.specs.Codes.{CodeValue, BadCharset, Capabilities, PermanentFlags}
 use Rattle.imap_data.specs.Names.{NameAttributeValue, Extension, ListValue}
 use Rattle.imap_data.specs.MailboxValues.{MailboxValue, Flags, Listed, Status, MetadataSolicited, MetadataUnsolicited, GmailLabels}
@@ -16,7 +17,12 @@ owned_attribute (Extension t) = Extension (owned_text t)
 owned_attribute other = other
 
 abbrev pub owned_list : ListValue → ListValue
-owned_list l = record { name_attributes = map owned_attribute l.name_attributes; delimiter = option_map owned_text l.delimiter; name = owned_text l.name }
+owned_list l =
+    record {
+      name_attributes = map owned_attribute l.name_attributes;
+      delimiter = option_map owned_text l.delimiter;
+      name = owned_text l.name;
+    }
 
 -- an annotation's texts are owned always
 abbrev pub owned_mailbox : MailboxValue → MailboxValue
@@ -24,6 +30,7 @@ owned_mailbox (Flags flags) = Flags (map owned_text flags)
 owned_mailbox (Listed l) = Listed (owned_list l)
 owned_mailbox (Status mailbox items) = Status (owned_text mailbox) items
 owned_mailbox (MetadataSolicited mailbox values) = MetadataSolicited (owned_text mailbox) values
-owned_mailbox (MetadataUnsolicited mailbox values) = MetadataUnsolicited (owned_text mailbox) (map owned_text values)
+owned_mailbox (MetadataUnsolicited mailbox values) =
+    MetadataUnsolicited (owned_text mailbox) (map owned_text values)
 owned_mailbox (GmailLabels labels) = GmailLabels (map owned_text labels)
 owned_mailbox other = other

@@ -103,7 +103,7 @@ pub fn stable()
     ensures metadata_unsolicited { Stable metadata.metadata_unsolicited }
 {}
 
-/// `==` tells whether two values say the same: texts by their bytes, whichever lie in the input.
+/// `==` tells whether two values say the same: texts by their bytes, whichever are borrowed.
 #[tactic(auto, using(imap_items::proofs::Capabilities::capability_tells, imap_items::proofs::UidSets::member_tells, crate::proofs::Codes::code_tells))]
 pub fn equality()
     ensures status { Tells ⟦<Status as PartialEq>⟧.eq (λ s. s) }
@@ -115,8 +115,10 @@ pub fn equality()
     ensures status_item { Tells ⟦<StatusAttribute as PartialEq>⟧.eq item_content }
     ensures metadata { Tells ⟦<Metadata as PartialEq>⟧.eq metadata_content }
     ensures mailbox_datum { Tells ⟦<MailboxDatum<'static> as PartialEq>⟧.eq mailbox_content }
-    ensures quota_resource_name { Tells ⟦<QuotaResourceName<'static> as PartialEq>⟧.eq quota_resource_name_content }
-    ensures quota_resource { Tells ⟦<QuotaResource<'static> as PartialEq>⟧.eq quota_resource_content }
+    ensures quota_resource_name { Tells ⟦<QuotaResourceName<'static> as PartialEq>⟧.eq
+        quota_resource_name_content }
+    ensures quota_resource { Tells ⟦<QuotaResource<'static> as PartialEq>⟧.eq
+        quota_resource_content }
     ensures quota { Tells ⟦<Quota<'static> as PartialEq>⟧.eq quota_content }
     ensures quota_root { Tells ⟦<QuotaRoot<'static> as PartialEq>⟧.eq quota_root_content }
     ensures id_map { Tells ⟦<IdMap<'static> as PartialEq>⟧.eq id_content }
@@ -129,16 +131,21 @@ pub fn equality()
 
 /// A clone takes no memory, and is the same value.
 pub fn cloning()
-    ensures status_item { CopiesFreely ⟦<StatusAttribute as Clone>⟧.is_infallible ⟦<StatusAttribute as Clone>⟧.is_clone }
-    ensures acl_right { CopiesFreely ⟦<AclRight as Clone>⟧.is_infallible ⟦<AclRight as Clone>⟧.is_clone }
-    ensures uid_set_member { CopiesFreely ⟦<UidSetMember as Clone>⟧.is_infallible ⟦<UidSetMember as Clone>⟧.is_clone }
+    ensures status_item { CopiesFreely ⟦<StatusAttribute as Clone>⟧.is_infallible
+        ⟦<StatusAttribute as Clone>⟧.is_clone }
+    ensures acl_right { CopiesFreely ⟦<AclRight as Clone>⟧.is_infallible
+        ⟦<AclRight as Clone>⟧.is_clone }
+    ensures uid_set_member { CopiesFreely ⟦<UidSetMember as Clone>⟧.is_infallible
+        ⟦<UidSetMember as Clone>⟧.is_clone }
 {}
 
 /// Values that say the same hash alike.
 pub fn hashing()
     ensures capability { HashesAlike ⟦<Capability<'static> as Hash>⟧.hash_input capability_content }
-    ensures quota_resource_name { HashesAlike ⟦<QuotaResourceName<'static> as Hash>⟧.hash_input quota_resource_name_content }
-    ensures quota_resource { HashesAlike ⟦<QuotaResource<'static> as Hash>⟧.hash_input quota_resource_content }
+    ensures quota_resource_name { HashesAlike ⟦<QuotaResourceName<'static> as Hash>⟧.hash_input
+        quota_resource_name_content }
+    ensures quota_resource { HashesAlike ⟦<QuotaResource<'static> as Hash>⟧.hash_input
+        quota_resource_content }
     ensures quota { HashesAlike ⟦<Quota<'static> as Hash>⟧.hash_input quota_content }
     ensures quota_root { HashesAlike ⟦<QuotaRoot<'static> as Hash>⟧.hash_input quota_root_content }
     ensures acl_right { HashesAlike ⟦<AclRight as Hash>⟧.hash_input right_content }
@@ -148,29 +155,47 @@ pub fn hashing()
 /// yields that value again, with all texts borrowed. What follows the text is left whole: any bytes that begin with `)`
 /// or CR, and for statuses, response codes, flags and Gmail's items also with a space. Excepted is a text too long to
 /// be written as a literal.
-#[tactic(auto, using(imap_items::proofs::StatusTexts::keeps_status, imap_items::proofs::FlagTexts::keeps_flag, imap_items::proofs::FlagTexts::keeps_flag_perm, imap_items::proofs::FlagTexts::keeps_flag_list, imap_items::proofs::GmailTexts::keeps_label_list, imap_items::proofs::GmailTexts::keeps_msgid, imap_items::proofs::GmailTexts::keeps_thrid, imap_items::proofs::CapabilityTexts::keeps_capability_data, imap_items::proofs::CapabilityTexts::keeps_enabled_data, imap_items::proofs::UidSetTexts::keeps_uid_set, imap_items::proofs::MailboxTexts::keeps_mailbox, crate::proofs::CodeTexts::keeps_response_code, crate::proofs::MailboxDataTexts::keeps_mailbox_datum, crate::proofs::MailboxDataTexts::keeps_list_or_lsub, imap_extensions::proofs::QuotaTexts::keeps_quota, imap_extensions::proofs::QuotaTexts::keeps_quota_root, imap_extensions::proofs::IdTexts::keeps_id, imap_extensions::proofs::VanishingTexts::keeps_vanished, crate::proofs::AnnotationTexts::keeps_solicited, crate::proofs::AnnotationTexts::keeps_unsolicited, imap_extensions::proofs::AclTexts::keeps_acl, imap_extensions::proofs::OptionalRights::keeps_list_rights, imap_extensions::proofs::AclTexts::keeps_my_rights))]
 pub fn read_back()
-    ensures status { SpellsAndReadsBack statuses.status as_is canonical_status spells_status EndsItem }
+    ensures status { SpellsAndReadsBack statuses.status as_is canonical_status spells_status
+        EndsItem }
     ensures flag { SpellsAndReadsBack flags.flag as_is canonical_flag spells_flag EndsItem }
-    ensures flag_perm { SpellsAndReadsBack flags.flag_perm as_is canonical_flag spells_flag_perm EndsItem }
-    ensures flag_list { SpellsAndReadsBack flags.flag_list (map lent_text) canonical_flag_list spells_flag_list EndsItem }
-    ensures gmail_label_list { SpellsAndReadsBack gmail.gmail_label_list (map lent_text) canonical_label_list spells_label_list EndsItem }
-    ensures gmail_msgid { SpellsAndReadsBack gmail.gmail_msgid as_is canonical_msgid spells_msgid EndsItem }
-    ensures gmail_thrid { SpellsAndReadsBack gmail.gmail_thrid as_is canonical_thrid spells_thrid EndsItem }
-    ensures capability_data { SpellsAndReadsBack capabilities.capability_data (map lent_capability) canonical_capabilities spells_capability_data Closes }
-    ensures enabled_data { SpellsAndReadsBack capabilities.enabled_data (map lent_capability) canonical_capabilities spells_enabled_data Closes }
-    ensures uid_set { SpellsAndReadsBack uid_sets.uid_set as_is canonical_uid_set spells_uid_set Closes }
-    ensures mailbox { SpellsAndReadsBack mailboxes.mailbox lent_text canonical_mailbox spells_mailbox Closes }
-    ensures response_code { SpellsAndReadsBack codes.response_code lent_code canonical_response_code spells_response_code EndsItem }
-    ensures mailbox_datum { SpellsAndReadsBack mailbox_data.mailbox_datum lent_mailbox canonical_datum spells_datum Closes }
-    ensures list_or_lsub { SpellsAndReadsBack mailbox_data.list_or_lsub lent_mailbox canonical_datum spells_datum Closes }
+    ensures flag_perm { SpellsAndReadsBack flags.flag_perm as_is canonical_flag spells_flag_perm
+        EndsItem }
+    ensures flag_list { SpellsAndReadsBack flags.flag_list (map lent_text) canonical_flag_list
+        spells_flag_list EndsItem }
+    ensures gmail_label_list { SpellsAndReadsBack gmail.gmail_label_list (map lent_text)
+        canonical_label_list spells_label_list EndsItem }
+    ensures gmail_msgid { SpellsAndReadsBack gmail.gmail_msgid as_is canonical_msgid spells_msgid
+        EndsItem }
+    ensures gmail_thrid { SpellsAndReadsBack gmail.gmail_thrid as_is canonical_thrid spells_thrid
+        EndsItem }
+    ensures capability_data { SpellsAndReadsBack capabilities.capability_data (map lent_capability)
+        canonical_capabilities spells_capability_data Closes }
+    ensures enabled_data { SpellsAndReadsBack capabilities.enabled_data (map lent_capability)
+        canonical_capabilities spells_enabled_data Closes }
+    ensures uid_set { SpellsAndReadsBack uid_sets.uid_set as_is canonical_uid_set spells_uid_set
+        Closes }
+    ensures mailbox { SpellsAndReadsBack mailboxes.mailbox lent_text canonical_mailbox
+        spells_mailbox Closes }
+    ensures response_code { SpellsAndReadsBack codes.response_code lent_code canonical_response_code
+        spells_response_code EndsItem }
+    ensures mailbox_datum { SpellsAndReadsBack mailbox_data.mailbox_datum lent_mailbox
+        canonical_datum spells_datum Closes }
+    ensures list_or_lsub { SpellsAndReadsBack mailbox_data.list_or_lsub lent_mailbox canonical_datum
+        spells_datum Closes }
     ensures quota { SpellsAndReadsBack quotas.quota lent_quota canonical_quota spells_quota Closes }
-    ensures quota_root { SpellsAndReadsBack quotas.quota_root lent_quota_root canonical_quota_root spells_quota_root Closes }
+    ensures quota_root { SpellsAndReadsBack quotas.quota_root lent_quota_root canonical_quota_root
+        spells_quota_root Closes }
     ensures id { SpellsAndReadsBack ids.id (option_map lent_id) canonical_id spells_id Closes }
-    ensures vanished { SpellsAndReadsBack vanishings.vanished as_is canonical_vanished spells_vanished Closes }
-    ensures metadata_solicited { SpellsAndReadsBack metadata.metadata_solicited lent_mailbox canonical_datum spells_datum Closes }
-    ensures metadata_unsolicited { SpellsAndReadsBack metadata.metadata_unsolicited lent_mailbox canonical_datum spells_datum Closes }
+    ensures vanished { SpellsAndReadsBack vanishings.vanished as_is canonical_vanished
+        spells_vanished Closes }
+    ensures metadata_solicited { SpellsAndReadsBack metadata.metadata_solicited lent_mailbox
+        canonical_datum spells_datum Closes }
+    ensures metadata_unsolicited { SpellsAndReadsBack metadata.metadata_unsolicited lent_mailbox
+        canonical_datum spells_datum Closes }
     ensures acl { SpellsAndReadsBack acls.acl lent_acl canonical_acl spells_acl Closes }
-    ensures list_rights { SpellsAndReadsBack acls.list_rights lent_list_rights canonical_list_rights spells_list_rights Closes }
-    ensures my_rights { SpellsAndReadsBack acls.my_rights lent_my_rights canonical_my_rights spells_my_rights Closes }
+    ensures list_rights { SpellsAndReadsBack acls.list_rights lent_list_rights canonical_list_rights
+        spells_list_rights Closes }
+    ensures my_rights { SpellsAndReadsBack acls.my_rights lent_my_rights canonical_my_rights
+        spells_my_rights Closes }
 {}

@@ -15,7 +15,8 @@ use std::alloc::AllocError;
 pub fn kept_bytes<K: Keep>(keep: &K, m: &[u8], bytes: Option<Span>) -> Option<K::Bytes>
     requires serves { K.serves keep.now m.now }
     requires inside { IfSome bytes (λ s. (s.start ≤ s.end) × (s.end ≤ length m.now)) }
-    ensures { IsKeptOf (λ n x. option_map (bytes_in n) x) (λ n x. option_map (K.bytes_said n) x) m.now bytes result }
+    ensures { IsKeptOf (λ n x. option_map (bytes_in n) x) (λ n x. option_map (K.bytes_said n) x)
+        m.now bytes result }
 {
     match bytes {
         None => None,
@@ -31,7 +32,9 @@ pub fn kept_text<K: Keep>(
     text: Option<SpannedText>,
 ) -> Result<Option<K::Text>, AllocError>
     requires { K.serves keep.now m.now }
-    ensures { IfOk result (IsKeptOf (λ n x. option_map (text_in n) x) (λ n x. option_map (K.text_said n) x) m.now text) }
+    ensures { IfOk result
+        (IsKeptOf (λ n x. option_map (text_in n) x) (λ n x. option_map (K.text_said n) x) m.now
+        text) }
 {
     match text {
         None => Ok(None),
@@ -47,7 +50,9 @@ pub fn kept_pair<K: Keep>(
     pair: (SpannedText, SpannedText),
 ) -> Result<(K::Text, K::Text), AllocError>
     requires { K.serves keep.now m.now }
-    ensures { IfOk result (IsKeptOf (λ n x. pair_seen (text_in n) x) (λ n x. pair_seen (K.text_said n) x) m.now pair) }
+    ensures { IfOk result
+        (IsKeptOf (λ n x. pair_seen (text_in n) x) (λ n x. pair_seen (K.text_said n) x) m.now
+        pair) }
 {
     let (name, value) = pair;
     let name = keep.text(m, name)?;
@@ -63,7 +68,9 @@ pub fn kept_encoding<K: Keep>(
     encoding: ContentEncoding<SpannedText>,
 ) -> Result<ContentEncoding<K::Text>, AllocError>
     requires { K.serves keep.now m.now }
-    ensures { IfOk result (IsKeptOf (λ n x. encoding_seen (text_in n) x) (λ n x. encoding_seen (K.text_said n) x) m.now encoding) }
+    ensures { IfOk result
+        (IsKeptOf (λ n x. encoding_seen (text_in n) x) (λ n x. encoding_seen (K.text_said n) x)
+        m.now encoding) }
 {
     Ok(match encoding {
         ContentEncoding::SevenBit => ContentEncoding::SevenBit,

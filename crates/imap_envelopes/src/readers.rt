@@ -16,7 +16,9 @@ use imap_bytes::at::span::rest;
 use imap_shapes::{Address, Envelope};
 use std::alloc::Global;
 
-/// An address: four nstrings in parentheses (RFC 3501, section 9: address). Its byte strings are borrowed. No memory.
+/// An address: four nstrings in parentheses (RFC 3501, section 9: address). Its byte strings are borrowed.
+///
+/// A field that is missing, or that its rule denies, is `Error`. No memory.
 #[tactic(auto, using(imap_grammar::proofs::Agreement::exact_answered))]
 pub fn address(i: &[u8]) -> IResult<&[u8], Address<'_>>
     ensures steps { Exactly (λ x. address_seen bytes_of x) result (step envelopes.address i.now) }
@@ -29,7 +31,7 @@ pub fn address(i: &[u8]) -> IResult<&[u8], Address<'_>>
 
 /// An envelope: its ten fields in parentheses (RFC 3501, section 9: envelope). Its byte strings are borrowed.
 ///
-/// It takes memory for the lists of addresses.
+/// A field that is missing, or that its rule denies, is `Error`. It takes memory for the lists of addresses.
 #[tactic(auto, using(imap_grammar::proofs::Agreement::answered))]
 pub fn envelope(alloc: Global, i: &[u8]) -> IResult<&[u8], Envelope<'_>>
     ensures steps { Gives (λ x. envelope_seen bytes_of x) result (step envelopes.envelope i.now) }

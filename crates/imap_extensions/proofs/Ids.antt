@@ -13,9 +13,8 @@ use Rattle.std.specs.FinMap.{insert, empty, entries, from_entries, get, find, ge
 use Rattle.std.specs.HashMap as hash
 use Rattle.std.specs.HashMap.Eq.{get_from_hash_map_eq, hash_map_eq_from_get}
 use Rattle.std.proofs.lemmas.Simd.{map-map}
-use Rattle.imap_grammar.specs.Text.{Bytes, Text, text_of, lent_text}
+use Rattle.imap_grammar.specs.Text.{Bytes, Text, text_of, lent_text, owned_text}
 use Rattle.imap_grammar.proofs.Seen.{Tells, option_tells, option_twice, texts_tell}
-use Rattle.imap_items.specs.Owned.{owned_text}
 use Rattle.imap_extensions.specs.Ids.{IdValue, IdTable, entry_value, id_value, lent_id, id_content}
 use Rattle.imap_extensions.specs.Owned.{owned_entry, owned_id}
 

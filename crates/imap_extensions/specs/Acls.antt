@@ -63,10 +63,21 @@ unfoldable pub optional_rights : Rule (List AclRight)
 optional_rights = gives joined (blanks0 ▹ right_groups)
 
 abbrev pub list_rights_of : Text × (Text × (List AclRight × List AclRight)) → ListRightsValue
-list_rights_of (mailbox, (identifier, (required, optional))) = record { mailbox = mailbox; identifier = identifier; required = required; optional = optional }
+list_rights_of (mailbox, (identifier, (required, optional))) =
+    record {
+      mailbox = mailbox;
+      identifier = identifier;
+      required = required;
+      optional = optional;
+    }
 
 unfoldable pub list_rights : Rule ListRightsValue
-list_rights = gives list_rights_of (word "LISTRIGHTS" ▹ blanks1 ▹ mailbox ⨾ blanks1 ▹ astring_utf8 ⨾ blanks1 ▹ rights ⨾ optional_rights)
+list_rights =
+    gives list_rights_of
+    (word "LISTRIGHTS" ▹ blanks1 ▹ mailbox
+    ⨾ blanks1 ▹ astring_utf8
+    ⨾ blanks1 ▹ rights
+    ⨾ optional_rights)
 
 abbrev pub my_rights_of : Text × List AclRight → MyRightsValue
 my_rights_of (mailbox, rights) = record { mailbox = mailbox; rights = rights }
@@ -83,7 +94,13 @@ abbrev pub acl_value : Acl → AclValue
 acl_value a = record { mailbox = text_of a.mailbox; acls = map acl_entry_value a.acls.items }
 
 abbrev pub list_rights_value : ListRights → ListRightsValue
-list_rights_value r = record { mailbox = text_of r.mailbox; identifier = text_of r.identifier; required = r.required.items; optional = r.optional.items }
+list_rights_value r =
+    record {
+      mailbox = text_of r.mailbox;
+      identifier = text_of r.identifier;
+      required = r.required.items;
+      optional = r.optional.items;
+    }
 
 abbrev pub my_rights_value : MyRights → MyRightsValue
 my_rights_value r = record { mailbox = text_of r.mailbox; rights = r.rights.items }
@@ -97,7 +114,13 @@ abbrev pub lent_acl : AclValue → AclValue
 lent_acl a = record { mailbox = lent_text a.mailbox; acls = map lent_acl_entry a.acls }
 
 abbrev pub lent_list_rights : ListRightsValue → ListRightsValue
-lent_list_rights r = record { mailbox = lent_text r.mailbox; identifier = lent_text r.identifier; required = r.required; optional = r.optional }
+lent_list_rights r =
+    record {
+      mailbox = lent_text r.mailbox;
+      identifier = lent_text r.identifier;
+      required = r.required;
+      optional = r.optional;
+    }
 
 abbrev pub lent_my_rights : MyRightsValue → MyRightsValue
 lent_my_rights r = record { mailbox = lent_text r.mailbox; rights = r.rights }

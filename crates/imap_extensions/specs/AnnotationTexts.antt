@@ -26,7 +26,10 @@ abbrev pub canonical_unsolicited : Text → List Text → Pieces
 canonical_unsolicited mailbox entries = canonical_metadata mailbox then canonical_entries entries
 
 abbrev pub spells_annotation : MetadataValue → Texts
-spells_annotation a = spells_astring_text (as_text a.entry) and exactly " " and nil_or (λ b. spells_string_text (as_text b)) a.value
+spells_annotation a =
+    spells_astring_text (as_text a.entry)
+    and exactly " "
+    and nil_or (λ b. spells_string_text (as_text b)) a.value
 
 abbrev pub spells_metadata : Text → Texts
 spells_metadata mailbox = in_any_case "METADATA " and spells_quoted_text mailbox and exactly " "

@@ -1,4 +1,5 @@
--- Annotations of mailboxes (RFC 5464, section 5: entry, entry-value, entry-values, entry-list, and the front of metadata-resp).
+-- Annotations of mailboxes (RFC 5464, section 5: entry, entry-value, entry-values, entry-list, and the front of
+-- metadata-resp).
 use Rattle.std.specs.Prelude.{ℕ, Bool, true, false, List, [], ◌∷◌, Option, None, Some, option_map, ◌==◌, ◌&&◌, ◌||◌, nat_lt, not, if◌then◌else◌, codes}
 use Rattle.std.specs.List.{list_all, take_while}
 use Rattle.std.specs.String.{string_bytes}
@@ -32,7 +33,8 @@ metadata_content m = metadata_value m
 
 -- a byte of a component: from 26 to 127, but none of `*`, `%`, `/`
 abbrev pub is_component_byte : ℕ → Bool
-is_component_byte b = nat_lt 25 b && nat_lt b 128 && not ((b == asterisk) || (b == percent) || (b == slash))
+is_component_byte b =
+    nat_lt 25 b && nat_lt b 128 && not ((b == asterisk) || (b == percent) || (b == slash))
 
 -- `/`, or a byte of a component
 abbrev pub is_path_byte : ℕ → Bool
@@ -45,7 +47,8 @@ first_line m = take_while (λ b. not (b == carriage_return)) m
 -- nothing, or a SP or CR and anything, or `/` and path bytes up to the first CR
 abbrev pub is_path : Bytes → Bool
 is_path [] = true
-is_path (b ∷ m) = (b == space) || (b == carriage_return) || ((b == slash) && list_all is_path_byte (first_line m))
+is_path (b ∷ m) =
+    (b == space) || (b == carriage_return) || ((b == slash) && list_all is_path_byte (first_line m))
 
 -- `/` and a byte of a component
 abbrev pub has_component : Bytes → Bool

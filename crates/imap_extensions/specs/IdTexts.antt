@@ -29,7 +29,11 @@ spells_pair (key, value) = spells_string_text key and some_blanks and spells_nte
 -- at least one pair, in any order: those without a value tell nothing, and the last of equal names wins
 abbrev pub spells_params : Option IdValue → Texts
 spells_params None = in_any_case "NIL"
-spells_params (Some m) = λ c. (ps : List (Text × Option Text)) × (map_of_pairs ps ≡ m) × (exactly "(" and some_with_between some_blanks spells_pair ps and blanks and exactly ")") c
+spells_params (Some m) =
+    λ c.
+    (ps : List (Text × Option Text))
+    × (map_of_pairs ps ≡ m)
+    × (exactly "(" and some_with_between some_blanks spells_pair ps and blanks and exactly ")") c
 
 abbrev pub spells_id : Option IdValue → Texts
 spells_id params = in_any_case "ID" and some_blanks and spells_params params

@@ -1,4 +1,6 @@
--- What an implementation says of itself (RFC 2971, section 4: id_response, id_params_list), with any blanks between the parts. Its value is a finite map from the keys' bytes to texts: a key has no mark of its own, since of two equal ones either may be the one that is kept.
+-- What an implementation says of itself (RFC 2971, section 4: id_response, id_params_list), with any blanks between the
+-- parts. Its value is a finite map from the keys' bytes to texts: a key has no mark of its own, since of two equal ones
+-- either may be the one that is kept.
 use Rattle.std.specs.Prelude.{List, Option, None, Some, [], ◌∷◌, option_map, map}
 use Rattle.imap_grammar.specs.Text.{Text, Bytes, text_of, lent_text}
 use Rattle.imap_grammar.specs.Rule.{Rule, nothing, gives, list1, ◌⨾◌, ◌▹◌, ◌◃◌, ◌or◌}

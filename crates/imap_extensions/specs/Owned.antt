@@ -1,8 +1,7 @@
 -- The same values with all texts owned.
 use Rattle.std.specs.Prelude.{map}
 use Rattle.std.specs.FinMap.{entries, from_entries}
-use Rattle.imap_grammar.specs.Text.{Bytes, Text}
-use Rattle.imap_items.specs.Owned.{owned_text}
+use Rattle.imap_grammar.specs.Text.{Bytes, Text, owned_text}
 use Rattle.imap_extensions.specs.Quotas.{QuotaResourceNameValue, Atom, QuotaResourceValue, QuotaValue, QuotaRootValue}
 use Rattle.imap_extensions.specs.Ids.{IdValue}
 use Rattle.imap_extensions.specs.Acls.{AclEntryValue, AclValue, ListRightsValue, MyRightsValue}
@@ -14,13 +13,26 @@ owned_quota_resource_name (Atom t) = Atom (owned_text t)
 owned_quota_resource_name other = other
 
 abbrev pub owned_quota_resource : QuotaResourceValue → QuotaResourceValue
-owned_quota_resource r = record { name = owned_quota_resource_name r.name; usage = r.usage; limit = r.limit }
+owned_quota_resource r =
+    record {
+      name = owned_quota_resource_name r.name;
+      usage = r.usage;
+      limit = r.limit;
+    }
 
 abbrev pub owned_quota : QuotaValue → QuotaValue
-owned_quota q = record { root_name = owned_text q.root_name; resources = map owned_quota_resource q.resources }
+owned_quota q =
+    record {
+      root_name = owned_text q.root_name;
+      resources = map owned_quota_resource q.resources;
+    }
 
 abbrev pub owned_quota_root : QuotaRootValue → QuotaRootValue
-owned_quota_root q = record { mailbox_name = owned_text q.mailbox_name; quota_root_names = map owned_text q.quota_root_names }
+owned_quota_root q =
+    record {
+      mailbox_name = owned_text q.mailbox_name;
+      quota_root_names = map owned_text q.quota_root_names;
+    }
 
 -- ---- ID
 
@@ -39,7 +51,13 @@ abbrev pub owned_acl : AclValue → AclValue
 owned_acl a = record { mailbox = owned_text a.mailbox; acls = map owned_acl_entry a.acls }
 
 abbrev pub owned_list_rights : ListRightsValue → ListRightsValue
-owned_list_rights r = record { mailbox = owned_text r.mailbox; identifier = owned_text r.identifier; required = r.required; optional = r.optional }
+owned_list_rights r =
+    record {
+      mailbox = owned_text r.mailbox;
+      identifier = owned_text r.identifier;
+      required = r.required;
+      optional = r.optional;
+    }
 
 abbrev pub owned_my_rights : MyRightsValue → MyRightsValue
 owned_my_rights r = record { mailbox = owned_text r.mailbox; rights = r.rights }

@@ -1,4 +1,5 @@
--- Quotas (RFC 2087, section 6: quota_response, quota_list, quota_resource, quotaroot_response), with any blanks between the parts.
+-- Quotas (RFC 2087, section 6: quota_response, quota_list, quota_resource, quotaroot_response), with any blanks between
+-- the parts.
 use Rattle.std.specs.Prelude.{ℕ, List, map}
 use Rattle.imap_grammar.specs.Text.{Text, text_of, lent_text}
 use Rattle.imap_grammar.specs.Rule.{Rule, many, gives, list0, ◌⨾◌, ◌▹◌, ◌◃◌, ◌or◌}
@@ -39,13 +40,26 @@ quota_resource_name_value name.Message = Message
 quota_resource_name_value (name.Atom t) = Atom (text_of t)
 
 abbrev pub quota_resource_value : QuotaResource → QuotaResourceValue
-quota_resource_value r = record { name = quota_resource_name_value r.name; usage = r.usage; limit = r.limit }
+quota_resource_value r =
+    record {
+      name = quota_resource_name_value r.name;
+      usage = r.usage;
+      limit = r.limit;
+    }
 
 abbrev pub quota_value : Quota → QuotaValue
-quota_value q = record { root_name = text_of q.root_name; resources = map quota_resource_value q.resources.items }
+quota_value q =
+    record {
+      root_name = text_of q.root_name;
+      resources = map quota_resource_value q.resources.items;
+    }
 
 abbrev pub quota_root_value : QuotaRoot → QuotaRootValue
-quota_root_value q = record { mailbox_name = text_of q.mailbox_name; quota_root_names = map text_of q.quota_root_names.items }
+quota_root_value q =
+    record {
+      mailbox_name = text_of q.mailbox_name;
+      quota_root_names = map text_of q.quota_root_names.items;
+    }
 
 -- ---- with all texts borrowed: two values are the same where these are one
 
@@ -54,13 +68,26 @@ lent_quota_resource_name (Atom t) = Atom (lent_text t)
 lent_quota_resource_name other = other
 
 abbrev pub lent_quota_resource : QuotaResourceValue → QuotaResourceValue
-lent_quota_resource r = record { name = lent_quota_resource_name r.name; usage = r.usage; limit = r.limit }
+lent_quota_resource r =
+    record {
+      name = lent_quota_resource_name r.name;
+      usage = r.usage;
+      limit = r.limit;
+    }
 
 abbrev pub lent_quota : QuotaValue → QuotaValue
-lent_quota q = record { root_name = lent_text q.root_name; resources = map lent_quota_resource q.resources }
+lent_quota q =
+    record {
+      root_name = lent_text q.root_name;
+      resources = map lent_quota_resource q.resources;
+    }
 
 abbrev pub lent_quota_root : QuotaRootValue → QuotaRootValue
-lent_quota_root q = record { mailbox_name = lent_text q.mailbox_name; quota_root_names = map lent_text q.quota_root_names }
+lent_quota_root q =
+    record {
+      mailbox_name = lent_text q.mailbox_name;
+      quota_root_names = map lent_text q.quota_root_names;
+    }
 
 abbrev pub quota_resource_name_content : QuotaResourceName → QuotaResourceNameValue
 quota_resource_name_content x = lent_quota_resource_name (quota_resource_name_value x)
@@ -111,7 +138,11 @@ unfoldable pub quota_root_names : Rule (List Text)
 quota_root_names = many quota_root_name
 
 abbrev pub quota_root_of : Text × List Text → QuotaRootValue
-quota_root_of (mailbox_name, names) = record { mailbox_name = mailbox_name; quota_root_names = names }
+quota_root_of (mailbox_name, names) =
+    record {
+      mailbox_name = mailbox_name;
+      quota_root_names = names;
+    }
 
 unfoldable pub quota_root : Rule QuotaRootValue
 quota_root = gives quota_root_of (word "QUOTAROOT" ▹ blanks1 ▹ astring_utf8 ⨾ quota_root_names)

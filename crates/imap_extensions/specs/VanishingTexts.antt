@@ -10,11 +10,13 @@ canonical_earlier true = words " (EARLIER)"
 canonical_earlier false = []
 
 abbrev pub canonical_vanished : Bool × List Range → Pieces
-canonical_vanished (earlier, uids) = words "VANISHED" then canonical_earlier earlier then space then ranges_text uids
+canonical_vanished (earlier, uids) =
+    words "VANISHED" then canonical_earlier earlier then space then ranges_text uids
 
 abbrev pub spells_earlier : Bool → Texts
 spells_earlier true = some_blanks and in_any_case "(EARLIER)"
 spells_earlier false = this []
 
 abbrev pub spells_vanished : Bool × List Range → Texts
-spells_vanished (earlier, uids) = in_any_case "VANISHED" and spells_earlier earlier and some_blanks and spells_ranges uids
+spells_vanished (earlier, uids) =
+    in_any_case "VANISHED" and spells_earlier earlier and some_blanks and spells_ranges uids

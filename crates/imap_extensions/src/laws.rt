@@ -46,10 +46,12 @@ pub fn stable()
     ensures entries { Stable annotations.entries }
 {}
 
-/// `==` tells whether two values say the same: texts by their bytes, whichever lie in the input.
+/// `==` tells whether two values say the same: texts by their bytes, whichever are borrowed.
 pub fn equality()
-    ensures quota_resource_name { Tells ⟦<QuotaResourceName<'static> as PartialEq>⟧.eq quota_resource_name_content }
-    ensures quota_resource { Tells ⟦<QuotaResource<'static> as PartialEq>⟧.eq quota_resource_content }
+    ensures quota_resource_name { Tells ⟦<QuotaResourceName<'static> as PartialEq>⟧.eq
+        quota_resource_name_content }
+    ensures quota_resource { Tells ⟦<QuotaResource<'static> as PartialEq>⟧.eq
+        quota_resource_content }
     ensures quota { Tells ⟦<Quota<'static> as PartialEq>⟧.eq quota_content }
     ensures quota_root { Tells ⟦<QuotaRoot<'static> as PartialEq>⟧.eq quota_root_content }
     ensures id_map { Tells ⟦<IdMap<'static> as PartialEq>⟧.eq id_content }
@@ -62,8 +64,10 @@ pub fn equality()
 
 /// Values that say the same hash alike.
 pub fn hashing()
-    ensures quota_resource_name { HashesAlike ⟦<QuotaResourceName<'static> as Hash>⟧.hash_input quota_resource_name_content }
-    ensures quota_resource { HashesAlike ⟦<QuotaResource<'static> as Hash>⟧.hash_input quota_resource_content }
+    ensures quota_resource_name { HashesAlike ⟦<QuotaResourceName<'static> as Hash>⟧.hash_input
+        quota_resource_name_content }
+    ensures quota_resource { HashesAlike ⟦<QuotaResource<'static> as Hash>⟧.hash_input
+        quota_resource_content }
     ensures quota { HashesAlike ⟦<Quota<'static> as Hash>⟧.hash_input quota_content }
     ensures quota_root { HashesAlike ⟦<QuotaRoot<'static> as Hash>⟧.hash_input quota_root_content }
 {}
@@ -71,16 +75,22 @@ pub fn hashing()
 /// What each rule takes spells the value that it yields. On the canonical text of a value that it yields, the rule
 /// yields that value again, with all texts borrowed. What follows the text is left whole: any bytes that begin with `)`
 /// or CR. Excepted is a text too long to be written as a literal.
-#[tactic(auto, using(crate::proofs::QuotaTexts::keeps_quota, crate::proofs::QuotaTexts::keeps_quota_root, crate::proofs::IdTexts::keeps_id, crate::proofs::VanishingTexts::keeps_vanished, crate::proofs::AclTexts::keeps_acl, crate::proofs::OptionalRights::keeps_list_rights, crate::proofs::AclTexts::keeps_my_rights, crate::proofs::AnnotationTexts::keeps_metadata_mailbox, crate::proofs::AnnotationTexts::keeps_annotations, crate::proofs::AnnotationTexts::keeps_entries))]
 pub fn read_back()
     ensures quota { SpellsAndReadsBack quotas.quota lent_quota canonical_quota spells_quota Closes }
-    ensures quota_root { SpellsAndReadsBack quotas.quota_root lent_quota_root canonical_quota_root spells_quota_root Closes }
+    ensures quota_root { SpellsAndReadsBack quotas.quota_root lent_quota_root canonical_quota_root
+        spells_quota_root Closes }
     ensures id { SpellsAndReadsBack ids.id (option_map lent_id) canonical_id spells_id Closes }
-    ensures vanished { SpellsAndReadsBack vanishings.vanished as_is canonical_vanished spells_vanished Closes }
+    ensures vanished { SpellsAndReadsBack vanishings.vanished as_is canonical_vanished
+        spells_vanished Closes }
     ensures acl { SpellsAndReadsBack acls.acl lent_acl canonical_acl spells_acl Closes }
-    ensures list_rights { SpellsAndReadsBack acls.list_rights lent_list_rights canonical_list_rights spells_list_rights Closes }
-    ensures my_rights { SpellsAndReadsBack acls.my_rights lent_my_rights canonical_my_rights spells_my_rights Closes }
-    ensures metadata_mailbox { SpellsAndReadsBack annotations.metadata_mailbox lent_text canonical_metadata spells_metadata Closes }
-    ensures annotations { SpellsAndReadsBack annotations.annotations as_is canonical_annotations spells_annotations Closes }
-    ensures entries { SpellsAndReadsBack annotations.entries (map lent_text) canonical_entries spells_entries Closes }
+    ensures list_rights { SpellsAndReadsBack acls.list_rights lent_list_rights canonical_list_rights
+        spells_list_rights Closes }
+    ensures my_rights { SpellsAndReadsBack acls.my_rights lent_my_rights canonical_my_rights
+        spells_my_rights Closes }
+    ensures metadata_mailbox { SpellsAndReadsBack annotations.metadata_mailbox lent_text
+        canonical_metadata spells_metadata Closes }
+    ensures annotations { SpellsAndReadsBack annotations.annotations as_is canonical_annotations
+        spells_annotations Closes }
+    ensures entries { SpellsAndReadsBack annotations.entries (map lent_text) canonical_entries
+        spells_entries Closes }
 {}

@@ -228,7 +228,8 @@ module _ {A : Type 0} {a : Rule A} {l : A → A} {c : A → Pieces} {F G : Bytes
   reads-many h next end stop = record { again = λ m v rest y fits t g. (again-each h next end v m rest y.0 fits t g, stop t g) }
 
 module _ {A S : Type 0} {a : Rule A} {s : Rule S} {l : A → A} {c : A → Pieces} {p : Pieces} {F G H : Bytes → Type 0} where
-  -- an element may follow what separates; what separates may follow an element, and t may too, on which s or an element behind it is denied
+  -- an element may follow what separates; what separates may follow an element, and t may too, on which s or an element
+  -- behind it is denied
   pub reads-list1_until : Takes s p H → ReadsBack a l c F → ((y : A) (t : Bytes) → H (written (c y) ++ t)) → ((t : Bytes) → F (written p ++ t)) → ((t : Bytes) → G t → F t) → ((t : Bytes) → G t → Denies (meaning (s ▹ a)) t)
       → ReadsBack (list1 s a) (map l) (separated p c) G
   reads-list1_until takes h begin sep end stop =

@@ -1,4 +1,5 @@
--- Readers of lists over slices, by those over positions: what a reader of slices answers, called at positions of a message.
+-- Readers of lists over slices, by those over positions: what a reader of slices answers, called at positions of a
+-- message.
 use Rattle.std.proofs.Common.{◌≡◌, ℕ, ◌-◌, ◌≤◌, ◌<◌, ◌++◌, ◌+◌, List, length, drop, map, Option, Some, None, inl, inr, Ok, Err, refl, sym, ap, subst, ◌∙◌, arith}
 use Rattle.std.specs.Option.{option_map}
 use Rattle.std.specs.Borrow.{Bor}

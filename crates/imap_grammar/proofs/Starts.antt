@@ -142,7 +142,8 @@ among_is (many x) some b m looks = keep_is (many x) some b m _ refl looks
 among_is (counted x) some b m looks = keep_is (counted x) some b m _ refl looks
 
 -- Arms of a `match` on `i.first()`. Each form says that a choice answers as one rule where the first byte is such,
--- with no variable but the bytes, so that `using(..)` finds it; `by_..` of the same class proves it, with the rules unfolded.
+-- with no variable but the bytes, so that `using(..)` finds it; `by_..` of the same class proves it, with the rules
+-- unfolded.
 
 abbrev BeginsWith : ℕ → List ℕ → Type 0
 BeginsWith b m = slice_get m 0 ≡ Some b

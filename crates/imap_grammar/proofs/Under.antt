@@ -1,4 +1,5 @@
--- If each answer of a, its value seen by v, is an answer of b, then the same holds of any form over a and over b. P says of which faults this is asked.
+-- If each answer of a, its value seen by v, is an answer of b, then the same holds of any form over a and over b. P
+-- says of which faults this is asked.
 use Rattle.std.proofs.Common.{◌≡◌, ◌≢◌, ℕ, List, [], ◌∷◌, map, true, inl, inr, Option, Some, None, Ok, Err, refl, sym, ap, subst, ◌∙◌}
 use Rattle.std.specs.Option.{option_map}
 use Rattle.imap_grammar.specs.declared.answer.Err.{Err as Fault}

@@ -24,7 +24,15 @@ is_resp_specials b = b == close_bracket
 
 -- atom-specials: `(`, `)`, `{`, SP, controls below SP, and the three classes above
 abbrev pub is_atom_specials : ℕ → Bool
-is_atom_specials b = (b == open_parenthesis) || (b == close_parenthesis) || (b == open_brace) || (b == space) || nat_lt b space || is_list_wildcards b || is_quoted_specials b || is_resp_specials b
+is_atom_specials b =
+    (b == open_parenthesis)
+    || (b == close_parenthesis)
+    || (b == open_brace)
+    || (b == space)
+    || nat_lt b space
+    || is_list_wildcards b
+    || is_quoted_specials b
+    || is_resp_specials b
 
 -- atom-char: a char that is no atom-special
 abbrev pub is_atom_char : ℕ → Bool

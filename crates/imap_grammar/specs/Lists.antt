@@ -45,7 +45,8 @@ abbrev pub behind_means : {S A : Type 0} → Meaning S → Meaning A → Meaning
 behind_means {S} {A} s a = gives_means (λ (v : S × A). v.1) (seq_means s a)
 
 abbrev pub list1_means : {S A : Type 0} → Meaning S → Meaning A → Meaning (List A)
-list1_means {S} {A} s a = gives_means (λ (v : A × List A). v.0 ∷ v.1) (seq_means a (many_means (behind_means s a)))
+list1_means {S} {A} s a =
+    gives_means (λ (v : A × List A). v.0 ∷ v.1) (seq_means a (many_means (behind_means s a)))
 
 abbrev pub list0_means : {S A : Type 0} → Meaning S → Meaning A → Meaning (List A)
 list0_means s a = alt_means (list1_means s a) (nothing_means [])
@@ -55,7 +56,9 @@ opt_means {A} a = alt_means (gives_means Some a) (nothing_means None)
 
 -- `(`, A, and what closes it
 abbrev pub enclosed_means : {A C : Type 0} → Rule C → Meaning A → Meaning A
-enclosed_means {A} {C} close a = behind_means (meaning (tag "(")) (gives_means (λ (v : A × C). v.0) (seq_means a (meaning close)))
+enclosed_means {A} {C} close a =
+    behind_means (meaning (tag "("))
+    (gives_means (λ (v : A × C). v.0) (seq_means a (meaning close)))
 
 abbrev pub list_means : {A : Type 0} → Meaning A → Meaning (List A)
 list_means a = enclosed_means (opt sp ⨾ tag ")") (list0_means (meaning sp) a)
@@ -81,11 +84,15 @@ called {O} answers =
 
 -- each rest that a call hands back is shorter than what it was given
 pub record Shortens {O : Type 0} (answers : List ℕ → Returned O → Type 0) : Type 0 where
-  pub shorter : (m : List ℕ) (left : Bor (List ℕ)) (v : O) → answers m (Ok (left, v)) → length left.now < length m
+  pub shorter :
+      (m : List ℕ) (left : Bor (List ℕ)) (v : O) → answers m (Ok (left, v)) →
+      length left.now < length m
 
 -- each rest that a call hands back is an end of what it was given
 pub record Ends {O : Type 0} (answers : List ℕ → Returned O → Type 0) : Type 0 where
-  pub cut : (m : List ℕ) (left : Bor (List ℕ)) (v : O) → answers m (Ok (left, v)) → (front : List ℕ) × (m ≡ front ++ left.now)
+  pub cut :
+      (m : List ℕ) (left : Bor (List ℕ)) (v : O) → answers m (Ok (left, v)) →
+      (front : List ℕ) × (m ≡ front ++ left.now)
 
 -- the same answers, where memory may run out as well
 abbrev pub or_memory : {A : Type 0} → Meaning A → Meaning A
@@ -97,7 +104,10 @@ Allows r view m (Ok x) = r.yields m (view x.1) x.0.now
 Allows r view m (Err e) = r.fails m e
 
 -- A reader of this form answers on m as the form says, of the answers that the passed reader may give.
-pub record Follows {O V A : Type 0} (form : Meaning O → Meaning V) (answers : List ℕ → Returned O → Type 0) (view : A → V) (m : List ℕ) (result : Returned A) : Type 0 where
+pub record Follows {O V A : Type 0}
+    (form : Meaning O → Meaning V) (answers : List ℕ → Returned O → Type 0) (view : A → V)
+    (m : List ℕ) (result : Returned A) :
+    Type 0 where
   pub met : Allows (form (called answers)) view m result
 
 -- an answer, where a denial is `None`

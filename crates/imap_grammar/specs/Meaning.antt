@@ -1,5 +1,6 @@
 -- What a rule says of a list of bytes: which value it yields and what it leaves, or by which fault it yields nothing.
--- The forms that rules are joined by stand over meanings, so that the answers of a reader that is passed as a closure join alike.
+-- The forms that rules are joined by stand over meanings, so that the answers of a reader that is passed as a closure
+-- join alike.
 use Rattle.std.specs.Prelude.{◌≡◌, ◌≢◌, ℕ, ◌-◌, ◌<◌, ◌⊎◌, Bool, true, false, not, ◌&&◌, ◌||◌, List, [], ◌∷◌, ◌++◌, length, Option, None, Some, IsTrue}
 use Rattle.std.specs.List.{list_all}
 use Rattle.imap_grammar.specs.declared.answer.Err.{Err as Fault}
@@ -65,7 +66,8 @@ tag_means same word =
 
 -- a run: all of v is in the class, and a byte outside it follows
 abbrev pub RunsTo : (ℕ → Bool) → List ℕ → List ℕ → List ℕ → Type 0
-RunsTo class m v rest = (m ≡ v ++ rest) × IsTrue (list_all class v) × IsTrue (begins (outside class) rest)
+RunsTo class m v rest =
+    (m ≡ v ++ rest) × IsTrue (list_all class v) × IsTrue (begins (outside class) rest)
 
 -- it waits where all bytes are in the class
 abbrev pub run0_fails : (ℕ → Bool) → List ℕ → Fault → Type 0
@@ -85,7 +87,11 @@ run1_fails class m (Incomplete (Size n)) = ⊥
 run1_fails class m Failure = ⊥
 
 abbrev pub run1_means : (ℕ → Bool) → Meaning (List ℕ)
-run1_means class = record { yields = λ m v rest. RunsTo class m v rest × (0 < length v); fails = run1_fails class }
+run1_means class =
+    record {
+      yields = λ m v rest. RunsTo class m v rest × (0 < length v);
+      fails = run1_fails class;
+    }
 
 -- ---- joining
 
@@ -118,7 +124,10 @@ abbrev pub tested_means : {A B : Type 0} → (A → Option B) → Meaning A → 
 tested_means {A} f a =
     record {
       yields = λ m v rest. (x : A) × a.yields m x rest × (f x ≡ Some v);
-      fails = λ m e. a.fails m e ⊎ ((e ≡ Error) × (x : A) × (rest : List ℕ) × a.yields m x rest × (f x ≡ None));
+      fails =
+          λ m e.
+          a.fails m e
+          ⊎ ((e ≡ Error) × (x : A) × (rest : List ℕ) × a.yields m x rest × (f x ≡ None));
     }
 
 -- A, with the bytes that it takes as the value
@@ -159,5 +168,8 @@ abbrev pub counted_means : Meaning ℕ → Meaning (List ℕ)
 counted_means a =
     record {
       yields = λ m v rest. (mid : List ℕ) × a.yields m (length v) mid × (mid ≡ v ++ rest);
-      fails = λ m e. a.fails m e ⊎ ((k : ℕ) × (mid : List ℕ) × a.yields m k mid × (length mid < k) × (e ≡ Incomplete (Size (k - length mid))));
+      fails = λ m e.
+          a.fails m e
+          ⊎ ((k : ℕ) × (mid : List ℕ)
+          × a.yields m k mid × (length mid < k) × (e ≡ Incomplete (Size (k - length mid))));
     }

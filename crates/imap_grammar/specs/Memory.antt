@@ -12,7 +12,11 @@ use Rattle.imap_grammar.specs.Text.{Bytes}
 
 -- the word stands in front, its letters in either case
 abbrev pub BeginsWord : String → Bytes → Type 0
-BeginsWord k m = (front : Bytes) × (rest : Bytes) × (m ≡ front ++ rest) × IsTrue (is_word same_letter (codes k) front)
+BeginsWord k m =
+    (front : Bytes)
+    × (rest : Bytes)
+    × (m ≡ front ++ rest)
+    × IsTrue (is_word same_letter (codes k) front)
 
 -- Want of memory is not answered.
 abbrev pub NeverFails : {A : Type 0} → Result A Fault → Type 0
@@ -24,4 +28,5 @@ FailsOnlyIf P result = IfErr result (λ e. e ≡ Failure → P)
 
 -- Where the rule yields a value of this kind, the reader answers `Ok`, whatever memory there is.
 abbrev pub SucceedsFor : {A V : Type 0} → (V → Type 0) → Rule V → Bytes → Returned A → Type 0
-SucceedsFor {A} {V} kind r m result = (v : V) (rest : Bytes) → step r m ≡ Ok (rest, v) → kind v → IsOk result
+SucceedsFor {A} {V} kind r m result =
+    (v : V) (rest : Bytes) → step r m ≡ Ok (rest, v) → kind v → IsOk result

@@ -1,4 +1,5 @@
--- Canonical text: one text for each value. It is a list of pieces, which are bytes as they are, and literals (RFC 3501, section 9: literal).
+-- Canonical text: one text for each value. It is a list of pieces, which are bytes as they are, and literals (RFC 3501,
+-- section 9: literal).
 use Rattle.std.specs.Prelude.{ℕ, ◌<◌, ◌^◌, List, [], ◌∷◌, ◌++◌, length, Option, None, Some, decimal, codes}
 use Rattle.imap_grammar.specs.Ascii.{line_feed, carriage_return, quote, open_brace, close_brace}
 use Prim.Native.String.{String}
@@ -45,11 +46,12 @@ lit b = Lit b ∷ []
 abbrev pub space : Pieces
 space = words " "
 
--- each in turn; with some pieces between
+-- each in turn
 abbrev pub each : {V : Type 0} → (V → Pieces) → List V → Pieces
 each c [] = []
 each c (v ∷ vs) = c v then each c vs
 
+-- each in turn, with some pieces between
 abbrev pub separated : {V : Type 0} → Pieces → (V → Pieces) → List V → Pieces
 separated s c [] = []
 separated s c (v ∷ vs) = c v then each (λ w. s then c w) vs

@@ -9,7 +9,9 @@ use Rattle.imap_grammar.specs.Positions.{Reached}
 abbrev pub called_at : {O : Type 0} → List ℕ → (ℕ → Reached O → Type 0) → Meaning O
 called_at {O} m answers =
     record {
-      yields = λ i v rest. (p q : ℕ) × (i ≡ drop p m) × (p ≤ length m) × (rest ≡ drop q m) × answers p (Ok (q, v));
+      yields =
+          λ i v rest.
+          (p q : ℕ) × (i ≡ drop p m) × (p ≤ length m) × (rest ≡ drop q m) × answers p (Ok (q, v));
       fails = λ i e. (p : ℕ) × (i ≡ drop p m) × (p ≤ length m) × answers p (Err e);
     }
 
@@ -26,7 +28,10 @@ AllowsAt r view m p (Ok x) = r.yields (drop p m) (view x.1) (drop x.0 m)
 AllowsAt r view m p (Err e) = r.fails (drop p m) e
 
 -- A reader of this form answers at p as the form says, of the answers that the passed reader may give.
-pub record FollowsAt {O V A : Type 0} (form : Meaning O → Meaning V) (answers : ℕ → Reached O → Type 0) (view : A → V) (m : List ℕ) (p : ℕ) (result : Reached A) : Type 0 where
+pub record FollowsAt {O V A : Type 0}
+    (form : Meaning O → Meaning V) (answers : ℕ → Reached O → Type 0) (view : A → V) (m : List ℕ)
+    (p : ℕ) (result : Reached A) :
+    Type 0 where
   pub met : AllowsAt (form (called_at m answers)) view m p result
 
 -- it went on
@@ -35,6 +40,8 @@ Onward m p (Ok x) = (p < x.0) × (x.0 ≤ length m)
 Onward m p (Err e) = Unit {0}
 
 -- what a reader of slices answers that is called on m from p, the rest being a position
-abbrev pub CalledAt : {O : Type 0} → (List ℕ → Returned O → Type 0) → List ℕ → ℕ → Reached O → Type 0
-CalledAt answers m p (Ok x) = (left : Bor (List ℕ)) × (drop x.0 m ≡ left.now) × answers (drop p m) (Ok (left, x.1))
+abbrev pub CalledAt :
+    {O : Type 0} → (List ℕ → Returned O → Type 0) → List ℕ → ℕ → Reached O → Type 0
+CalledAt answers m p (Ok x) =
+    (left : Bor (List ℕ)) × (drop x.0 m ≡ left.now) × answers (drop p m) (Ok (left, x.1))
 CalledAt answers m p (Err e) = answers (drop p m) (Err e)

@@ -31,7 +31,8 @@ abbrev pub SaysAt : {A V : Type 0} → Meaning V → (A → V) → List ℕ → 
 SaysAt r view m p (Ok x) = r.yields (drop p m) (view x.1) (drop x.0 m)
 SaysAt r view m p (Err e) = Refuses r (drop p m) e
 
--- The result is the answer of the rule on m from p, unless memory ran out: what it leaves is m from the position that was reached.
+-- The result is the answer of the rule on m from p, unless memory ran out: what it leaves is m from the position that
+-- was reached.
 unfoldable pub AnswersAt : {A V : Type 0} → Rule V → (A → V) → List ℕ → ℕ → Reached A → Type 0
 AnswersAt r view m p result = SaysAt (meaning r) view m p result
 

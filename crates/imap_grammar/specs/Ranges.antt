@@ -14,4 +14,9 @@ fresh start end = record { start = start; end = end; spent = false }
 
 -- a `RangeInclusive` as a range
 abbrev pub range_of : RangeInclusive ℕ → Range
-range_of r = record { start = range_inclusive_start r; end = range_inclusive_end r; spent = range_inclusive_exhausted r }
+range_of r =
+    record {
+      start = range_inclusive_start r;
+      end = range_inclusive_end r;
+      spent = range_inclusive_exhausted r;
+    }

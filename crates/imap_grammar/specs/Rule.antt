@@ -45,18 +45,21 @@ otherwise a x = alt a (nothing x)
 abbrev pub opt : {A : Type 0} → Rule A → Rule (Option A)
 opt {A} a = otherwise (gives Some a) None
 
--- A B with both values, with B's, with A's; A / B
 infixr 25 ◌⨾◌ ◌▹◌ ◌◃◌
+-- A B, with both values
 abbrev pub ◌⨾◌ : {A B : Type 0} → Rule A → Rule B → Rule (A × B)
 a ⨾ b = seq a b
 
+-- A B, with B's value
 abbrev pub ◌▹◌ : {A B : Type 0} → Rule A → Rule B → Rule B
 ◌▹◌ {A} {B} a b = gives (λ (v : A × B). v.1) (seq a b)
 
+-- A B, with A's value
 abbrev pub ◌◃◌ : {A B : Type 0} → Rule A → Rule B → Rule A
 ◌◃◌ {A} {B} a b = gives (λ (v : A × B). v.0) (seq a b)
 
 infixr 20 ◌or◌
+-- A / B
 abbrev pub ◌or◌ : {A : Type 0} → Rule A → Rule A → Rule A
 a or b = alt a b
 
@@ -64,10 +67,11 @@ a or b = alt a b
 abbrev pub some1 : {A : Type 0} → Rule A → Rule (List A)
 some1 {A} a = gives (λ (v : A × List A). v.0 ∷ v.1) (seq a (many a))
 
--- A by S: one or more, and maybe none
+-- A by S: one or more
 abbrev pub list1 : {S A : Type 0} → Rule S → Rule A → Rule (List A)
 list1 {S} {A} s a = gives (λ (v : A × List A). v.0 ∷ v.1) (seq a (many (s ▹ a)))
 
+-- A by S, maybe none
 abbrev pub list0 : {S A : Type 0} → Rule S → Rule A → Rule (List A)
 list0 s a = otherwise (list1 s a) []
 

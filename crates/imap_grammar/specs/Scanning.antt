@@ -10,4 +10,9 @@ may_stop b = nat_le b carriage_return || is_quoted_specials b
 
 -- The first of these is found if it is a quote and sixteen bytes are there from it on.
 abbrev pub FindsQuote : List ℕ → Option ℕ → Type 0
-FindsQuote m found = (n : ℕ) → n + 16 ≤ length m → position_or_len may_stop m ≡ n → slice_index m n ≡ quote → found ≡ Some n
+FindsQuote m found =
+    (n : ℕ) →
+    n + 16 ≤ length m →
+    position_or_len may_stop m ≡ n →
+    slice_index m n ≡ quote →
+    found ≡ Some n

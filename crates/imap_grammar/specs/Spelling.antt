@@ -28,10 +28,11 @@ infixr 30 ◌and◌
 abbrev pub ◌and◌ : Texts → Texts → Texts
 ◌and◌ P Q c = (a : Bytes) × (b : Bytes) × (c ≡ a ++ b) × P a × Q b
 
--- bytes of a class: maybe none, and at least one
+-- bytes of a class, maybe none
 abbrev pub all_of : (ℕ → Bool) → Texts
 all_of p c = IsTrue (list_all p c)
 
+-- at least one byte of a class, and no other
 abbrev pub some_of : (ℕ → Bool) → Texts
 some_of p c = all_of p c × (0 < length c)
 
@@ -51,10 +52,11 @@ lossily P t c = (b : Bytes) × P b c × (utf8_lossy b ≡ t.bytes)
 abbrev pub maybe : Texts → Texts
 maybe P c = (c ≡ []) ⊎ P c
 
--- blanks: maybe none, and at least one
+-- blanks, maybe none
 abbrev pub blanks : Texts
 blanks = all_of is_blank
 
+-- at least one blank
 abbrev pub some_blanks : Texts
 some_blanks = some_of is_blank
 
@@ -64,31 +66,35 @@ abbrev pub nil_or : {A : Type 0} → (A → Texts) → Option A → Texts
 nil_or P None = in_any_case "NIL"
 nil_or P (Some x) = P x
 
--- each in turn: maybe none, and at least one
+-- each in turn, maybe none
 abbrev pub each_of : {A : Type 0} → (A → Texts) → List A → Texts
 each_of P [] = this []
 each_of P (x ∷ xs) = P x and each_of P xs
 
+-- each in turn, at least one
 abbrev pub some_each_of : {A : Type 0} → (A → Texts) → List A → Texts
 some_each_of P [] = λ c. ⊥
 some_each_of P (x ∷ xs) = P x and each_of P xs
 
--- with a text between: at least one, and maybe none
+-- each in turn with a text between, at least one
 abbrev pub some_with_between : {A : Type 0} → Texts → (A → Texts) → List A → Texts
 some_with_between S P [] = λ c. ⊥
 some_with_between S P (x ∷ xs) = P x and each_of (λ y. S and P y) xs
 
+-- each in turn with a text between, maybe none
 abbrev pub with_between : {A : Type 0} → Texts → (A → Texts) → List A → Texts
 with_between S P [] = this []
 with_between S P (x ∷ xs) = some_with_between S P (x ∷ xs)
 
 -- in brackets, by one space
 abbrev pub spells_list : {A : Type 0} → (A → Texts) → List A → Texts
-spells_list P xs = exactly "(" and with_between (exactly " ") P xs and maybe (exactly " ") and exactly ")"
+spells_list P xs =
+    exactly "(" and with_between (exactly " ") P xs and maybe (exactly " ") and exactly ")"
 
 -- the same, at least one, and blanks before the bracket
 abbrev pub spells_some_list : {A : Type 0} → (A → Texts) → List A → Texts
-spells_some_list P xs = exactly "(" and some_with_between (exactly " ") P xs and blanks and exactly ")"
+spells_some_list P xs =
+    exactly "(" and some_with_between (exactly " ") P xs and blanks and exactly ")"
 
 -- ---- the values of this crate's rules
 
@@ -97,7 +103,12 @@ abbrev pub spells_number : ℕ → Texts
 spells_number n c = IsTrue (list_all is_digit c) × (0 < length c) × (digits_value 10 c ≡ n)
 
 abbrev pub spells_literal : Bytes → Texts
-spells_literal b = exactly "{" and spells_number (length b) and exactly "}" and this (carriage_return ∷ line_feed ∷ []) and this b
+spells_literal b =
+    exactly "{"
+    and spells_number (length b)
+    and exactly "}"
+    and this (carriage_return ∷ line_feed ∷ [])
+    and this b
 
 -- quoted content: quoted-chars, and quoted-specials behind a backslash each
 abbrev pub is_content_part : Texts
@@ -141,7 +152,9 @@ spells_ends a b = spells_number a and exactly ":" and spells_number b
 
 -- a range by its ends; a single number is the range from it to it; no text spells a spent range
 abbrev pub spells_range : Range → Texts
-spells_range r c = (r.spent ≡ false) × (spells_ends r.start r.end c ⊎ ((r.start ≡ r.end) × spells_number r.start c))
+spells_range r c =
+    (r.spent ≡ false)
+    × (spells_ends r.start r.end c ⊎ ((r.start ≡ r.end) × spells_number r.start c))
 
 abbrev pub spells_ranges : List Range → Texts
 spells_ranges = some_with_between (exactly ",") spells_range

@@ -7,19 +7,30 @@ use Rattle.imap_grammar.specs.Answer.{Neither}
 
 pub record Stable {V : Type 0} (r : Rule V) : Type 0 where
   -- at most one of the three holds
-  pub yields_not_denies : (m : List ℕ) (v : V) (rest : List ℕ) → (meaning r).yields m v rest → ¬ (Denies (meaning r) m)
-  pub yields_not_lacks : (m : List ℕ) (v : V) (rest : List ℕ) (n : ℕ) → (meaning r).yields m v rest → ¬ (Lacks (meaning r) m n)
+  pub yields_not_denies :
+      (m : List ℕ) (v : V) (rest : List ℕ) → (meaning r).yields m v rest → ¬ (Denies (meaning r) m)
+  pub yields_not_lacks :
+      (m : List ℕ) (v : V) (rest : List ℕ) (n : ℕ) → (meaning r).yields m v rest →
+      ¬ (Lacks (meaning r) m n)
   pub denies_not_lacks : (m : List ℕ) (n : ℕ) → Denies (meaning r) m → ¬ (Lacks (meaning r) m n)
   -- it waits exactly where none does
   pub waits : (m : List ℕ) → Waits (meaning r) m → Neither (meaning r) m
   pub neither : (m : List ℕ) → Neither (meaning r) m → Waits (meaning r) m
   -- one value and one rest; one number lacking, above 0
-  pub one_yield : (m : List ℕ) (v w : V) (rest more : List ℕ) → (meaning r).yields m v rest → (meaning r).yields m w more → (v ≡ w) × (rest ≡ more)
+  pub one_yield :
+      (m : List ℕ) (v w : V) (rest more : List ℕ) → (meaning r).yields m v rest →
+      (meaning r).yields m w more → (v ≡ w) × (rest ≡ more)
   pub one_lack : (m : List ℕ) (n k : ℕ) → Lacks (meaning r) m n → Lacks (meaning r) m k → n ≡ k
   pub some_lack : (m : List ℕ) (n : ℕ) → Lacks (meaning r) m n → 0 < n
   -- the rest is an end of the bytes
-  pub cut : (m : List ℕ) (v : V) (rest : List ℕ) → (meaning r).yields m v rest → (front : List ℕ) × (m ≡ front ++ rest)
+  pub cut :
+      (m : List ℕ) (v : V) (rest : List ℕ) → (meaning r).yields m v rest →
+      (front : List ℕ) × (m ≡ front ++ rest)
   -- with t appended
-  pub yields_more : (m : List ℕ) (v : V) (rest t : List ℕ) → (meaning r).yields m v rest → (meaning r).yields (m ++ t) v (rest ++ t)
+  pub yields_more :
+      (m : List ℕ) (v : V) (rest t : List ℕ) → (meaning r).yields m v rest →
+      (meaning r).yields (m ++ t) v (rest ++ t)
   pub denies_more : (m t : List ℕ) → Denies (meaning r) m → Denies (meaning r) (m ++ t)
-  pub lacks_more : (m : List ℕ) (n : ℕ) (t : List ℕ) → Lacks (meaning r) m n → length t < n → Lacks (meaning r) (m ++ t) (n - length t)
+  pub lacks_more :
+      (m : List ℕ) (n : ℕ) (t : List ℕ) → Lacks (meaning r) m n → length t < n →
+      Lacks (meaning r) (m ++ t) (n - length t)

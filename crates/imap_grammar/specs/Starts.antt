@@ -6,6 +6,7 @@ use Rattle.imap_grammar.specs.Step.{step}
 use Rattle.imap_grammar.specs.Meaning.{Denies, Waits}
 use Rattle.imap_grammar.specs.Rule.{Rule, meaning, tag_by, run0, run1, seq, alt, gives, tested, raw, nothing, never, many, counted}
 
+-- whether a word may begin with a byte
 abbrev pub word_starts : (ℕ → ℕ → Bool) → List ℕ → ℕ → Bool
 word_starts same [] b = true
 word_starts same (x ∷ word) b = same x b

@@ -33,7 +33,9 @@ or_else (Err Failure) other = Err Failure
 unfoldable pub tag_step : (ℕ → ℕ → Bool) → List ℕ → List ℕ → Step (List ℕ)
 tag_step same word m =
     if list_all (λ p. same p.0 p.1) (zip word m)
-    then (if nat_lt (length m) (length word) then Err (Incomplete Unknown) else Ok (drop (length word) m, take (length word) m))
+    then (if nat_lt (length m) (length word)
+    then Err (Incomplete Unknown)
+    else Ok (drop (length word) m, take (length word) m))
     else Err Error
 
 abbrev pub cut_at : List ℕ → Option ℕ → Step (List ℕ)
@@ -59,7 +61,10 @@ abbrev pub raw_step : {A : Type 0} → List ℕ → List ℕ × A → Step (List
 raw_step m x = Ok (x.0, take (length m - length x.0) m)
 
 abbrev pub many_then : {A : Type 0} → List ℕ → Step A → (List ℕ → Step (List A)) → Step (List A)
-many_then m (Ok x) go = if nat_lt (length x.0) (length m) then (go x.0 >>= λ y. Ok (y.0, x.1 ∷ y.1)) else Err (Incomplete Unknown)
+many_then m (Ok x) go =
+    if nat_lt (length x.0) (length m)
+    then (go x.0 >>= λ y. Ok (y.0, x.1 ∷ y.1))
+    else Err (Incomplete Unknown)
 many_then m (Err Error) go = Ok (m, [])
 many_then m (Err (Incomplete n)) go = Err (Incomplete n)
 many_then m (Err Failure) go = Err Failure
@@ -70,7 +75,10 @@ many_step a zero m = Err (Incomplete Unknown)
 many_step a (suc fuel) m = many_then m (a m) (many_step a fuel)
 
 unfoldable pub take_step : ℕ → List ℕ → Step (List ℕ)
-take_step k m = if nat_lt (length m) k then Err (Incomplete (Size (k - length m))) else Ok (drop k m, take k m)
+take_step k m =
+    if nat_lt (length m) k
+    then Err (Incomplete (Size (k - length m)))
+    else Ok (drop k m, take k m)
 
 abbrev pub step : {V : Type 0} → Rule V → List ℕ → Step V
 step (tag_by same word) m = tag_step same word m

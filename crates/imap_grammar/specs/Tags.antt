@@ -7,13 +7,15 @@ use Rattle.imap_grammar.specs.Classes.{is_blank}
 use Rattle.imap_grammar.specs.Text.{Bytes}
 use Rattle.imap_grammar.specs.Rule.{Rule, tag_by, run0, run1, nothing, opt, ◌▹◌}
 
+-- whether two bytes are one letter, in either case
 abbrev pub same_letter : ℕ → ℕ → Bool
 same_letter a b = to_ascii_lowercase a == to_ascii_lowercase b
 
--- exactly these bytes; these with their letters in either case
+-- exactly these bytes
 abbrev pub tag : String → Rule Bytes
 tag k = tag_by ◌==◌ (codes k)
 
+-- these bytes, their letters in either case
 abbrev pub word : String → Rule Bytes
 word k = tag_by same_letter (codes k)
 
@@ -21,6 +23,7 @@ word k = tag_by same_letter (codes k)
 abbrev pub names : {A : Type 0} → String → A → Rule A
 names k x = word k ▹ nothing x
 
+-- exactly these bytes, which stand for a value
 abbrev pub exactly_names : {A : Type 0} → String → A → Rule A
 exactly_names k x = tag k ▹ nothing x
 
@@ -33,9 +36,10 @@ maybe_space = opt sp
 abbrev pub crlf : Rule Bytes
 crlf = tag_by ◌==◌ (carriage_return ∷ line_feed ∷ [])
 
--- spaces and tabs: maybe none, and at least one
+-- spaces and tabs, maybe none
 abbrev pub blanks0 : Rule Bytes
 blanks0 = run0 is_blank
 
+-- at least one space or tab
 abbrev pub blanks1 : Rule Bytes
 blanks1 = run1 is_blank

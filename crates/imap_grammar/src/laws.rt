@@ -19,6 +19,7 @@ pub fn equality()
 pub fn cloning()
     ensures needed { CopiesFreely ⟦<Needed as Clone>⟧.is_infallible ⟦<Needed as Clone>⟧.is_clone }
     ensures err { CopiesFreely ⟦<Err as Clone>⟧.is_infallible ⟦<Err as Clone>⟧.is_clone }
-    ensures separator { CopiesFreely ⟦<Separator as Clone>⟧.is_infallible ⟦<Separator as Clone>⟧.is_clone }
+    ensures separator { CopiesFreely ⟦<Separator as Clone>⟧.is_infallible
+        ⟦<Separator as Clone>⟧.is_clone }
     ensures span { CopiesFreely ⟦<Span as Clone>⟧.is_infallible ⟦<Span as Clone>⟧.is_clone }
 {}

@@ -68,7 +68,8 @@ pub fn separated<'a, O: Drop, F: Fn(&'a [u8]) -> IResult<&'a [u8], O>>(
     requires may { F.IsAlwaysCallable f }
     requires shortens { Shortens (FnReturnsAt F.Fn f) }
     requires ends { Ends (FnReturnsAt F.Fn f) }
-    ensures { Follows (λ a. or_memory (list1_means (meaning (separator_rule between)) a)) (FnReturnsAt F.Fn f) (λ x. x.items) i.now result }
+    ensures { Follows (λ a. or_memory (list1_means (meaning (separator_rule between)) a))
+        (FnReturnsAt F.Fn f) (λ x. x.items) i.now result }
 {
     let item = |p: usize|
         requires start { p ≤ length i.now }
@@ -93,7 +94,8 @@ pub fn repeated<'a, O: Drop, F: Fn(&'a [u8]) -> IResult<&'a [u8], O>>(
     requires may { F.IsAlwaysCallable f }
     requires shortens { Shortens (FnReturnsAt F.Fn f) }
     requires ends { Ends (FnReturnsAt F.Fn f) }
-    ensures { Follows (λ a. or_memory (many_means a)) (FnReturnsAt F.Fn f) (λ x. x.items) i.now result }
+    ensures { Follows (λ a. or_memory (many_means a)) (FnReturnsAt F.Fn f) (λ x. x.items) i.now
+        result }
 {
     let item = |p: usize|
         requires start { p ≤ length i.now }
@@ -119,7 +121,8 @@ pub fn maybe_separated<'a, O: Drop, F: Fn(&'a [u8]) -> IResult<&'a [u8], O>>(
     requires may { F.IsAlwaysCallable f }
     requires shortens { Shortens (FnReturnsAt F.Fn f) }
     requires ends { Ends (FnReturnsAt F.Fn f) }
-    ensures { Follows (λ a. or_memory (list0_means (meaning (separator_rule between)) a)) (FnReturnsAt F.Fn f) (λ x. x.items) i.now result }
+    ensures { Follows (λ a. or_memory (list0_means (meaning (separator_rule between)) a))
+        (FnReturnsAt F.Fn f) (λ x. x.items) i.now result }
 {
     let item = |p: usize|
         requires start { p ≤ length i.now }
@@ -144,7 +147,8 @@ pub fn parenthesized_list<'a, O: Drop, F: Fn(&'a [u8]) -> IResult<&'a [u8], O>>(
     requires may { F.IsAlwaysCallable f }
     requires shortens { Shortens (FnReturnsAt F.Fn f) }
     requires ends { Ends (FnReturnsAt F.Fn f) }
-    ensures { Follows (λ a. or_memory (list_means a)) (FnReturnsAt F.Fn f) (λ x. x.items) i.now result }
+    ensures { Follows (λ a. or_memory (list_means a)) (FnReturnsAt F.Fn f) (λ x. x.items) i.now
+        result }
 {
     let item = |p: usize|
         requires start { p ≤ length i.now }
@@ -171,7 +175,8 @@ pub fn parenthesized_nonempty_list<'a, O: Drop, F: Fn(&'a [u8]) -> IResult<&'a [
     requires may { F.IsAlwaysCallable f }
     requires shortens { Shortens (FnReturnsAt F.Fn f) }
     requires ends { Ends (FnReturnsAt F.Fn f) }
-    ensures { Follows (λ a. or_memory (nonempty_list_means a)) (FnReturnsAt F.Fn f) (λ x. x.items) i.now result }
+    ensures { Follows (λ a. or_memory (nonempty_list_means a)) (FnReturnsAt F.Fn f) (λ x. x.items)
+        i.now result }
 {
     let item = |p: usize|
         requires start { p ≤ length i.now }

@@ -1,4 +1,5 @@
-//! Where a run of bytes of one class ends (RFC 3501, section 9: each `1*` of a class).
+//! Where a run of bytes of one class ends (RFC 3501, section 9: each `1*` of a class), and where a quoted string of
+//! quoted-chars alone does.
 
 ghost use Rattle.std.specs.Prelude.{◌≡◌, ◌<◌, ◌≤◌, ◌==◌, if◌then◌else◌, ℕ, Bool, true, Some, length, take, drop, position, IfSome};
 ghost use Rattle.std.specs.Int.{w64, trailing_zeros};
@@ -178,7 +179,8 @@ pub fn long_run_end<C: LongRuns>(i: &[u8]) -> Option<usize>
 #[inline(always)]
 fn sixteen_stops(i: &[u8]) -> u64
     requires { 16 ≤ length i.now }
-    ensures { position_or_len may_stop (take 16 i.now) ≡ (if result == 0 then 16 else trailing_zeros w64 result) }
+    ensures { position_or_len may_stop (take 16 i.now)
+        ≡ (if result == 0 then 16 else trailing_zeros w64 result) }
 {
     let bytes = u8x16::from_slice(i);
     let specials = bytes.simd_eq(u8x16::splat(b'\\')) | bytes.simd_eq(u8x16::splat(b'"'));

@@ -93,7 +93,9 @@ pub fn maybe_space(i: &[u8]) -> IResult<&[u8], Option<&[u8]>>
 /// length.
 pub fn cut0(end: Option<usize>, i: &[u8]) -> IResult<&[u8], &[u8]>
     requires { ForSome end (λ n. n < length i.now) }
-    ensures steps { (class : ℕ → Bool) → end ≡ position (outside class) i.now → Exactly (λ x. x.now) result (step (run0 class) i.now) }
+    ensures steps { (class : ℕ → Bool) →
+        end ≡ position (outside class) i.now →
+        Exactly (λ x. x.now) result (step (run0 class) i.now) }
     ensures no_failure { NeverFails result }
 {
     sliced(i, at::tags::cut0(end, i, 0))
@@ -106,7 +108,9 @@ pub fn cut0(end: Option<usize>, i: &[u8]) -> IResult<&[u8], &[u8]>
 /// one, must be below i's length.
 pub fn cut1(end: Option<usize>, i: &[u8]) -> IResult<&[u8], &[u8]>
     requires { ForSome end (λ n. n < length i.now) }
-    ensures steps { (class : ℕ → Bool) → end ≡ position (outside class) i.now → Exactly (λ x. x.now) result (step (run1 class) i.now) }
+    ensures steps { (class : ℕ → Bool) →
+        end ≡ position (outside class) i.now →
+        Exactly (λ x. x.now) result (step (run1 class) i.now) }
     ensures no_failure { NeverFails result }
 {
     sliced(i, at::tags::cut1(end, i, 0))

@@ -18,7 +18,7 @@ use Rattle.imap_items.specs.Flags.{flag, backslashed_text, backslashed, keyword}
 use Rattle.imap_items.specs.FlagTexts.{is_flag}
 use Rattle.imap_items.specs.Gmail.{gmail_label, gmail_labels, gmail_label_list, gmail_msgid, gmail_thrid}
 use Rattle.imap_items.specs.GmailTexts.{canonical_label, canonical_label_list, canonical_msgid, canonical_thrid, spells_label, spells_label_list, spells_msgid, spells_thrid}
-use Rattle.imap_items.proofs.FlagTexts.{flag-is, flag_on, flags_yield, flag_spells}
+use Rattle.imap_items.proofs.FlagTexts.{flag-is, flag_on, flag_spells}
 
 -- no flag begins with a quote
 no_flag : (t : Bytes) → Denies (meaning flag) (34 ∷ t)

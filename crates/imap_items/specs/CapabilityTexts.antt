@@ -18,7 +18,8 @@ canonical_each = each (λ c. space then canonical_capability c)
 
 -- the revision is told by CAPABILITY alone
 abbrev pub canonical_capabilities : List CapabilityValue → Pieces
-canonical_capabilities cs = cond (list_any is_revision cs) (words "CAPABILITY") (words "ENABLED") then canonical_each cs
+canonical_capabilities cs =
+    cond (list_any is_revision cs) (words "CAPABILITY") (words "ENABLED") then canonical_each cs
 
 -- an atom stands as it is
 abbrev pub spells_atom : Bytes → Texts
@@ -31,7 +32,9 @@ spells_capability (Atom name) = spells_atom name.bytes
 
 -- what the server offers: the revision is among them
 abbrev pub spells_capability_data : List CapabilityValue → Texts
-spells_capability_data cs c = (list_any is_revision cs ≡ true) × (in_any_case "CAPABILITY" and each_of (λ x. exactly " " and spells_capability x) cs) c
+spells_capability_data cs c =
+    (list_any is_revision cs ≡ true)
+    × (in_any_case "CAPABILITY" and each_of (λ x. exactly " " and spells_capability x) cs) c
 
 -- a name that was turned on: no revision and no mechanism
 abbrev pub spells_enabled : CapabilityValue → Texts
@@ -39,4 +42,5 @@ spells_enabled (Atom name) = spells_atom name.bytes
 spells_enabled other = λ c. ⊥
 
 abbrev pub spells_enabled_data : List CapabilityValue → Texts
-spells_enabled_data cs = in_any_case "ENABLED" and each_of (λ x. exactly " " and spells_enabled x) cs
+spells_enabled_data cs =
+    in_any_case "ENABLED" and each_of (λ x. exactly " " and spells_enabled x) cs

@@ -2,6 +2,6 @@
 use Rattle.std.specs.Prelude.{◌≡◌, true}
 use Rattle.imap_grammar.specs.Text.{Text}
 
--- it lies in the input
+-- it is borrowed
 abbrev pub IsLent : Text → Type 0
 IsLent t = t.borrowed ≡ true

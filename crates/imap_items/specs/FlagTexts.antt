@@ -18,7 +18,8 @@ canonical_flag_list = list_text plain
 -- `\` and atom-chars, maybe none; or at least one astring-char
 abbrev pub is_flag_word : Bytes → Bool
 is_flag_word [] = false
-is_flag_word (b ∷ w) = ((backslash == b) && list_all is_atom_char w) || list_all is_astring_char (b ∷ w)
+is_flag_word (b ∷ w) =
+    ((backslash == b) && list_all is_atom_char w) || list_all is_astring_char (b ∷ w)
 
 -- the whole text is a flag
 abbrev pub is_flag : Bytes → Bool

@@ -1,4 +1,5 @@
--- Flags (RFC 3501, section 9: flag, flag-extension, flag-keyword, flag-perm, flag-list). A flag's text has its backslash.
+-- Flags (RFC 3501, section 9: flag, flag-extension, flag-keyword, flag-perm, flag-list). A flag's text has its
+-- backslash.
 use Rattle.std.specs.Prelude.{List, codes}
 use Rattle.imap_grammar.specs.Classes.{is_atom_char, is_astring_char}
 use Rattle.imap_grammar.specs.Text.{Bytes, Text, as_text}

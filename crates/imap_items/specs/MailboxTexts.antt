@@ -12,7 +12,8 @@ canonical_mailbox = literal_text
 
 -- INBOX in any case
 abbrev pub spells_inbox : Texts
-spells_inbox c = (t : Text) × IsTrue (is_word same_letter (codes "INBOX") t.bytes) × spells_astring_text t c
+spells_inbox c =
+    (t : Text) × IsTrue (is_word same_letter (codes "INBOX") t.bytes) × spells_astring_text t c
 
 abbrev pub spells_mailbox : Text → Texts
 spells_mailbox t c = spells_astring_text t c ⊎ ((t.bytes ≡ codes "INBOX") × spells_inbox c)

@@ -5,7 +5,8 @@ use Rattle.imap_items.specs.declared.types.statuses.Status.{Status}
 use Rattle.imap_items.specs.declared.types.statuses.Status.TheVariants.{Ok, No, Bad, PreAuth, Bye}
 
 unfoldable pub status : Rule Status
-status = names "OK" Ok or names "NO" No or names "BAD" Bad or names "PREAUTH" PreAuth or names "BYE" Bye
+status =
+    names "OK" Ok or names "NO" No or names "BAD" Bad or names "PREAUTH" PreAuth or names "BYE" Bye
 
 -- the alternatives by their first byte
 

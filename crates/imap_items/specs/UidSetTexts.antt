@@ -14,7 +14,8 @@ canonical_uid_set = separated (words ",") canonical_member
 
 -- a range by its ends in either order; no text spells a spent one
 abbrev pub spells_member : MemberValue → Texts
-spells_member (UidRange r) c = (r.spent ≡ false) × (spells_ends r.start r.end c ⊎ spells_ends r.end r.start c)
+spells_member (UidRange r) c =
+    (r.spent ≡ false) × (spells_ends r.start r.end c ⊎ spells_ends r.end r.start c)
 spells_member (Uid n) c = spells_number n c
 
 abbrev pub spells_uid_set : List MemberValue → Texts

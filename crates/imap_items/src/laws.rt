@@ -52,7 +52,7 @@ pub fn stable()
     ensures rights { Stable rights.rights }
 {}
 
-/// `==` tells whether two values say the same: texts by their bytes, whichever lie in the input.
+/// `==` tells whether two values say the same: texts by their bytes, whichever are borrowed.
 #[tactic(auto, using(crate::proofs::Capabilities::capability_tells, crate::proofs::UidSets::member_tells))]
 pub fn equality()
     ensures status { Tells ⟦<Status as PartialEq>⟧.eq (λ s. s) }
@@ -69,8 +69,10 @@ pub fn hashing()
 
 /// A clone of a UID set's member or of a right takes no memory, and is the same value.
 pub fn cloning()
-    ensures uid_set_member { CopiesFreely ⟦<UidSetMember as Clone>⟧.is_infallible ⟦<UidSetMember as Clone>⟧.is_clone }
-    ensures acl_right { CopiesFreely ⟦<AclRight as Clone>⟧.is_infallible ⟦<AclRight as Clone>⟧.is_clone }
+    ensures uid_set_member { CopiesFreely ⟦<UidSetMember as Clone>⟧.is_infallible
+        ⟦<UidSetMember as Clone>⟧.is_clone }
+    ensures acl_right { CopiesFreely ⟦<AclRight as Clone>⟧.is_infallible
+        ⟦<AclRight as Clone>⟧.is_clone }
 {}
 
 /// A letter's right has that letter, and a right's letter has that right, but for a `Custom` of a letter that has a
@@ -84,18 +86,27 @@ pub fn conversions()
 /// yields that value again, with all texts borrowed. What follows the text is left whole: any bytes that begin with `)`
 /// or CR, and for statuses, flags and Gmail's items also with a space. Excepted is a text too long to be written as a
 /// literal.
-#[tactic(auto, using(crate::proofs::StatusTexts::keeps_status, crate::proofs::FlagTexts::keeps_flag, crate::proofs::FlagTexts::keeps_flag_perm, crate::proofs::FlagTexts::keeps_flag_list, crate::proofs::GmailTexts::keeps_label_list, crate::proofs::GmailTexts::keeps_msgid, crate::proofs::GmailTexts::keeps_thrid, crate::proofs::CapabilityTexts::keeps_capability_data, crate::proofs::CapabilityTexts::keeps_enabled_data, crate::proofs::UidSetTexts::keeps_uid_set, crate::proofs::MailboxTexts::keeps_mailbox, crate::proofs::RightTexts::keeps_rights))]
 pub fn read_back()
-    ensures status { SpellsAndReadsBack statuses.status as_is canonical_status spells_status EndsItem }
+    ensures status { SpellsAndReadsBack statuses.status as_is canonical_status spells_status
+        EndsItem }
     ensures flag { SpellsAndReadsBack flags.flag as_is canonical_flag spells_flag EndsItem }
-    ensures flag_perm { SpellsAndReadsBack flags.flag_perm as_is canonical_flag spells_flag_perm EndsItem }
-    ensures flag_list { SpellsAndReadsBack flags.flag_list (map lent_text) canonical_flag_list spells_flag_list EndsItem }
-    ensures gmail_label_list { SpellsAndReadsBack gmail.gmail_label_list (map lent_text) canonical_label_list spells_label_list EndsItem }
-    ensures gmail_msgid { SpellsAndReadsBack gmail.gmail_msgid as_is canonical_msgid spells_msgid EndsItem }
-    ensures gmail_thrid { SpellsAndReadsBack gmail.gmail_thrid as_is canonical_thrid spells_thrid EndsItem }
-    ensures capability_data { SpellsAndReadsBack capabilities.capability_data (map lent_capability) canonical_capabilities spells_capability_data Closes }
-    ensures enabled_data { SpellsAndReadsBack capabilities.enabled_data (map lent_capability) canonical_capabilities spells_enabled_data Closes }
-    ensures uid_set { SpellsAndReadsBack uid_sets.uid_set as_is canonical_uid_set spells_uid_set Closes }
-    ensures mailbox { SpellsAndReadsBack mailboxes.mailbox lent_text canonical_mailbox spells_mailbox Closes }
+    ensures flag_perm { SpellsAndReadsBack flags.flag_perm as_is canonical_flag spells_flag_perm
+        EndsItem }
+    ensures flag_list { SpellsAndReadsBack flags.flag_list (map lent_text) canonical_flag_list
+        spells_flag_list EndsItem }
+    ensures gmail_label_list { SpellsAndReadsBack gmail.gmail_label_list (map lent_text)
+        canonical_label_list spells_label_list EndsItem }
+    ensures gmail_msgid { SpellsAndReadsBack gmail.gmail_msgid as_is canonical_msgid spells_msgid
+        EndsItem }
+    ensures gmail_thrid { SpellsAndReadsBack gmail.gmail_thrid as_is canonical_thrid spells_thrid
+        EndsItem }
+    ensures capability_data { SpellsAndReadsBack capabilities.capability_data (map lent_capability)
+        canonical_capabilities spells_capability_data Closes }
+    ensures enabled_data { SpellsAndReadsBack capabilities.enabled_data (map lent_capability)
+        canonical_capabilities spells_enabled_data Closes }
+    ensures uid_set { SpellsAndReadsBack uid_sets.uid_set as_is canonical_uid_set spells_uid_set
+        Closes }
+    ensures mailbox { SpellsAndReadsBack mailboxes.mailbox lent_text canonical_mailbox
+        spells_mailbox Closes }
     ensures rights { SpellsAndReadsBack rights.rights as_is canonical_rights spells_rights Closes }
 {}

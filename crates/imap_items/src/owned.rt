@@ -1,9 +1,9 @@
 //! Owned texts: what a value has once it borrows nothing. An owned text is moved.
 
 ghost use Rattle.std.specs.Prelude.{◌≡◌, map, option_map, IfOk, IsOk};
-ghost use Rattle.imap_grammar.specs.Text.{text_of};
+ghost use Rattle.imap_grammar.specs.Text.{text_of, owned_text as owned, IsOwned};
 ghost use Rattle.imap_items.specs.Capabilities.{capability_value};
-ghost use Rattle.imap_items.specs.Owned.{owned_text as owned, owned_capability, IsOwned};
+ghost use Rattle.imap_items.specs.Owned.{owned_capability};
 
 use crate::types::capabilities::Capability;
 use std::alloc::{AllocError, Global};
@@ -25,7 +25,8 @@ pub fn owned_optional_text(
     alloc: Global,
     text: Option<CowStr<'_>>,
 ) -> Result<Option<CowStr<'static>>, AllocError>
-    ensures { IfOk result (λ t. option_map text_of t ≡ option_map owned (option_map text_of text.entry)) }
+    ensures { IfOk result (λ t.
+        option_map text_of t ≡ option_map owned (option_map text_of text.entry)) }
 {
     Ok(match text {
         None => None,
@@ -53,7 +54,9 @@ pub fn owned_capabilities(
     alloc: Global,
     capabilities: Vec<Capability<'_>>,
 ) -> Result<Vec<Capability<'static>>, AllocError>
-    ensures { IfOk result (λ v. map capability_value v.items ≡ map owned_capability (map capability_value capabilities.entry.items)) }
+    ensures { IfOk result (λ v.
+        map capability_value v.items
+        ≡ map owned_capability (map capability_value capabilities.entry.items)) }
 {
     let mut owned = Vec::with_capacity(alloc, capabilities.len())?;
     for capability in capabilities {

@@ -21,7 +21,8 @@ use Rattle.imap_extensions.specs.Ids.{id_value, lent_id}
 use Rattle.imap_extensions.proofs.Ids.{tables_tell}
 use Rattle.imap_extensions.proofs.Quotas.{quotas_tell, roots_tell}
 use Rattle.imap_extensions.proofs.Acls.{acl_tells, list_rights_tell, my_rights_tell}
-use Rattle.imap_attributes.specs.AttributeValues.{attribute_value, lent_attribute}
+use Rattle.imap_attributes.specs.AttributeValues.{attribute_value}
+use Rattle.imap_attributes.specs.Changed.{lent_attribute}
 use Rattle.imap_data.specs.Codes.{code_value, lent_code}
 use Rattle.imap_data.proofs.Codes.{code_tells}
 use Rattle.imap_data.specs.contracts.types.codes.ResponseCodePartialEq.TheImpl as code_eq

@@ -1,22 +1,23 @@
 -- To borrow all texts twice is to borrow them once: so a value with its texts borrowed is the same value.
-use Rattle.std.proofs.Common.{◌≡◌, List, [], ◌∷◌, None, Some, ap, ap₂, refl, map, sym, ◌∙◌, cond, nat_cmp, Bool, true, false}
+use Rattle.std.proofs.Common.{◌≡◌, [], ◌∷◌, None, Some, ap, ap₂, refl, map, sym, ◌∙◌}
 use Rattle.std.specs.Option.{option_map}
-use Rattle.std.specs.Ordering.{eq_by_cmp}
-use Rattle.std.specs.Cmp.Lexicographic.{slice_cmp, nat_list_cmp_total}
-use Rattle.std.specs.FinMap.{entries, get, find, get-entries, get-from_entries, same_map, slice_cmp-IsAntisymmetric, nat_cmp-IsAntisymmetric}
-use Rattle.imap_grammar.specs.Text.{Bytes, Text, lent_text}
+use Rattle.std.specs.Cmp.Lexicographic.{nat_list_cmp_total}
+use Rattle.std.specs.FinMap.{get, same_map, slice_cmp-IsAntisymmetric, nat_cmp-IsAntisymmetric}
+use Rattle.imap_grammar.specs.Text.{lent_text}
 use Rattle.imap_items.specs.Capabilities.{Imap4rev1, Auth, Atom, lent_capability}
 use Rattle.imap_data.specs.Codes.{Alert, Parse, ReadOnly, ReadWrite, TryCreate, UidNotSticky, MetadataTooMany, MetadataNoPrivate, BadCharset, Capabilities as CodeCapabilities, PermanentFlags, UidNext, UidValidity, Unseen, HighestModSeq, MetadataLongEntries, MetadataMaxSize, AppendUid, CopyUid, lent_code}
 use Rattle.imap_data.specs.Names.{NoInferiors, NoSelect, Marked, Unmarked, All, Archive, Drafts, Flagged, Junk, Sent, Trash, Extension, lent_attribute as lent_name, lent_list}
 use Rattle.imap_data.specs.MailboxValues.{Exists, Flags, Listed, Search, Sort, Status, Recent, MetadataSolicited, MetadataUnsolicited, GmailLabels, GmailMsgId, GmailThrId, lent_mailbox}
 use Rattle.imap_extensions.specs.Quotas.{Storage, Message as MessageResource, Atom as AtomResource, lent_quota_resource_name, lent_quota_resource, lent_quota, lent_quota_root}
-use Rattle.imap_extensions.specs.Ids.{IdValue, lent_entry, lent_id}
+use Rattle.imap_extensions.specs.Ids.{lent_id}
 use Rattle.imap_extensions.specs.Acls.{lent_acl_entry, lent_acl}
+use Rattle.imap_extensions.proofs.Ids.{get-lent_id}
 use Rattle.imap_shapes.specs.declared.shapes.fields.ContentEncoding.TheVariants.{SevenBit, EightBit, Binary, Base64, QuotedPrintable, Other}
 use Rattle.imap_shapes.specs.ExtensionValues.{Num, Str, Listed as Members, no_extensions, one_extension}
 use Rattle.imap_shapes.specs.BodyValues.{Basic, TextBody, Message, Multipart, no_bodies, one_body}
 use Rattle.imap_shapes.specs.Lent.{lent_ntext, lent_address, lent_addresses, lent_envelope, lent_pair, lent_params, lent_encoding, lent_disposition, lent_extension, lent_extensions, lent_type, lent_common, lent_single, lent_last, lent_body, lent_bodies}
-use Rattle.imap_attributes.specs.AttributeValues.{BodySection, BodyStructure, Envelope, Flags as FlagsAttribute, InternalDate, ModSeq, Rfc822, Rfc822Header, Rfc822Size, Rfc822Text, Uid, GmailLabels as LabelsAttribute, GmailMsgId as MsgIdAttribute, GmailThrId as ThrIdAttribute, EmailId, ThreadId, Unknown, lent_attribute}
+use Rattle.imap_attributes.specs.AttributeValues.{BodySection, BodyStructure, Envelope, Flags as FlagsAttribute, InternalDate, ModSeq, Rfc822, Rfc822Header, Rfc822Size, Rfc822Text, Uid, GmailLabels as LabelsAttribute, GmailMsgId as MsgIdAttribute, GmailThrId as ThrIdAttribute, EmailId, ThreadId, Unknown}
+use Rattle.imap_attributes.specs.Changed.{lent_attribute}
 use Rattle.imap_proto.specs.Responses.{ResponseValue, Capabilities, Continue, Done, Data, Expunge, Vanished, Fetch, MailboxData, Quota, QuotaRoot, Id, Acl, ListRights, MyRights, lent_outcome, lent_response}
 use Rattle.imap_proto.specs.LineTexts.{Same}
 
@@ -118,22 +119,9 @@ quota_root q = rw (texts q.quota_root_names) refl
 acl : Twice lent_acl
 acl a = rw (map-twice {f = lent_acl_entry} (λ e. refl) a.acls) refl
 
--- a borrowed map gives each value borrowed
-find_lent : (q : Bytes) (es : List (Bytes × Text)) → find (slice_cmp nat_cmp) q (map lent_entry es) ≡ option_map lent_text (find (slice_cmp nat_cmp) q es)
-find_lent q [] = refl
-find_lent q (e ∷ es) = at (eq_by_cmp (slice_cmp nat_cmp) q e.0) (find_lent q es)
-  where
-    at : (b : Bool) → find (slice_cmp nat_cmp) q (map lent_entry es) ≡ option_map lent_text (find (slice_cmp nat_cmp) q es)
-        → cond b (Some (lent_text e.1)) (find (slice_cmp nat_cmp) q (map lent_entry es)) ≡ option_map lent_text (cond b (Some e.1) (find (slice_cmp nat_cmp) q es))
-    at true h = refl
-    at false h = h
-
-get_lent : (m : IdValue) (q : Bytes) → get (lent_id m) q ≡ option_map lent_text (get m q)
-get_lent m q = get-from_entries nat_list_cmp_total (map lent_entry (entries m)) q ∙ find_lent q (entries m) ∙ ap (option_map lent_text) (sym (get-entries m q))
-
 params : Twice lent_id
 params m = same_map nat_list_cmp_total (slice_cmp-IsAntisymmetric nat_cmp-IsAntisymmetric) _ _
-    (λ q. get_lent (lent_id m) q ∙ ap (option_map lent_text) (get_lent m q) ∙ ntext (get m q) ∙ sym (get_lent m q))
+    (λ q. get-lent_id (lent_id m) q ∙ ap (option_map lent_text) (get-lent_id m q) ∙ ntext (get m q) ∙ sym (get-lent_id m q))
 
 -- ---- envelopes and bodies
 

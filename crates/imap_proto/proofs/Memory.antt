@@ -21,14 +21,14 @@ use Rattle.imap_grammar.specs.Memory.{BeginsWord, FailsOnlyIf, SucceedsFor}
 use Rattle.imap_grammar.specs.Rule.{Rule, meaning, gives, nothing, opt, ◌⨾◌, ◌or◌}
 use Rattle.imap_grammar.specs.Step.{step, ◌>>=◌, or_else, beside}
 use Rattle.imap_grammar.specs.Tags.{sp, crlf, same_letter}
-use Rattle.imap_grammar.specs.Text.{Bytes, Text, text_of, decoded}
+use Rattle.imap_grammar.specs.Text.{Bytes, Text, text_of, decoded, IsOwned}
 use Rattle.imap_grammar.proofs.Agreement.{agrees, reads, fails}
 use Rattle.imap_grammar.proofs.Memory.{none_yielded, of_part, given, before, second}
 use Rattle.imap_grammar.proofs.Joins.{tried_none}
 use Rattle.imap_grammar.proofs.ReadingWords.{letter}
 use Rattle.imap_grammar.proofs.Steps.{ok_is}
 use Rattle.imap_grammar.proofs.Yields.{Yields, given_yields, made_yields, left_yields, either_yields}
-use Rattle.imap_bytes.specs.Texts.{text, is_owned, FailsForOwned}
+use Rattle.imap_bytes.specs.Texts.{text, FailsForOwned}
 use Rattle.imap_bytes.proofs.ReadingTexts.{decoded_utf8}
 use Rattle.imap_bytes.proofs.ReadingQuoted.{lossy_some}
 use Rattle.imap_data.specs.declared.types.codes.ResponseCode.{ResponseCode}
@@ -164,7 +164,7 @@ code_stopped m e (Err Error) result is other g f = absurd (other cc)
 code_stopped m e (Err (Incomplete n)) result is other g f = none_yielded OutcomeTakesNone outcome m (Incomplete n) result (rw g refl)
 code_stopped m e (Err Failure) result is other g f = λ v rest y h. absurd (listed m rest v (f refl) y h)
 
-text_taken : (k : Option CodeValue) (m : Bytes) (result : Returned (CowStr Global)) → Gives text_of result (step text m) → FailsForOwned is_owned text m result → SucceedsFor (λ t. OutcomeTakesNone (outcome_of (k, t))) text m result
+text_taken : (k : Option CodeValue) (m : Bytes) (result : Returned (CowStr Global)) → Gives text_of result (step text m) → FailsForOwned IsOwned text m result → SucceedsFor (λ t. OutcomeTakesNone (outcome_of (k, t))) text m result
 text_taken k m (Ok x) g f = λ v rest is h. refl
 text_taken k m (Err Error) g f = λ v rest is h. absurd cc
 text_taken k m (Err (Incomplete n)) g f = λ v rest is h. absurd cc
@@ -175,19 +175,19 @@ text_taken k m (Err Failure) g f = λ v rest is h.
     absurd (false≢true (sym o.3 ∙ ap (λ (t : Text). t.borrowed) (sym same) ∙ lent))
 
 -- the text's reader failed, behind whatever stands in front
-text_behind : {A : Type 0} (front : Rule (Option CodeValue)) (m mid : Bytes) (k : Option CodeValue) (e : Fault) (part : Returned (CowStr Global)) (result : Returned A) → step front m ≡ Ok (mid, k) → part ≡ Err e → Gives text_of part (step text mid) → FailsForOwned is_owned text mid part
+text_behind : {A : Type 0} (front : Rule (Option CodeValue)) (m mid : Bytes) (k : Option CodeValue) (e : Fault) (part : Returned (CowStr Global)) (result : Returned A) → step front m ≡ Ok (mid, k) → part ≡ Err e → Gives text_of part (step text mid) → FailsForOwned IsOwned text mid part
     → SucceedsFor OutcomeTakesNone (gives outcome_of (front ⨾ text)) m result
 text_behind front m mid k e part result here was g f =
     given OutcomeTakesNone outcome_of (front ⨾ text) m result
     (second (λ v. OutcomeTakesNone (outcome_of v)) front text m mid k result here
     (of_part (λ t. OutcomeTakesNone (outcome_of (k, t))) text mid e part result was (text_taken k mid part g f)))
 
-pub text_stopped : {A : Type 0} (m mid : Bytes) (k : Option CodeValue) (e : Fault) (part : Returned (CowStr Global)) (result : Returned A) → step (opt response_code) m ≡ Ok (mid, k) → part ≡ Err e → Gives text_of part (step text mid) → FailsForOwned is_owned text mid part
+pub text_stopped : {A : Type 0} (m mid : Bytes) (k : Option CodeValue) (e : Fault) (part : Returned (CowStr Global)) (result : Returned A) → step (opt response_code) m ≡ Ok (mid, k) → part ≡ Err e → Gives text_of part (step text mid) → FailsForOwned IsOwned text mid part
     → SucceedsFor OutcomeTakesNone outcome m result
 unfolding outcome
 text_stopped m mid k e part result front was g f = text_behind (opt response_code) m mid k e part result front was g f
 
-pub plain_stopped : {A : Type 0} (m : Bytes) (e : Fault) (part : Returned (CowStr Global)) (result : Returned A) → part ≡ Err e → Gives text_of part (step text m) → FailsForOwned is_owned text m part
+pub plain_stopped : {A : Type 0} (m : Bytes) (e : Fault) (part : Returned (CowStr Global)) (result : Returned A) → part ≡ Err e → Gives text_of part (step text m) → FailsForOwned IsOwned text m part
     → SucceedsFor OutcomeTakesNone plain_outcome m result
 unfolding plain_outcome
 plain_stopped m e part result was g f = text_behind (nothing None) m m None e part result refl was g f

@@ -7,12 +7,11 @@ use Rattle.imap_grammar.specs.Text.{Bytes}
 use Rattle.imap_proto.specs.declared.response.Response.{Response}
 use Rattle.imap_proto.specs.declared.stream.End.{End}
 use Rattle.imap_proto.specs.declared.stream.End.TheVariants.{Waits, Denied}
-use Rattle.imap_proto.specs.declared.stream.Whole.{Whole}
 use Rattle.imap_proto.specs.Responses.{ResponseValue, response_value}
 use Rattle.imap_proto.specs.Owned.{owned_response}
 use Rattle.imap_proto.specs.Lines.{response}
 use Rattle.imap_proto.specs.Streams.{EndsAs, Splits, joined}
-use Rattle.imap_proto.specs.Feeds.{TakesAll, IsWhole, OneWhole}
+use Rattle.imap_proto.specs.Feeds.{TakesAll, OneWhole}
 use Rattle.imap_proto.proofs.Streams.{stable, nothing_waits, one_split, splits_go_on}
 
 -- ---- the responses that a feed has

@@ -20,15 +20,25 @@ use Rattle.imap_proto.specs.Streams.{Waiting, Splits}
 abbrev pub WaitsFor : Bytes → ℕ → Type 0
 WaitsFor held n = (more : Bytes) → length more < n → Waiting (held ++ more)
 
--- what stands at the front of m, as the grammar answers: a response, with all its texts owned, and how many bytes are behind it; or why there is none
+-- what stands at the front of m, as the grammar answers: a response, with all its texts owned, and how many bytes are
+-- behind it; or why there is none
 abbrev pub IsOwnedFront : Bytes → Result (ℕ × Response) Fault → Type 0
-IsOwnedFront m (Ok x) = (v : ResponseValue) × (rest : Bytes) × (step response m ≡ Ok (rest, v)) × (x.0 ≡ length rest) × (response_value x.1 ≡ owned_response v)
+IsOwnedFront m (Ok x) =
+    (v : ResponseValue)
+    × (rest : Bytes)
+    × (step response m ≡ Ok (rest, v))
+    × (x.0 ≡ length rest)
+    × (response_value x.1 ≡ owned_response v)
 IsOwnedFront m (Err e) = Stops e (step response m)
 
--- What a feed gave of what it held, and what it holds then: the response at the front, with all its texts owned, and what is behind it;
+-- What a feed gave of what it held, and what it holds then: the response at the front, with all its texts owned, and
+-- what is behind it;
 -- or none, where what it holds waits.
 abbrev pub Gave : Bytes → Option Response → Bytes → Type 0
-Gave held (Some r) left = (v : ResponseValue) × (meaning response).yields held v left × (response_value r ≡ owned_response v)
+Gave held (Some r) left =
+    (v : ResponseValue)
+    × (meaning response).yields held v left
+    × (response_value r ≡ owned_response v)
 Gave held None left = Waiting held × (left ≡ held)
 
 -- it is denied only where no response begins with what is held, whatever is put behind it
@@ -38,11 +48,17 @@ RefusesAs held OutOfMemory = Unit {0}
 
 -- all responses of the split of what was held were put behind the others, with their texts owned
 abbrev pub TakesAll : Bytes → List Response → Bytes → List Response → End → Type 0
-TakesAll held before left after end = (vs : List ResponseValue) × (map response_value after ≡ map response_value before ++ map owned_response vs) × Splits held vs left end
+TakesAll held before left after end =
+    (vs : List ResponseValue)
+    × (map response_value after ≡ map response_value before ++ map owned_response vs)
+    × Splits held vs left end
 
 -- the split of m, the texts of its responses owned
 abbrev pub IsWhole : Bytes → Whole → Type 0
-IsWhole m w = (vs : List ResponseValue) × (map response_value w.responses.items ≡ map owned_response vs) × Splits m vs w.rest.items w.end
+IsWhole m w =
+    (vs : List ResponseValue)
+    × (map response_value w.responses.items ≡ map owned_response vs)
+    × Splits m vs w.rest.items w.end
 
 -- what it says, with all texts borrowed: two wholes say the same where these are one
 abbrev pub lent_whole : Whole → List ResponseValue × (Bytes × End)
@@ -52,4 +68,10 @@ lent_whole w = (map lent_response (map response_value w.responses.items), (w.res
 
 -- the bytes alone tell the whole, and not where they were cut
 abbrev pub OneWhole : Type 0
-OneWhole = (m : Bytes) (w x : Whole) → IsWhole m w → IsWhole m x → (map response_value w.responses.items ≡ map response_value x.responses.items) × (w.rest.items ≡ x.rest.items) × (w.end ≡ x.end)
+OneWhole =
+    (m : Bytes) (w x : Whole) →
+    IsWhole m w →
+    IsWhole m x →
+    (map response_value w.responses.items ≡ map response_value x.responses.items)
+    × (w.rest.items ≡ x.rest.items)
+    × (w.end ≡ x.end)

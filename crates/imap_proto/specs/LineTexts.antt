@@ -30,7 +30,8 @@ abbrev pub canonical_data : ResponseValue → Pieces
 canonical_data (Data status o) = canonical_status status then canonical_spaced o
 canonical_data (MailboxData datum) = canonical_datum datum
 canonical_data (Expunge n) = number_text n then words " EXPUNGE"
-canonical_data (Fetch n attributes) = number_text n then words " FETCH " then canonical_attributes attributes
+canonical_data (Fetch n attributes) =
+    number_text n then words " FETCH " then canonical_attributes attributes
 canonical_data (Capabilities capabilities) = canonical_capabilities capabilities
 canonical_data (Vanished earlier uids) = canonical_vanished (earlier, uids)
 canonical_data (Quota quota) = canonical_quota quota
@@ -44,7 +45,8 @@ canonical_data (Done tag status o) = []
 
 abbrev pub canonical_response : ResponseValue → Pieces
 canonical_response (Continue o) = words "+" then space then canonical_outcome o then line_end
-canonical_response (Done tag status o) = raw tag then space then canonical_status status then canonical_spaced o then line_end
+canonical_response (Done tag status o) =
+    raw tag then space then canonical_status status then canonical_spaced o then line_end
 canonical_response r = words "* " then canonical_data r then line_end
 
 abbrev pub canonical_bytes : ResponseValue → Bytes
@@ -56,8 +58,10 @@ abbrev pub spells_data : ResponseValue → Texts
 spells_data (Data status o) = spells_status status and spells_spaced o
 spells_data (MailboxData datum) = spells_datum datum
 spells_data (Expunge n) = spells_number n and in_any_case " EXPUNGE"
-spells_data (Fetch n attributes) = spells_number n and in_any_case " FETCH " and spells_attributes attributes
-spells_data (Capabilities capabilities) = λ c. spells_capability_data capabilities c ⊎ spells_enabled_data capabilities c
+spells_data (Fetch n attributes) =
+    spells_number n and in_any_case " FETCH " and spells_attributes attributes
+spells_data (Capabilities capabilities) =
+    λ c. spells_capability_data capabilities c ⊎ spells_enabled_data capabilities c
 spells_data (Vanished earlier uids) = spells_vanished (earlier, uids)
 spells_data (Quota quota) = spells_quota quota
 spells_data (QuotaRoot root) = spells_quota_root root
@@ -73,8 +77,14 @@ ends_line = this (carriage_return ∷ line_feed ∷ [])
 
 -- spaces may stand before the end of a data line
 abbrev pub spells_response : ResponseValue → Texts
-spells_response (Continue o) = exactly "+" and maybe (exactly " ") and spells_outcome o and ends_line
-spells_response (Done tag status o) = as_it_is (utf8_of is_tag_char) tag and exactly " " and spells_status status and spells_spaced o and ends_line
+spells_response (Continue o) =
+    exactly "+" and maybe (exactly " ") and spells_outcome o and ends_line
+spells_response (Done tag status o) =
+    as_it_is (utf8_of is_tag_char) tag
+    and exactly " "
+    and spells_status status
+    and spells_spaced o
+    and ends_line
 spells_response r = exactly "* " and spells_data r and all_of is_space and ends_line
 
 -- what stands before the rest spells the response
@@ -100,7 +110,8 @@ too_long r = list_any is_too_long (canonical_response r)
 
 -- ---- the law of the whole grammar
 
--- A response that the grammar yields on some bytes, and that is of neither kind, it yields again on the response's canonical text,
+-- A response that the grammar yields on some bytes, and that is of neither kind, it yields again on the response's
+-- canonical text,
 -- with all texts borrowed, and leaves exactly what follows, whatever that is.
 abbrev pub CanonicalReadsBack : Type 0
 CanonicalReadsBack =

@@ -113,7 +113,11 @@ numbered_line = ended (gives MailboxData (exists or recent) or expunge or fetch)
 
 -- the same behind the number: of the three that say no more, and of FETCH
 unfoldable pub count_line : ℕ → Rule ResponseValue
-count_line n = ended (gives MailboxData (gives Exists (nothing n ◃ word " EXISTS") or gives Recent (nothing n ◃ word " RECENT")) or gives Expunge (nothing n ◃ word " EXPUNGE"))
+count_line n =
+    ended
+    (gives MailboxData
+    (gives Exists (nothing n ◃ word " EXISTS") or gives Recent (nothing n ◃ word " RECENT"))
+    or gives Expunge (nothing n ◃ word " EXPUNGE"))
 
 unfoldable pub fetched_line : ℕ → Rule ResponseValue
 fetched_line n = ended (gives fetch_of (nothing n ⨾ fetched))
@@ -131,7 +135,10 @@ unfoldable pub enabled_line : Rule ResponseValue
 enabled_line = ended (gives Capabilities enabled_data)
 
 unfoldable pub annotation_line : Rule ResponseValue
-annotation_line = ended ((gives MailboxData metadata_solicited or gives MailboxData metadata_unsolicited) or gives MyRights my_rights)
+annotation_line =
+    ended
+    ((gives MailboxData metadata_solicited or gives MailboxData metadata_unsolicited)
+    or gives MyRights my_rights)
 
 unfoldable pub vanished_line : Rule ResponseValue
 vanished_line = ended vanished_data

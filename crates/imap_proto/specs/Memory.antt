@@ -7,7 +7,8 @@ use Rattle.imap_data.specs.Codes.{CodeValue, HoldsNoList, BeginsListCode}
 use Rattle.imap_data.specs.MailboxValues.{IsNumber}
 use Rattle.imap_proto.specs.Responses.{OutcomeValue, ResponseValue, Continue, Data, Expunge, MailboxData, Id}
 
--- A code without a list, and a borrowed text behind it. A text by itself also doesn't begin as a code that may hold a list: what stands so is tried as a code before, and its list may want memory.
+-- A code without a list, and a borrowed text behind it. A text by itself also doesn't begin as a code that may hold a
+-- list: what stands so is tried as a code before, and its list may want memory.
 abbrev pub ReadsWithoutMemory : Option CodeValue → Option Text → Type 0
 ReadsWithoutMemory None None = Unit {0}
 ReadsWithoutMemory None (Some t) = IsLent t × (¬ (BeginsListCode t.bytes))
@@ -17,7 +18,8 @@ ReadsWithoutMemory (Some c) (Some t) = HoldsNoList c × IsLent t
 abbrev pub OutcomeTakesNone : OutcomeValue → Type 0
 OutcomeTakesNone o = ReadsWithoutMemory o.code o.information
 
--- One number, an ID without fields, or an untagged status or a continuation with such an outcome: no list, no map, no copied tag and no owned text.
+-- One number, an ID without fields, or an untagged status or a continuation with such an outcome: no list, no map, no
+-- copied tag and no owned text.
 abbrev pub TakesNone : ResponseValue → Type 0
 TakesNone (Continue o) = OutcomeTakesNone o
 TakesNone (Data status o) = OutcomeTakesNone o

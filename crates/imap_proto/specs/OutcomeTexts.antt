@@ -18,7 +18,8 @@ abbrev pub canonical_parts : Option CodeValue → Option Text → Pieces
 canonical_parts None None = []
 canonical_parts None (Some information) = plain information
 canonical_parts (Some code) None = canonical_response_code code
-canonical_parts (Some code) (Some information) = canonical_response_code code then space then plain information
+canonical_parts (Some code) (Some information) =
+    canonical_response_code code then space then plain information
 
 abbrev pub canonical_outcome : OutcomeValue → Pieces
 canonical_outcome o = canonical_parts o.code o.information
@@ -58,13 +59,18 @@ Ends t = (u : Bytes) × (t ≡ carriage_return ∷ u)
 
 -- behind a code any one character, or one ill-formed part, stands before the information
 abbrev pub spells_behind_code : Text → Texts
-spells_behind_code information c = all_of is_text_char c × ((first : ℕ) × IsTrue (scalar first) × (utf8_lossy c ≡ encode_utf8 first ++ information.bytes))
+spells_behind_code information c =
+    all_of is_text_char c
+    × ((first : ℕ)
+    × IsTrue (scalar first)
+    × (utf8_lossy c ≡ encode_utf8 first ++ information.bytes))
 
 abbrev pub spells_parts : Option CodeValue → Option Text → Texts
 spells_parts None None = this []
 spells_parts None (Some information) = spells_line_text information
 spells_parts (Some code) None = spells_response_code code
-spells_parts (Some code) (Some information) = spells_response_code code and spells_behind_code information
+spells_parts (Some code) (Some information) =
+    spells_response_code code and spells_behind_code information
 
 abbrev pub spells_outcome : OutcomeValue → Texts
 spells_outcome o = spells_parts o.code o.information

@@ -28,7 +28,8 @@ information (Some code) t = unless_empty t.bytes (after_first t)
 abbrev pub outcome_of : Option CodeValue × Text → OutcomeValue
 outcome_of (code, text) = record { code = code; information = information code text }
 
--- resp-text = ["[" resp-text-code "]" SP] text, where the text may be empty, and behind a code its first character is left out
+-- resp-text = ["[" resp-text-code "]" SP] text, where the text may be empty, and behind a code its first character
+--     is left out
 unfoldable pub outcome : Rule OutcomeValue
 outcome = gives outcome_of (opt response_code ⨾ text)
 

@@ -1,13 +1,18 @@
 -- The same responses with all texts owned. A tag's text is owned always.
 use Rattle.std.specs.Prelude.{option_map, map}
-use Rattle.imap_items.specs.Owned.{owned_text, owned_capability}
+use Rattle.imap_grammar.specs.Text.{owned_text}
+use Rattle.imap_items.specs.Owned.{owned_capability}
 use Rattle.imap_data.specs.Owned.{owned_code, owned_mailbox}
 use Rattle.imap_extensions.specs.Owned.{owned_quota, owned_quota_root, owned_id, owned_acl, owned_list_rights, owned_my_rights}
 use Rattle.imap_attributes.specs.Changed.{owned_attribute}
 use Rattle.imap_proto.specs.Responses.{OutcomeValue, ResponseValue, Capabilities, Continue, Done, Data, Expunge, Vanished, Fetch, MailboxData, Quota, QuotaRoot, Id, Acl, ListRights, MyRights}
 
 abbrev pub owned_outcome : OutcomeValue → OutcomeValue
-owned_outcome o = record { code = option_map owned_code o.code; information = option_map owned_text o.information }
+owned_outcome o =
+    record {
+      code = option_map owned_code o.code;
+      information = option_map owned_text o.information;
+    }
 
 abbrev pub owned_response : ResponseValue → ResponseValue
 owned_response (Capabilities capabilities) = Capabilities (map owned_capability capabilities)

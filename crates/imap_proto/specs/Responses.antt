@@ -1,4 +1,4 @@
--- Responses as values: texts by their bytes, and whether they lie in the input.
+-- Responses as values: texts by their bytes, and whether they are borrowed.
 use Rattle.std.specs.Prelude.{◌≡◌, ℕ, Bool, List, ◌∷◌, ◌++◌, Option, option_map, map}
 use Rattle.std.specs.String.{string_bytes}
 use Rattle.std.specs.declared.alloc.Global.{Global}
@@ -17,7 +17,8 @@ use Rattle.imap_grammar.specs.declared.at.span.Span.{Span}
 use Rattle.imap_shapes.specs.declared.spans.SpannedText.{SpannedText}
 use Rattle.imap_body.specs.declared.spanned.SpannedAttribute.{SpannedAttribute}
 use Rattle.imap_body.specs.SpannedAttributes.{attribute_in}
-use Rattle.imap_attributes.specs.AttributeValues.{AttributeValue, attribute_value, lent_attribute}
+use Rattle.imap_attributes.specs.AttributeValues.{AttributeValue, attribute_value}
+use Rattle.imap_attributes.specs.Changed.{lent_attribute}
 use Rattle.imap_proto.specs.declared.outcome.Outcome.{Outcome}
 use Rattle.imap_proto.specs.declared.response.Response.{Response}
 use Rattle.imap_proto.specs.declared.response.Response.TheVariants as code
@@ -45,10 +46,15 @@ pub data ResponseValue : Type 0 where
 -- ---- of the code's values
 
 abbrev pub outcome_value : Outcome → OutcomeValue
-outcome_value o = record { code = option_map code_value o.code; information = option_map text_of o.information }
+outcome_value o =
+    record {
+      code = option_map code_value o.code;
+      information = option_map text_of o.information;
+    }
 
 abbrev pub response_value : Response → ResponseValue
-response_value (code.Capabilities capabilities) = Capabilities (map capability_value capabilities.items)
+response_value (code.Capabilities capabilities) =
+    Capabilities (map capability_value capabilities.items)
 response_value (code.Continue o) = Continue (outcome_value o)
 response_value (code.Done tag status o) = Done (string_bytes tag.0) status (outcome_value o)
 response_value (code.«Data» status o) = Data status (outcome_value o)
@@ -78,7 +84,11 @@ EndsLine m rest = (front : Bytes) × (m ≡ front ++ (carriage_return ∷ line_f
 -- ---- with all texts borrowed: two values are the same where these are one
 
 abbrev pub lent_outcome : OutcomeValue → OutcomeValue
-lent_outcome o = record { code = option_map lent_code o.code; information = option_map lent_text o.information }
+lent_outcome o =
+    record {
+      code = option_map lent_code o.code;
+      information = option_map lent_text o.information;
+    }
 
 abbrev pub lent_response : ResponseValue → ResponseValue
 lent_response (Capabilities capabilities) = Capabilities (map lent_capability capabilities)

@@ -5,7 +5,7 @@ ghost use Rattle.imap_grammar.specs.Positions.{Ahead, ExactlyAt, GivesAt, Inside
 ghost use Rattle.imap_grammar.specs.Step.{step};
 ghost use Rattle.imap_attributes.specs.AttributeValues.{attribute_value};
 ghost use Rattle.imap_body.specs.SpannedAttributes.{InFront, attribute_in};
-ghost use Rattle.imap_proto.specs.Kept.{Keeps, attributes_of, without_value};
+ghost use Rattle.imap_proto.specs.Kept.{Keeps, message_number, consumed_bytes, attributes_of, without_value};
 ghost use Rattle.imap_proto.specs.Responses.{fetch_in};
 ghost use Rattle.imap_proto.specs.Lines as rule;
 
@@ -25,7 +25,8 @@ use std::alloc::{AllocError, Global};
 #[tactic(auto, unfolding(crate::specs::Lines::spaces))]
 fn spaces(m: &[u8], p: usize) -> Reached<Span>
     requires { p ≤ length m.now }
-    ensures steps { ExactlyAt (λ x. named_in m.now x) m.now result (step rule.spaces (drop p m.now)) }
+    ensures steps { ExactlyAt (λ x. named_in m.now x) m.now result
+        (step rule.spaces (drop p m.now)) }
     ensures inside { Inside m.now p result }
 {
     let (_, i) = m.split_at(p);
@@ -35,7 +36,8 @@ fn spaces(m: &[u8], p: usize) -> Reached<Span>
 #[tactic(auto, unfolding(crate::specs::Lines::fetched))]
 fn fetched(alloc: Global, m: &[u8], p: usize) -> Reached<Vec<SpannedAttribute>>
     requires { p ≤ length m.now }
-    ensures steps { GivesAt (λ x. map (attribute_in m.now) x.items) m.now result (step rule.fetched (drop p m.now)) }
+    ensures steps { GivesAt (λ x. map (attribute_in m.now) x.items) m.now result
+        (step rule.fetched (drop p m.now)) }
     ensures ahead { Ahead m.now p result }
     ensures rests { InFront (λ n x. map (attribute_in n) x.items) result }
 {
@@ -105,7 +107,7 @@ impl KeptFetch {
 
     /// The number of the message. No memory.
     pub fn number(&self) -> u32
-        ensures { result ≡ self.now.number }
+        ensures { result ≡ message_number self.now }
     {
         self.number
     }
@@ -119,7 +121,7 @@ impl KeptFetch {
 
     /// The bytes that it consumed. No memory.
     pub fn bytes(&self) -> &[u8]
-        ensures { result.now ≡ self.now.bytes.items }
+        ensures { result.now ≡ consumed_bytes self.now }
     {
         &self.bytes
     }
@@ -131,7 +133,8 @@ impl KeptFetch {
     /// envelopes, body structures and texts that are not UTF-8. `Err`: memory ran out.
     pub fn attribute(&self, k: usize) -> Result<AttributeValue<'_>, AllocError>
         requires { k < length (attributes_of self.now) }
-        ensures { IfOk result (λ v. slice_get (attributes_of self.now) k ≡ Some (attribute_value v)) }
+        ensures { IfOk result (λ v.
+            slice_get (attributes_of self.now) k ≡ Some (attribute_value v)) }
     {
         self.attributes[k].value(self.alloc, &self.bytes)
     }

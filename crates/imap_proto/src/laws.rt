@@ -1,6 +1,6 @@
 //! Laws of the whole grammar, as contracts of functions that do nothing.
 
-ghost use Rattle.std.specs.Prelude.{◌≡◌, None, string_bytes};
+ghost use Rattle.std.specs.Prelude.{◌≡◌, string_bytes};
 ghost use Rattle.imap_grammar.specs.Stable.{Stable};
 ghost use Rattle.imap_grammar.specs.Equality.{Tells};
 ghost use Rattle.imap_grammar.specs.Copying.{CopiesFreely};
@@ -67,11 +67,13 @@ pub fn calls_told_apart()
     ensures { CallsToldApart }
 {}
 
-/// `==` tells whether two values say the same: texts by their bytes, whichever lie in the input.
+/// `==` tells whether two values say the same: texts by their bytes, whichever are borrowed.
 pub fn equality()
     ensures request_id { Tells ⟦<RequestId as PartialEq>⟧.eq (λ tag. string_bytes tag.0) }
-    ensures outcome { Tells ⟦<Outcome<'static> as PartialEq>⟧.eq (λ o. lent_outcome (outcome_value o)) }
-    ensures response { Tells ⟦<Response<'static> as PartialEq>⟧.eq (λ r. lent_response (response_value r)) }
+    ensures outcome { Tells ⟦<Outcome<'static> as PartialEq>⟧.eq (λ o.
+        lent_outcome (outcome_value o)) }
+    ensures response { Tells ⟦<Response<'static> as PartialEq>⟧.eq (λ r.
+        lent_response (response_value r)) }
     ensures end { Tells ⟦<End as PartialEq>⟧.eq (λ e. e) }
     ensures feed_error { Tells ⟦<FeedError as PartialEq>⟧.eq (λ e. e) }
     ensures whole { Tells ⟦<Whole as PartialEq>⟧.eq lent_whole }
@@ -82,10 +84,12 @@ pub fn equality()
 /// A clone takes no memory, and is the same value.
 pub fn cloning()
     ensures end { CopiesFreely ⟦<End as Clone>⟧.is_infallible ⟦<End as Clone>⟧.is_clone }
-    ensures feed_error { CopiesFreely ⟦<FeedError as Clone>⟧.is_infallible ⟦<FeedError as Clone>⟧.is_clone }
+    ensures feed_error { CopiesFreely ⟦<FeedError as Clone>⟧.is_infallible
+        ⟦<FeedError as Clone>⟧.is_clone }
 {}
 
 /// The default of an outcome has neither a code nor a text.
 pub fn defaults()
-    ensures outcome { (o : Outcome) → ⟦<Outcome<'static> as Default>⟧.is_default o → outcome_value o ≡ record { code = None; information = None } }
+    ensures outcome { (o : Outcome) →
+        ⟦<Outcome<'static> as Default>⟧.is_default o → outcome_value o ≡ outcomes.no_outcome }
 {}

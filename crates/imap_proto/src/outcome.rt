@@ -25,7 +25,8 @@ fn owned_code(
     alloc: Global,
     code: Option<ResponseCode<'_>>,
 ) -> Result<Option<ResponseCode<'static>>, AllocError>
-    ensures { IfOk result (λ c. option_map code_value c ≡ option_map owned (option_map code_value code.entry)) }
+    ensures { IfOk result (λ c.
+        option_map code_value c ≡ option_map owned (option_map code_value code.entry)) }
 {
     Ok(match code {
         None => None,

@@ -47,14 +47,16 @@ fn without_first(text: CowStr<'_>) -> CowStr<'_>
 
 // The information that a text is where no code stands in front: an empty text is none.
 fn plain(text: CowStr<'_>) -> Option<CowStr<'_>>
-    ensures { option_map text_of result ≡ outcomes.unless_empty (text_of text.entry).bytes (text_of text.entry) }
+    ensures { option_map text_of result
+        ≡ outcomes.unless_empty (text_of text.entry).bytes (text_of text.entry) }
 {
     if text.is_empty() { None } else { Some(text) }
 }
 
 // The information that a text is where a code stands in front: all but the first character; an empty text is none.
 fn behind_code(text: CowStr<'_>) -> Option<CowStr<'_>>
-    ensures { option_map text_of result ≡ outcomes.unless_empty (text_of text.entry).bytes (after_first (text_of text.entry)) }
+    ensures { option_map text_of result
+        ≡ outcomes.unless_empty (text_of text.entry).bytes (after_first (text_of text.entry)) }
 {
     if text.is_empty() {
         None

@@ -106,7 +106,9 @@ fn owned_attributes(
     alloc: Global,
     attributes: Vec<AttributeValue<'_>>,
 ) -> Result<Vec<AttributeValue<'static>>, AllocError>
-    ensures { IfOk result (λ v. map attribute_value v.items ≡ map owned_attribute (map attribute_value attributes.entry.items)) }
+    ensures { IfOk result (λ v.
+        map attribute_value v.items
+        ≡ map owned_attribute (map attribute_value attributes.entry.items)) }
 {
     let owned = imap_body::owned_attributes(alloc, &attributes);
     drop(attributes); // By a call, for the reason that `made!` gives.
@@ -114,7 +116,8 @@ fn owned_attributes(
 }
 
 fn owned_id(alloc: Global, id: Option<IdMap<'_>>) -> Result<Option<IdMap<'static>>, AllocError>
-    ensures { IfOk result (λ m. option_map id_value m ≡ option_map owned_map (option_map id_value id.entry)) }
+    ensures { IfOk result (λ m.
+        option_map id_value m ≡ option_map owned_map (option_map id_value id.entry)) }
 {
     Ok(match id {
         None => None,

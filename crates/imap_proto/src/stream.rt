@@ -45,11 +45,14 @@ impl From<AllocError> for FeedError {
 /// Bytes of a server that come in pieces, and that give their responses one by one.
 ///
 /// What is given is dropped from the front, and what is behind it is moved there only when more than half of all bytes
-/// are spent: so the responses of a piece cost time in proportion to their bytes. Where a literal lacks n bytes,
-/// nothing is read again until n bytes more were fed. Where it isn't known how many are lacking, the line is read
-/// from its start after each piece, since it may be denied by then: a line of L bytes in pieces of p costs about L *
-/// L / 2p bytes read. The feed has no limit of its own. A caller who fears such lines stops feeding where `held`
-/// grows too long.
+/// are spent: so fewer bytes are moved than were fed. Where a literal lacks n bytes, nothing is read again until n
+/// bytes more were fed. Where it isn't known how many are lacking, the line is read from its start after each piece,
+/// since it may be denied by then: a line of L bytes in pieces of p is read some L / p times.
+///
+/// A reading may go on behind the end of its line, where the line announces a literal: only what stands behind that
+/// tells whether the line is the longer or the shorter one. So many lines, or many attributes of one line, may have the
+/// same bytes read again and again: L bytes that are held can cost time in proportion to L * L. The feed has no limit
+/// of its own. A caller who fears such lines stops feeding where `held` grows too long.
 #[derive(Drop)]
 pub struct Feed {
     alloc: Global,
@@ -65,7 +68,9 @@ impl Model for Feed {
 
     ghost view = { λ f. drop f.start f.bytes.items };
 
-    ghost invariant = { λ f. (f.start + f.start ≤ length f.bytes.items) × WaitsFor (drop f.start f.bytes.items) f.wanted };
+    ghost invariant = { λ f.
+        (f.start + f.start ≤ length f.bytes.items)
+        × WaitsFor (drop f.start f.bytes.items) f.wanted };
 }
 
 // Drops the bytes in front of the start, where they are more than half of all, and tells the new start. Where it

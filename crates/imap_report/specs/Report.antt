@@ -39,22 +39,33 @@ line name n = name ++ (space ∷ decimal n) ++ (line_feed ∷ [])
 
 -- the text is the report of m, and the last line is of this kind
 pub data IsReport : List ℕ → List ℕ → Finish → Type 0 where
-  next : (m : List ℕ) (r : ResponseValue) (rest text : List ℕ) (f : Finish) → (meaning response).yields m r rest → IsReport rest text f → IsReport m (line (name_of r) (length m - length rest) ++ text) f
+  next :
+      (m : List ℕ) (r : ResponseValue) (rest text : List ℕ) (f : Finish) →
+      (meaning response).yields m r rest → IsReport rest text f →
+      IsReport m (line (name_of r) (length m - length rest) ++ text) f
   ends : IsReport [] (codes "end\n") End
   waits : (m : List ℕ) → m ≢ [] → Waits m → IsReport m (line (codes "waiting") (length m)) Waiting
-  denied : (m : List ℕ) → Denies (meaning response) m → IsReport m (line (codes "denied") (length m)) Denied
+  denied :
+      (m : List ℕ) → Denies (meaning response) m →
+      IsReport m (line (codes "denied") (length m)) Denied
 
--- The lines of responses at the front of m were appended, and the rest is behind these: whatever comes behind m, the report of the rest with that
+-- The lines of responses at the front of m were appended, and the rest is behind these: whatever comes behind m, the
+-- report of the rest with that
 -- completes the report of all.
 pub record Told (m rest : List ℕ) (old new : Option (List ℕ)) : Type 0 where
   pub text : List ℕ
-  pub completes : (more report : List ℕ) (f : Finish) → IsReport (rest ++ more) report f → IsReport (m ++ more) (text ++ report) f
+  pub completes :
+      (more report : List ℕ) (f : Finish) → IsReport (rest ++ more) report f →
+      IsReport (m ++ more) (text ++ report) f
   pub written : Appends old new text
   pub within : length rest ≤ length m
 
 -- one turn of a feed, by what it held and what it holds then: a response's line, or why there is none
 abbrev pub IsTurn : List ℕ → List ℕ → Turn → Type 0
-IsTurn held left (Line text) = (r : ResponseValue) × (meaning response).yields held r left × (string_bytes text ≡ line (name_of r) (length held - length left))
+IsTurn held left (Line text) =
+    (r : ResponseValue)
+    × (meaning response).yields held r left
+    × (string_bytes text ≡ line (name_of r) (length held - length left))
 IsTurn held left (Stop end) = EndsAs held end × (left ≡ held)
 
 -- the whole report was appended
@@ -63,20 +74,34 @@ Writes old new m finish = (text : List ℕ) × IsReport m text finish × Appends
 
 -- a beginning of the report was appended
 abbrev pub Begins : Option (List ℕ) → Option (List ℕ) → List ℕ → Type 0
-Begins old new m = (text : List ℕ) × (finish : Finish) × IsReport m text finish × AppendsFront old new text
+Begins old new m =
+    (text : List ℕ) × (finish : Finish) × IsReport m text finish × AppendsFront old new text
 
 -- what a source gave was read to its end, and its whole report was written
-abbrev pub ReportsAll : Option (List ℕ) → Option (List ℕ) → Option (List ℕ) → Option (List ℕ) → Finish → Type 0
-ReportsAll remaining left old new finish = (input : List ℕ) × Consumes remaining left input × IsAtEnd left × Writes old new input finish
+abbrev pub ReportsAll :
+    Option (List ℕ) → Option (List ℕ) → Option (List ℕ) → Option (List ℕ) → Finish → Type 0
+ReportsAll remaining left old new finish =
+    (input : List ℕ) × Consumes remaining left input × IsAtEnd left × Writes old new input finish
 
 -- a beginning of the report of what was read was written
-abbrev pub ReportsSome : Option (List ℕ) → Option (List ℕ) → Option (List ℕ) → Option (List ℕ) → Type 0
-ReportsSome remaining left old new = (input : List ℕ) × Consumes remaining left input × Begins old new input
+abbrev pub ReportsSome :
+    Option (List ℕ) → Option (List ℕ) → Option (List ℕ) → Option (List ℕ) → Type 0
+ReportsSome remaining left old new =
+    (input : List ℕ) × Consumes remaining left input × Begins old new input
 
 -- at least so many bytes were read
 abbrev pub ReadsAtLeast : ℕ → Option (List ℕ) → Option (List ℕ) → Type 0
-ReadsAtLeast n remaining left = (input : List ℕ) × Consumes remaining left input × (n ≤ length input)
+ReadsAtLeast n remaining left =
+    (input : List ℕ) × Consumes remaining left input × (n ≤ length input)
 
 -- what a source gave was read to its end, the lines of its responses were written, and n bytes are left, which end so
-abbrev pub TellsResponses : Option (List ℕ) → Option (List ℕ) → Option (List ℕ) → Option (List ℕ) → Why → ℕ → Type 0
-TellsResponses remaining left old new end n = (input : List ℕ) × (rest : List ℕ) × Consumes remaining left input × IsAtEnd left × Told input rest old new × EndsAs rest end × (length rest ≡ n)
+abbrev pub TellsResponses :
+    Option (List ℕ) → Option (List ℕ) → Option (List ℕ) → Option (List ℕ) → Why → ℕ → Type 0
+TellsResponses remaining left old new end n =
+    (input : List ℕ)
+    × (rest : List ℕ)
+    × Consumes remaining left input
+    × IsAtEnd left
+    × Told input rest old new
+    × EndsAs rest end
+    × (length rest ≡ n)

@@ -20,7 +20,8 @@ pub trait Source {
     fn read(&mut self, buf: &mut [u8]) -> io::Result<usize>
         ensures bound { IfOk result (λ n. n ≤ length buf.new) }
         ensures bytes { ReadConsumes (remaining self.old) (remaining self.new) result buf.new }
-        ensures failed { MatchResult result (λ n. has_failed self.new ≡ has_failed self.old) (λ e. has_failed self.new ≡ true) };
+        ensures failed { MatchResult result (λ n. has_failed self.new ≡ has_failed self.old) (λ e.
+            has_failed self.new ≡ true) };
 
     /// Whether a read has failed.
     fn failed(&self) -> bool
@@ -41,8 +42,10 @@ pub trait Sink {
         ensures bound { IfOk result (λ n. n ≤ length buf.now) }
         ensures bytes { WriteAppends (contents self.old) (contents self.new) result buf.now }
         ensures went_on { IfOk result (λ n. 0 < n → has_failed self.new ≡ has_failed self.old) }
-        ensures took_none { IfOk result (λ n. n ≡ 0 → 0 < length buf.now → has_failed self.new ≡ true) }
-        ensures given_none { IfOk result (λ n. length buf.now ≡ 0 → has_failed self.new ≡ has_failed self.old) }
+        ensures took_none { IfOk result (λ n.
+            n ≡ 0 → 0 < length buf.now → has_failed self.new ≡ true) }
+        ensures given_none { IfOk result (λ n.
+            length buf.now ≡ 0 → has_failed self.new ≡ has_failed self.old) }
         ensures failed { OnErr result (has_failed self.new ≡ true) };
 
     /// Whether a write has failed.
@@ -55,7 +58,8 @@ pub(crate) fn write_all<W: Sink>(writer: &mut W, bytes: &[u8]) -> Result<(), Fau
     requires { W.has_failed writer.old ≡ false }
     ensures ok { OnOk result (Appends (W.contents writer.old) (W.contents writer.new) bytes.now) }
     ensures on { OnOk result (W.has_failed writer.new ≡ false) }
-    ensures front { OnErr result (AppendsFront (W.contents writer.old) (W.contents writer.new) bytes.now) }
+    ensures front { OnErr result
+        (AppendsFront (W.contents writer.old) (W.contents writer.new) bytes.now) }
     ensures failed { OnErr result (W.has_failed writer.new ≡ true) }
     ensures fault { OnErr result (IsErrOf result Fault.Write) }
 {

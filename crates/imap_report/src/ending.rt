@@ -34,8 +34,13 @@ pub fn cat<E: Eprint, R: Source, W: Sink>(
 ) -> ExitCode
     requires reads { R.has_failed reader.old ≡ false }
     requires writes { W.has_failed writer.old ≡ false }
-    ensures finished { (finish : Finish) → exit_status result ≡ status_of (Ok finish) → ReportsAll (R.remaining reader.old) (R.remaining reader.new) (W.contents writer.old) (W.contents writer.new) finish }
-    ensures broken_off { exit_status result ≡ 1 → ReportsSome (R.remaining reader.old) (R.remaining reader.new) (W.contents writer.old) (W.contents writer.new) }
+    ensures finished { (finish : Finish) →
+        exit_status result ≡ status_of (Ok finish) →
+        ReportsAll (R.remaining reader.old) (R.remaining reader.new) (W.contents writer.old)
+        (W.contents writer.new) finish }
+    ensures broken_off { exit_status result ≡ 1 →
+        ReportsSome (R.remaining reader.old) (R.remaining reader.new) (W.contents writer.old)
+        (W.contents writer.new) }
     ensures known { exit_status result < 4 }
 {
     let outcome = run(alloc, reader, writer);

@@ -15,7 +15,11 @@ use std::alloc::Global;
 // Reads a piece and feeds it, and tells how many bytes it has: none only at the end.
 fn take_piece<R: Source>(reader: &mut R, feed: &mut Feed) -> Result<usize, Fault>
     requires { R.has_failed reader.old ≡ false }
-    ensures taken { IfOk result (λ n. (piece : List ℕ) × Consumes (R.remaining reader.old) (R.remaining reader.new) piece × (feed.new ≡ feed.old ++ piece) × (length piece ≡ n)) }
+    ensures taken { IfOk result (λ n.
+        (piece : List ℕ)
+        × Consumes (R.remaining reader.old) (R.remaining reader.new) piece
+        × (feed.new ≡ feed.old ++ piece)
+        × (length piece ≡ n)) }
     ensures end { IfOk result (λ n. n ≡ 0 → IsAtEnd (R.remaining reader.new)) }
     ensures on { OnOk result (R.has_failed reader.new ≡ false) }
     ensures some { OnErr result (ReadsAtLeast 0 (R.remaining reader.old) (R.remaining reader.new)) }
@@ -36,10 +40,15 @@ fn take_piece<R: Source>(reader: &mut R, feed: &mut Feed) -> Result<usize, Fault
 // Reads to the end, and tells how many bytes there were with those that were counted before.
 fn count_on<R: Source>(reader: &mut R, counted: usize) -> Result<usize, Fault>
     requires { R.has_failed reader.old ≡ false }
-    ensures read { IfOk result (λ n. (bytes : List ℕ) × Consumes (R.remaining reader.old) (R.remaining reader.new) bytes × (n ≡ counted + length bytes)) }
+    ensures read { IfOk result (λ n.
+        (bytes : List ℕ)
+        × Consumes (R.remaining reader.old) (R.remaining reader.new) bytes
+        × (n ≡ counted + length bytes)) }
     ensures end { OnOk result (IsAtEnd (R.remaining reader.new)) }
     ensures some { OnErr result (ReadsAtLeast 0 (R.remaining reader.old) (R.remaining reader.new)) }
-    ensures long { IfErr result (λ e. e ≡ Fault.TooLong → ReadsAtLeast (2 ^ 64 - 1 - counted) (R.remaining reader.old) (R.remaining reader.new)) }
+    ensures long { IfErr result (λ e.
+        e ≡ Fault.TooLong →
+        ReadsAtLeast (2 ^ 64 - 1 - counted) (R.remaining reader.old) (R.remaining reader.new)) }
     ensures failed { IfErr result (λ e. e ≡ Fault.Read → R.has_failed reader.new ≡ true) }
     ensures kinds { IfErr result (λ e. ¬ (e ≡ Fault.Write)) }
 {
@@ -61,7 +70,7 @@ fn count_on<R: Source>(reader: &mut R, counted: usize) -> Result<usize, Fault>
     }
 }
 
-// Reads all input piece by piece, and writes a line for each response as soon as its last byte is there. It tells how
+// Reads all input piece by piece, and writes a line for each response as soon as the bytes read tell it. It tells how
 // many bytes are left behind them, and why these give no more; and holds only what waits.
 fn tell_responses<R: Source, W: Sink>(
     alloc: Global,
@@ -70,12 +79,18 @@ fn tell_responses<R: Source, W: Sink>(
 ) -> Result<(End, usize), Fault>
     requires reads { R.has_failed reader.old ≡ false }
     requires writes { W.has_failed writer.old ≡ false }
-    ensures told { IfOk result (λ x. TellsResponses (R.remaining reader.old) (R.remaining reader.new) (W.contents writer.old) (W.contents writer.new) x.0 x.1) }
+    ensures told { IfOk result (λ x.
+        TellsResponses (R.remaining reader.old) (R.remaining reader.new) (W.contents writer.old)
+        (W.contents writer.new) x.0 x.1) }
     ensures on { OnOk result (W.has_failed writer.new ≡ false) }
-    ensures begun { OnErr result (ReportsSome (R.remaining reader.old) (R.remaining reader.new) (W.contents writer.old) (W.contents writer.new)) }
+    ensures begun { OnErr result
+        (ReportsSome (R.remaining reader.old) (R.remaining reader.new) (W.contents writer.old)
+        (W.contents writer.new)) }
     ensures read { IfErr result (λ e. e ≡ Fault.Read → R.has_failed reader.new ≡ true) }
     ensures write { IfErr result (λ e. e ≡ Fault.Write → W.has_failed writer.new ≡ true) }
-    ensures long { IfErr result (λ e. e ≡ Fault.TooLong → ReadsAtLeast (2 ^ 64 - 1) (R.remaining reader.old) (R.remaining reader.new)) }
+    ensures long { IfErr result (λ e.
+        e ≡ Fault.TooLong →
+        ReadsAtLeast (2 ^ 64 - 1) (R.remaining reader.old) (R.remaining reader.new)) }
 {
     let mut feed = Feed::new(alloc);
     // Each piece has at least one byte, so after 2^64 - 1 of them the input is too long.
@@ -95,7 +110,7 @@ fn tell_responses<R: Source, W: Sink>(
     Err(Fault::TooLong)
 }
 
-/// Reads all input piece by piece and writes its report: a line for each response as soon as its last byte is there,
+/// Reads all input piece by piece and writes its report: a line for each response as soon as the bytes read tell it,
 /// and a last line that tells what is left. It takes memory for a piece, for what waits, and for a response. After a
 /// `Fault` what was written is a beginning of the report of what was read.
 ///
@@ -108,11 +123,17 @@ pub fn run<R: Source, W: Sink>(
 ) -> Result<Finish, Fault>
     requires reads { R.has_failed reader.old ≡ false }
     requires writes { W.has_failed writer.old ≡ false }
-    ensures whole { IfOk result (ReportsAll (R.remaining reader.old) (R.remaining reader.new) (W.contents writer.old) (W.contents writer.new)) }
-    ensures begun { OnErr result (ReportsSome (R.remaining reader.old) (R.remaining reader.new) (W.contents writer.old) (W.contents writer.new)) }
+    ensures whole { IfOk result
+        (ReportsAll (R.remaining reader.old) (R.remaining reader.new) (W.contents writer.old)
+        (W.contents writer.new)) }
+    ensures begun { OnErr result
+        (ReportsSome (R.remaining reader.old) (R.remaining reader.new) (W.contents writer.old)
+        (W.contents writer.new)) }
     ensures read { IfErr result (λ e. e ≡ Fault.Read → R.has_failed reader.new ≡ true) }
     ensures write { IfErr result (λ e. e ≡ Fault.Write → W.has_failed writer.new ≡ true) }
-    ensures long { IfErr result (λ e. e ≡ Fault.TooLong → ReadsAtLeast (2 ^ 64 - 1) (R.remaining reader.old) (R.remaining reader.new)) }
+    ensures long { IfErr result (λ e.
+        e ≡ Fault.TooLong →
+        ReadsAtLeast (2 ^ 64 - 1) (R.remaining reader.old) (R.remaining reader.new)) }
 {
     let (end, n) = tell_responses(alloc, reader, writer)?;
     tell_last(alloc, end, n, writer)

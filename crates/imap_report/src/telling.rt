@@ -70,7 +70,8 @@ fn next_turn(alloc: Global, feed: &mut Feed) -> Result<Turn, AllocError>
 /// Writes a line for each response that the feed has, and tells why it gives no more.
 pub(crate) fn tell<W: Sink>(alloc: Global, feed: &mut Feed, writer: &mut W) -> Result<End, Fault>
     requires { W.has_failed writer.old ≡ false }
-    ensures told { OnOk result (Told feed.old feed.new (W.contents writer.old) (W.contents writer.new)) }
+    ensures told { OnOk result
+        (Told feed.old feed.new (W.contents writer.old) (W.contents writer.new)) }
     ensures ends { IfOk result (EndsAs feed.new) }
     ensures on { OnOk result (W.has_failed writer.new ≡ false) }
     ensures begun { OnErr result (Begins (W.contents writer.old) (W.contents writer.new) feed.old) }
@@ -87,7 +88,8 @@ pub(crate) fn tell<W: Sink>(alloc: Global, feed: &mut Feed, writer: &mut W) -> R
 
 // The last line, where so many bytes are left and no response stands at their front.
 fn last_line(alloc: Global, end: End, n: usize) -> Result<(Finish, String), AllocError>
-    ensures { IfOk result (λ x. (m : List ℕ) → EndsAs m end → length m ≡ n → IsReport m (string_bytes x.1) x.0) }
+    ensures { IfOk result (λ x.
+        (m : List ℕ) → EndsAs m end → length m ≡ n → IsReport m (string_bytes x.1) x.0) }
 {
     match end {
         End::Denied => Ok((Finish::Denied, line_of(alloc, "denied", n)?)),
@@ -108,8 +110,16 @@ pub(crate) fn tell_last<W: Sink>(
     writer: &mut W,
 ) -> Result<Finish, Fault>
     requires { W.has_failed writer.old ≡ false }
-    ensures whole { IfOk result (λ f. (m : List ℕ) → EndsAs m end → length m ≡ n → Writes (W.contents writer.old) (W.contents writer.new) m f) }
-    ensures begun { OnErr result ((m : List ℕ) → EndsAs m end → length m ≡ n → Begins (W.contents writer.old) (W.contents writer.new) m) }
+    ensures whole { IfOk result (λ f.
+        (m : List ℕ) →
+        EndsAs m end →
+        length m ≡ n →
+        Writes (W.contents writer.old) (W.contents writer.new) m f) }
+    ensures begun { OnErr result
+        ((m : List ℕ) →
+        EndsAs m end →
+        length m ≡ n →
+        Begins (W.contents writer.old) (W.contents writer.new) m) }
     ensures fault { IfErr result (λ e. e ≡ Fault.Write → W.has_failed writer.new ≡ true) }
     ensures kinds { IfErr result (λ e. (¬ (e ≡ Fault.Read)) × (¬ (e ≡ Fault.TooLong))) }
 {

@@ -42,7 +42,12 @@ abbrev pub spells_header_list : Texts
 spells_header_list = exactly "(" and spells_header_names and maybe (exactly " ") and exactly ")"
 
 abbrev pub spells_header : Texts
-spells_header c = in_any_case "HEADER" c ⊎ (in_any_case "HEADER.FIELDS" and maybe (in_any_case ".NOT") and exactly " " and spells_header_list) c
+spells_header c =
+    in_any_case "HEADER" c
+    ⊎ (in_any_case "HEADER.FIELDS"
+    and maybe (in_any_case ".NOT")
+    and exactly " "
+    and spells_header_list) c
 
 -- of a whole message: no text names its MIME header
 abbrev pub spells_message_text : MessageSection → Texts

@@ -1,4 +1,5 @@
--- Sections of a message (RFC 3501, section 9: section, section-spec, section-part, section-text, section-msgtext, header-list).
+-- Sections of a message (RFC 3501, section 9: section, section-spec, section-part, section-text, section-msgtext,
+-- header-list).
 use Rattle.std.specs.Prelude.{ℕ, List, Option}
 use Rattle.imap_grammar.specs.Text.{Bytes}
 use Rattle.imap_grammar.specs.Rule.{Rule, gives, nothing, opt, otherwise, dropped, list1, ◌⨾◌, ◌▹◌, ◌◃◌, ◌or◌}
@@ -13,7 +14,8 @@ use Rattle.imap_sections.specs.SectionValues.{PathValue, Full, Part}
 unfoldable pub header_names : Rule (Unit {0})
 header_names = dropped (list1 sp astring)
 
--- header-list = "(" header-fld-name *(SP header-fld-name) ")"; the names may be missing, and a space may stand before the `)`
+-- header-list = "(" header-fld-name *(SP header-fld-name) ")"; the names may be missing, and a space may stand
+--     before the `)`
 unfoldable pub header_list : Rule (Unit {0})
 header_list = tag "(" ▹ otherwise header_names tt ◃ opt sp ⨾ tag ")"
 

@@ -1,7 +1,8 @@
 -- What a search goes over.
-use Rattle.std.proofs.Common.{◌≡◌, ℕ, List, [], ◌∷◌, refl, sym, ap, ◌∙◌, subst, map, Vec, Global, Bool, true, false, ◌||◌, nat_lt, Option, Some, drop, inl, inr, ◌+◌, ◌<◌, ◌≤◌, suc, length, get_or, arith}
+use Rattle.std.proofs.Common.{◌≡◌, ℕ, List, [], ◌∷◌, refl, sym, ap, ◌∙◌, subst, map, Vec, Global, Bool, true, false, ◌||◌, nat_lt, Option, Some, All, take, drop, ◌++◌, ◌+◌, ◌<◌, ◌≤◌, suc, length, get_or}
 use Rattle.std.proofs.lemmas.Bool.{lt-ltb, le-ltb}
-use Rattle.std.proofs.lemmas.List.{drop_all, drop_more}
+use Rattle.std.proofs.lemmas.List.{drop_all, drop_more, take_more, take-append-drop}
+use Rattle.std.proofs.lemmas.List.Elements.{All-push}
 use Rattle.std.specs.declared.borrow.CowStr.{CowStr}
 use Rattle.std.specs.declared.borrow.CowSlice.{CowSlice}
 use Rattle.imap_grammar.specs.Text.{text_of}
@@ -20,16 +21,25 @@ use Rattle.imap_shapes.proofs.Trees.{basic_seen, text_seen, message_seen, multip
 abbrev Body : Type 0
 Body = BodyStructure (CowStr Global) (CowSlice ℕ Global)
 
-module _ {X : Type 0} (answers : X → Bool → Type 0) (path : X → List ℕ) (whole xs : List X) (i : ℕ) (inside : i < length xs) (x : X) (is : x ≡ get_or xs i x) where
-  -- the part at hand is the first of those that are left
+-- one of the parts, behind those before it, at which the answer is false
+module _ {X : Type 0} (answers : X → Bool → Type 0) (xs : List X) (i : ℕ) (inside : i < length xs) (x : X) (is : x ≡ get_or xs i x) (before : All (λ y. answers y false) (take i xs)) where
   here : drop i xs ≡ x ∷ drop (i + 1) xs
   here = drop_more xs i x inside ∙ ap (λ y. y ∷ drop (i + 1) xs) (sym is)
 
-  pub found_here : ((r : Option (List ℕ)) → FindsFirst answers path (drop i xs) r → FindsFirst answers path whole r) → (r : Option (List ℕ)) → answers x true → r ≡ Some (path x) → FindsFirst answers path whole r
-  found_here so_far r holds eq = so_far r (subst (λ l. FindsFirst answers path l r) (sym here) (inl (holds, eq)))
+  pub found_here : (path : X → List ℕ) → answers x true → FindsFirst answers path xs (Some (path x))
+  found_here path holds =
+      record {
+        before = take i xs;
+        first = x;
+        behind = drop (i + 1) xs;
+        parts = sym (take-append-drop i xs) ∙ ap (λ l. take i xs ++ l) here;
+        fails = before;
+        holds = holds;
+        found_there = refl;
+      }
 
-  pub found_later : ((r : Option (List ℕ)) → FindsFirst answers path (drop i xs) r → FindsFirst answers path whole r) → answers x false → (r : Option (List ℕ)) → FindsFirst answers path (drop (i + 1) xs) r → FindsFirst answers path whole r
-  found_later so_far fails r later = so_far r (subst (λ l. FindsFirst answers path l r) (sym here) (inr (fails, later)))
+  pub not_here : answers x false → All (λ y. answers y false) (take (i + 1) xs)
+  not_here fails = subst (All (λ y. answers y false)) (ap (λ y. take i xs ++ y ∷ []) is ∙ sym (take_more xs i x inside)) (All-push (λ y. answers y false) (take i xs) x before fails)
 
 abbrev seen : Body → BodyValue
 seen = body_seen text_of bytes_of

@@ -57,7 +57,9 @@ mutual
   pub data BodyValue : Type 0 where
     Basic : CommonValue → SingleValue → Option ExtensionValue → BodyValue
     TextBody : CommonValue → SingleValue → ℕ → Option ExtensionValue → BodyValue
-    Message : CommonValue → SingleValue → EnvelopeValue → BodyValue → ℕ → Option ExtensionValue → BodyValue
+    Message :
+        CommonValue → SingleValue → EnvelopeValue → BodyValue → ℕ → Option ExtensionValue →
+        BodyValue
     Multipart : CommonValue → Bodies → Option ExtensionValue → BodyValue
 
   pub data Bodies : Type 0 where
@@ -82,15 +84,24 @@ bodies_of [] = no_bodies
 bodies_of (b ∷ bs) = one_body b (bodies_of bs)
 
 -- one level, with each body inside already seen
-abbrev pub body_step : {S B : Type 0} → (S → Text) → (B → Text) → BodyStructure-F S B BodyValue → BodyValue
-body_step f g (BodyStructure-F.Basic common other extension) = Basic (common_seen f common) (single_seen f other) (option_map (extension_seen f) extension)
-body_step f g (BodyStructure-F.Text common other lines extension) = TextBody (common_seen f common) (single_seen f other) lines (option_map (extension_seen f) extension)
-body_step f g (BodyStructure-F.Message common other envelope body lines extension) = Message (common_seen f common) (single_seen f other) (envelope_seen g envelope) body.value lines (option_map (extension_seen f) extension)
-body_step f g (BodyStructure-F.Multipart common bodies extension) = Multipart (common_seen f common) (bodies_of bodies.items) (option_map (extension_seen f) extension)
+abbrev pub body_step :
+    {S B : Type 0} → (S → Text) → (B → Text) → BodyStructure-F S B BodyValue → BodyValue
+body_step f g (BodyStructure-F.Basic common other extension) =
+    Basic (common_seen f common) (single_seen f other) (option_map (extension_seen f) extension)
+body_step f g (BodyStructure-F.Text common other lines extension) =
+    TextBody (common_seen f common) (single_seen f other) lines
+    (option_map (extension_seen f) extension)
+body_step f g (BodyStructure-F.Message common other envelope body lines extension) =
+    Message (common_seen f common) (single_seen f other) (envelope_seen g envelope) body.value lines
+    (option_map (extension_seen f) extension)
+body_step f g (BodyStructure-F.Multipart common bodies extension) =
+    Multipart (common_seen f common) (bodies_of bodies.items)
+    (option_map (extension_seen f) extension)
 
 abbrev pub body_seen : {S B : Type 0} → (S → Text) → (B → Text) → BodyStructure S B → BodyValue
 body_seen {S} {B} f g = fold-BodyStructure S B BodyValue (body_step f g)
 
 -- of one in its box
-abbrev pub boxed_seen : {S B : Type 0} → (S → Text) → (B → Text) → Box (BodyStructure S B) Global → BodyValue
+abbrev pub boxed_seen :
+    {S B : Type 0} → (S → Text) → (B → Text) → Box (BodyStructure S B) Global → BodyValue
 boxed_seen f g b = body_seen f g b.value

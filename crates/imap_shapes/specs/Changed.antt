@@ -14,9 +14,16 @@ abbrev pub changed_ntext : (Text → Text) → Option Text → Option Text
 changed_ntext h = option_map h
 
 abbrev pub changed_address : (Text → Text) → AddressValue → AddressValue
-changed_address h a = record { name = changed_ntext h a.name; adl = changed_ntext h a.adl; mailbox = changed_ntext h a.mailbox; host = changed_ntext h a.host }
+changed_address h a =
+    record {
+      name = changed_ntext h a.name;
+      adl = changed_ntext h a.adl;
+      mailbox = changed_ntext h a.mailbox;
+      host = changed_ntext h a.host;
+    }
 
-abbrev pub changed_addresses : (Text → Text) → Option (List AddressValue) → Option (List AddressValue)
+abbrev pub changed_addresses :
+    (Text → Text) → Option (List AddressValue) → Option (List AddressValue)
 changed_addresses h = option_map (map (changed_address h))
 
 abbrev pub changed_envelope : (Text → Text) → EnvelopeValue → EnvelopeValue
@@ -66,7 +73,8 @@ abbrev mutual
 
   pub changed_extensions : (Text → Text) → Extensions → Extensions
   changed_extensions h no_extensions = no_extensions
-  changed_extensions h (one_extension e es) = one_extension (changed_extension h e) (changed_extensions h es)
+  changed_extensions h (one_extension e es) =
+      one_extension (changed_extension h e) (changed_extensions h es)
 
 -- ---- structures of bodies
 
@@ -97,10 +105,15 @@ changed_last h = option_map (changed_extension h)
 
 abbrev mutual
   pub changed_body : (Text → Text) → BodyValue → BodyValue
-  changed_body h (Basic common single last) = Basic (changed_common h common) (changed_single h single) (changed_last h last)
-  changed_body h (TextBody common single lines last) = TextBody (changed_common h common) (changed_single h single) lines (changed_last h last)
-  changed_body h (Message common single envelope body lines last) = Message (changed_common h common) (changed_single h single) (changed_envelope h envelope) (changed_body h body) lines (changed_last h last)
-  changed_body h (Multipart common bodies last) = Multipart (changed_common h common) (changed_bodies h bodies) (changed_last h last)
+  changed_body h (Basic common single last) =
+      Basic (changed_common h common) (changed_single h single) (changed_last h last)
+  changed_body h (TextBody common single lines last) =
+      TextBody (changed_common h common) (changed_single h single) lines (changed_last h last)
+  changed_body h (Message common single envelope body lines last) =
+      Message (changed_common h common) (changed_single h single) (changed_envelope h envelope)
+      (changed_body h body) lines (changed_last h last)
+  changed_body h (Multipart common bodies last) =
+      Multipart (changed_common h common) (changed_bodies h bodies) (changed_last h last)
 
   pub changed_bodies : (Text → Text) → Bodies → Bodies
   changed_bodies h no_bodies = no_bodies

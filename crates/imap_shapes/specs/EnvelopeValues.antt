@@ -14,9 +14,16 @@ pub record AddressValue : Type 0 where
   pub host : Option Text
 
 abbrev pub address_seen : {B : Type 0} → (B → Text) → Address B → AddressValue
-address_seen f a = record { name = option_map f a.name; adl = option_map f a.adl; mailbox = option_map f a.mailbox; host = option_map f a.host }
+address_seen f a =
+    record {
+      name = option_map f a.name;
+      adl = option_map f a.adl;
+      mailbox = option_map f a.mailbox;
+      host = option_map f a.host;
+    }
 
-abbrev pub addresses_seen : {B : Type 0} → (B → Text) → Option (Vec (Address B) Global) → Option (List AddressValue)
+abbrev pub addresses_seen :
+    {B : Type 0} → (B → Text) → Option (Vec (Address B) Global) → Option (List AddressValue)
 addresses_seen f a = option_map (λ v. map (address_seen f) v.items) a
 
 pub record EnvelopeValue : Type 0 where

@@ -1,4 +1,5 @@
--- What extension data of a body says (RFC 3501, section 9: body-fld-dsp, body-extension, body-ext-1part, body-ext-mpart).
+-- What extension data of a body says (RFC 3501, section 9: body-fld-dsp, body-extension, body-ext-1part,
+-- body-ext-mpart).
 use Rattle.std.specs.Prelude.{ℕ, List, [], ◌∷◌, Option, map}
 use Rattle.std.specs.Option.{option_map}
 use Rattle.std.specs.declared.alloc.Global.{Global}
@@ -36,7 +37,8 @@ extensions_of [] = no_extensions
 extensions_of (e ∷ es) = one_extension e (extensions_of es)
 
 -- one level, with each extension inside already seen
-abbrev pub extension_step : {S : Type 0} → (S → Text) → BodyExtension-F S ExtensionValue → ExtensionValue
+abbrev pub extension_step :
+    {S : Type 0} → (S → Text) → BodyExtension-F S ExtensionValue → ExtensionValue
 extension_step f (BodyExtension-F.Num n) = Num n
 extension_step f (BodyExtension-F.Str text) = Str (option_map f text)
 extension_step f (BodyExtension-F.List members) = Listed (extensions_of members.items)

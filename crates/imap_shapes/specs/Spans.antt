@@ -3,7 +3,7 @@ use Rattle.std.specs.Prelude.{◌≡◌, ◌≤◌, ℕ, true, false, Ok, Err, c
 use Rattle.std.specs.declared.borrow.CowStr.{CowStr}
 use Rattle.std.specs.declared.borrow.CowSlice.{CowSlice}
 use Rattle.std.specs.declared.borrow.CowSlice.TheVariants as slice
-use Rattle.imap_grammar.specs.Text.{Bytes, Text, text_of, decoded, as_text}
+use Rattle.imap_grammar.specs.Text.{Bytes, Text, text_of, decoded, as_text, owned_text}
 use Rattle.imap_grammar.specs.declared.at.span.Span.{Span}
 use Rattle.imap_grammar.specs.Positions.{Reached}
 use Rattle.imap_shapes.specs.declared.spans.SpannedText.{SpannedText}
@@ -31,7 +31,8 @@ text_in n spanned.Multipart = as_text (codes "MULTIPART")
 abbrev pub AlikeTo : ℕ → Lookup → Lookup → Type 0
 AlikeTo q n k = (s : Span) → s.start ≤ s.end → s.end ≤ q → n s ≡ k s
 
--- What x says rests on such spans alone: two ways that differ on other spans only make it say the same. So where the view
+-- What x says rests on such spans alone: two ways that differ on other spans only make it say the same. So where the
+-- view
 -- shows a string of x, its span is in order and ends at q or before, whatever it names (`bytes_lie` and `part_lies` of
 -- `proofs/Places`).
 pub record Rests {A V : Type 0} (view : Lookup → A → V) (q : ℕ) (x : A) : Type 0 where
@@ -49,12 +50,8 @@ abbrev pub bytes_of : {Z : Type 0} → CowSlice ℕ Z → Text
 bytes_of (slice.Borrowed s) = record { bytes = s.now; borrowed = true }
 bytes_of (slice.Owned v) = record { bytes = v.items; borrowed = false }
 
--- the same text, owned
-abbrev pub owned : Text → Text
-owned t = record { bytes = t.bytes; borrowed = false }
-
 abbrev pub text_owned : {Z : Type 0} → CowStr Z → Text
-text_owned t = owned (text_of t)
+text_owned t = owned_text (text_of t)
 
 abbrev pub bytes_owned : {Z : Type 0} → CowSlice ℕ Z → Text
-bytes_owned t = owned (bytes_of t)
+bytes_owned t = owned_text (bytes_of t)

@@ -19,22 +19,46 @@ use crate::spans::SpannedText;
 /// If `==` of texts answers whether f says the same of both, borrowed or owned, then `==` of shapes of such texts
 /// answers whether the two shapes say the same.
 pub fn equality<S: PartialEq, B: PartialEq>()
-    ensures address { (f : B → Text) → Tells B.eq (λ b. lent_text (f b)) → Tells ⟦<Address<B> as PartialEq>⟧.eq (λ x. lent_address (address_seen f x)) }
-    ensures envelope { (f : B → Text) → Tells B.eq (λ b. lent_text (f b)) → Tells ⟦<Envelope<B> as PartialEq>⟧.eq (λ x. lent_envelope (envelope_seen f x)) }
-    ensures body_params { (f : S → Text) → Tells S.eq (λ s. lent_text (f s)) → Tells ⟦<BodyParams<S> as PartialEq>⟧.eq (λ x. lent_params (params_seen f x)) }
-    ensures content_encoding { (f : S → Text) → Tells S.eq (λ s. lent_text (f s)) → Tells ⟦<ContentEncoding<S> as PartialEq>⟧.eq (λ x. lent_encoding (encoding_seen f x)) }
-    ensures content_disposition { (f : S → Text) → Tells S.eq (λ s. lent_text (f s)) → Tells ⟦<ContentDisposition<S> as PartialEq>⟧.eq (λ x. lent_disposition (disposition_seen f x)) }
-    ensures body_extension { (f : S → Text) → Tells S.eq (λ s. lent_text (f s)) → Tells ⟦<BodyExtension<S> as PartialEq>⟧.eq (λ x. lent_extension (extension_seen f x)) }
-    ensures content_type { (f : S → Text) → Tells S.eq (λ s. lent_text (f s)) → Tells ⟦<ContentType<S> as PartialEq>⟧.eq (λ x. lent_type (type_seen f x)) }
-    ensures content_common { (f : S → Text) → Tells S.eq (λ s. lent_text (f s)) → Tells ⟦<BodyContentCommon<S> as PartialEq>⟧.eq (λ x. lent_common (common_seen f x)) }
-    ensures content_single_part { (f : S → Text) → Tells S.eq (λ s. lent_text (f s)) → Tells ⟦<BodyContentSinglePart<S> as PartialEq>⟧.eq (λ x. lent_single (single_seen f x)) }
-    ensures body_structure { (f : S → Text) (g : B → Text) → Tells S.eq (λ s. lent_text (f s)) → Tells B.eq (λ b. lent_text (g b)) → Tells ⟦<BodyStructure<S, B> as PartialEq>⟧.eq (λ x. lent_body (body_seen f g x)) }
+    ensures address { (f : B → Text) →
+        Tells B.eq (λ b. lent_text (f b)) →
+        Tells ⟦<Address<B> as PartialEq>⟧.eq (λ x. lent_address (address_seen f x)) }
+    ensures envelope { (f : B → Text) →
+        Tells B.eq (λ b. lent_text (f b)) →
+        Tells ⟦<Envelope<B> as PartialEq>⟧.eq (λ x. lent_envelope (envelope_seen f x)) }
+    ensures body_params { (f : S → Text) →
+        Tells S.eq (λ s. lent_text (f s)) →
+        Tells ⟦<BodyParams<S> as PartialEq>⟧.eq (λ x. lent_params (params_seen f x)) }
+    ensures content_encoding { (f : S → Text) →
+        Tells S.eq (λ s. lent_text (f s)) →
+        Tells ⟦<ContentEncoding<S> as PartialEq>⟧.eq (λ x. lent_encoding (encoding_seen f x)) }
+    ensures content_disposition { (f : S → Text) →
+        Tells S.eq (λ s. lent_text (f s)) →
+        Tells ⟦<ContentDisposition<S> as PartialEq>⟧.eq (λ x.
+        lent_disposition (disposition_seen f x)) }
+    ensures body_extension { (f : S → Text) →
+        Tells S.eq (λ s. lent_text (f s)) →
+        Tells ⟦<BodyExtension<S> as PartialEq>⟧.eq (λ x. lent_extension (extension_seen f x)) }
+    ensures content_type { (f : S → Text) →
+        Tells S.eq (λ s. lent_text (f s)) →
+        Tells ⟦<ContentType<S> as PartialEq>⟧.eq (λ x. lent_type (type_seen f x)) }
+    ensures content_common { (f : S → Text) →
+        Tells S.eq (λ s. lent_text (f s)) →
+        Tells ⟦<BodyContentCommon<S> as PartialEq>⟧.eq (λ x. lent_common (common_seen f x)) }
+    ensures content_single_part { (f : S → Text) →
+        Tells S.eq (λ s. lent_text (f s)) →
+        Tells ⟦<BodyContentSinglePart<S> as PartialEq>⟧.eq (λ x. lent_single (single_seen f x)) }
+    ensures body_structure { (f : S → Text) (g : B → Text) →
+        Tells S.eq (λ s. lent_text (f s)) →
+        Tells B.eq (λ b. lent_text (g b)) →
+        Tells ⟦<BodyStructure<S, B> as PartialEq>⟧.eq (λ x. lent_body (body_seen f g x)) }
     ensures spanned_text { Tells ⟦<SpannedText as PartialEq>⟧.eq (λ x. x) }
     ensures parts_error { Tells ⟦<PartsError as PartialEq>⟧.eq (λ x. x) }
 {}
 
 /// A clone takes no memory, and is the same value.
 pub fn cloning()
-    ensures spanned_text { CopiesFreely ⟦<SpannedText as Clone>⟧.is_infallible ⟦<SpannedText as Clone>⟧.is_clone }
-    ensures parts_error { CopiesFreely ⟦<PartsError as Clone>⟧.is_infallible ⟦<PartsError as Clone>⟧.is_clone }
+    ensures spanned_text { CopiesFreely ⟦<SpannedText as Clone>⟧.is_infallible
+        ⟦<SpannedText as Clone>⟧.is_clone }
+    ensures parts_error { CopiesFreely ⟦<PartsError as Clone>⟧.is_infallible
+        ⟦<PartsError as Clone>⟧.is_clone }
 {}

@@ -35,7 +35,8 @@ impl<'a> Envelope<'a> {
     /// The same envelope with all texts owned. It takes memory, also for texts that are owned already; `Err`: memory
     /// ran out.
     pub fn into_owned(self, alloc: Global) -> Result<Envelope<'static>, AllocError>
-        ensures { IfOk result (λ x. envelope_seen bytes_of x ≡ envelope_seen bytes_owned self.entry) }
+        ensures { IfOk result (λ x.
+            envelope_seen bytes_of x ≡ envelope_seen bytes_owned self.entry) }
     {
         let owned = self.try_map(alloc, &Owning::new(alloc));
         drop(self);
@@ -71,7 +72,8 @@ impl<'a> ContentDisposition<'a> {
     /// The same disposition with all texts owned. It takes memory, also for texts that are owned already; `Err`: memory
     /// ran out.
     pub fn into_owned(self, alloc: Global) -> Result<ContentDisposition<'static>, AllocError>
-        ensures { IfOk result (λ x. disposition_seen text_of x ≡ disposition_seen text_owned self.entry) }
+        ensures { IfOk result (λ x.
+            disposition_seen text_of x ≡ disposition_seen text_owned self.entry) }
     {
         let owned = self.try_map(alloc, &Owning::new(alloc));
         drop(self);
@@ -83,7 +85,8 @@ impl<'a> BodyExtension<'a> {
     /// The same extension with all texts owned. It takes memory, also for texts that are owned already; `Err`: memory
     /// ran out.
     pub fn into_owned(self, alloc: Global) -> Result<BodyExtension<'static>, AllocError>
-        ensures { IfOk result (λ x. extension_seen text_of x ≡ extension_seen text_owned self.entry) }
+        ensures { IfOk result (λ x.
+            extension_seen text_of x ≡ extension_seen text_owned self.entry) }
     {
         let owned = self.try_map(alloc, &Owning::new(alloc));
         drop(self);
@@ -95,7 +98,8 @@ impl<'a> BodyExt1Part<'a> {
     /// The same data with all texts owned. It takes memory, also for texts that are owned already; `Err`: memory ran
     /// out.
     pub fn into_owned(self, alloc: Global) -> Result<BodyExt1Part<'static>, AllocError>
-        ensures { IfOk result (λ x. ext_1part_seen text_of x ≡ ext_1part_seen text_owned self.entry) }
+        ensures { IfOk result (λ x.
+            ext_1part_seen text_of x ≡ ext_1part_seen text_owned self.entry) }
     {
         let owned = self.try_map(alloc, &Owning::new(alloc));
         drop(self);
@@ -107,7 +111,8 @@ impl<'a> BodyExtMPart<'a> {
     /// The same data with all texts owned. It takes memory, also for texts that are owned already; `Err`: memory ran
     /// out.
     pub fn into_owned(self, alloc: Global) -> Result<BodyExtMPart<'static>, AllocError>
-        ensures { IfOk result (λ x. ext_mpart_seen text_of x ≡ ext_mpart_seen text_owned self.entry) }
+        ensures { IfOk result (λ x.
+            ext_mpart_seen text_of x ≡ ext_mpart_seen text_owned self.entry) }
     {
         let owned = self.try_map(alloc, &Owning::new(alloc));
         drop(self);
@@ -155,7 +160,8 @@ impl<'a> BodyStructure<'a> {
     /// The same structure with all texts owned. It takes memory, also for texts that are owned already; `Err`: memory
     /// ran out.
     pub fn into_owned(self, alloc: Global) -> Result<BodyStructure<'static>, AllocError>
-        ensures { IfOk result (λ x. body_seen text_of bytes_of x ≡ body_seen text_owned bytes_owned self.entry) }
+        ensures { IfOk result (λ x.
+            body_seen text_of bytes_of x ≡ body_seen text_owned bytes_owned self.entry) }
     {
         let owned = Owning::new(alloc).change_body(&self);
         drop(self);

@@ -6,7 +6,7 @@ ghost use Rattle.std.specs.Fn.{FnReturnsAt};
 ghost use Rattle.imap_grammar.specs.Text.{text_of};
 ghost use Rattle.imap_shapes.specs.Spans.{bytes_of};
 ghost use Rattle.imap_shapes.specs.BodyValues.{body_seen};
-ghost use Rattle.imap_shapes.specs.Search.{visited, too_many, part_seen, FindsFirst};
+ghost use Rattle.imap_shapes.specs.Search.{visited, too_many, part_seen, parts_of, FindsFirst};
 ghost use Rattle.imap_shapes.specs.declared.search.PartsError.TheVariants.{TooManyParts, OutOfMemory};
 
 use crate::types::bodies::BodyStructure;
@@ -16,7 +16,7 @@ use thiserror::Error;
 /// Why the bodies inside a body can't be held.
 #[derive(Clone, Copy, Debug, PartialEq, Eq, Error)]
 pub enum PartsError {
-    /// A growth was refused.
+    /// Memory ran out.
     #[error("out of memory")]
     OutOfMemory,
     /// A multipart has more than 4,294,967,295 bodies.
@@ -53,7 +53,10 @@ fn hold<'b, 'a>(
     path: &Vec<u32>,
     parts: &mut Vec<Part<'b, 'a>>,
 ) -> Result<(), AllocError>
-    ensures { OnOk result (map part_seen parts.new.items ≡ map part_seen parts.old.items ++ ((path.now.items, body_seen text_of bytes_of body.now) ∷ [])) }
+    ensures { OnOk result
+        (map part_seen parts.new.items
+        ≡ map part_seen parts.old.items
+        ++ ((path.now.items, body_seen text_of bytes_of body.now) ∷ [])) }
 {
     parts.reserve(1)?;
     let path = path.clone()?;
@@ -67,10 +70,14 @@ fn visit<'b, 'a>(
     path: &mut Vec<u32>,
     parts: &mut Vec<Part<'b, 'a>>,
 ) -> Result<(), PartsError>
-    ensures parts { OnOk result (map part_seen parts.new.items ≡ map part_seen parts.old.items ++ visited path.old.items (body_seen text_of bytes_of body.now)) }
+    ensures parts { OnOk result
+        (map part_seen parts.new.items
+        ≡ map part_seen parts.old.items
+        ++ visited path.old.items (body_seen text_of bytes_of body.now)) }
     ensures path { OnOk result (path.new.items ≡ path.old.items) }
     ensures few { OnOk result (too_many (body_seen text_of bytes_of body.now) ≡ false) }
-    ensures many { IfErr result (λ e. e ≡ TooManyParts → too_many (body_seen text_of bytes_of body.now) ≡ true) }
+    ensures many { IfErr result (λ e.
+        e ≡ TooManyParts → too_many (body_seen text_of bytes_of body.now) ≡ true) }
 {
     hold(body, path, parts)?;
     if let BodyStructure::Multipart { bodies, .. } = body {
@@ -105,9 +112,11 @@ impl<'b, 'a> BodyStructParser<'b, 'a> {
         alloc: Global,
         root: &'b BodyStructure<'a>,
     ) -> Result<BodyStructParser<'b, 'a>, PartsError>
-        ensures holds { IfOk result (λ p. map part_seen p.parts.items ≡ visited [] (body_seen text_of bytes_of root.now)) }
+        ensures holds { IfOk result (λ p.
+            map part_seen (parts_of p) ≡ visited [] (body_seen text_of bytes_of root.now)) }
         ensures few { IfOk result (λ p. too_many (body_seen text_of bytes_of root.now) ≡ false) }
-        ensures many { IfErr result (λ e. e ≡ TooManyParts → too_many (body_seen text_of bytes_of root.now) ≡ true) }
+        ensures many { IfErr result (λ e.
+            e ≡ TooManyParts → too_many (body_seen text_of bytes_of root.now) ≡ true) }
     {
         let mut parts = Vec::new(alloc);
         let mut path = Vec::new(alloc);
@@ -126,19 +135,27 @@ impl<'b, 'a> BodyStructParser<'b, 'a> {
         &self,
         f: F,
     ) -> Result<Option<Vec<u32>>, AllocError>
-        requires { (i : ℕ) (part : _) → slice_get self.now.parts.items i ≡ Some part → F.pre f part.body }
-        ensures { IfOk result (λ found. FindsFirst (λ p. FnReturnsAt F.Fn f p.body.now) (λ p. p.path.items) self.now.parts.items (option_map (λ v. v.items) found)) }
+        requires { (i : ℕ) (part : _) →
+            slice_get (parts_of self.now) i ≡ Some part →
+            F.pre f part.body }
+        ensures { IfOk result (λ found.
+            FindsFirst (λ p. FnReturnsAt F.Fn f p.body.now) (λ p. p.path.items) (parts_of self.now)
+            (option_map (λ v. v.items) found)) }
     {
         let Some(part) = self.first(f) else {
             return Ok(None);
         };
-        Ok(Some(part.path.clone()?))
+        let path = part.path.clone()?;
+        Ok(Some(path))
     }
 
     // The first part at whose body f holds.
     fn first<F: Fn(&BodyStructure<'a>) -> bool>(&self, f: F) -> Option<&Part<'b, 'a>>
-        requires { (i : ℕ) (part : _) → slice_get self.now.parts.items i ≡ Some part → F.pre f part.body }
-        ensures { FindsFirst (λ p. FnReturnsAt F.Fn f p.body.now) (λ p. p.path.items) self.now.parts.items (option_map (λ p. p.now.path.items) result) }
+        requires { (i : ℕ) (part : _) →
+            slice_get (parts_of self.now) i ≡ Some part →
+            F.pre f part.body }
+        ensures { FindsFirst (λ p. FnReturnsAt F.Fn f p.body.now) (λ p. p.path.items)
+            (parts_of self.now) (option_map (λ p. p.now.path.items) result) }
     {
         for part in &self.parts {
             if f(part.body) {

@@ -44,7 +44,9 @@ impl shapes::bodies::BodyStructure<SpannedText, Span> {
     /// The body that its spans name in m. It takes memory for lists and boxes, and for texts that are not UTF-8; `Err`:
     /// memory ran out.
     pub fn value<'a>(&self, alloc: Global, m: &'a [u8]) -> Result<BodyStructure<'a>, AllocError>
-        ensures { IfOk result (λ b. body_seen text_of bytes_of b ≡ body_seen (text_in (named_in m.now)) (bytes_in (named_in m.now)) self.now) }
+        ensures { IfOk result (λ b.
+            body_seen text_of bytes_of b
+            ≡ body_seen (text_in (named_in m.now)) (bytes_in (named_in m.now)) self.now) }
     {
         self.try_map(alloc, &NamedTexts { alloc, m }, &NamedBytes { m })
     }

@@ -1,4 +1,5 @@
--- Structures of bodies, down to a level (RFC 3501, section 9: body, body-type-text, body-type-msg, body-type-basic, body-type-mpart).
+-- Structures of bodies, down to a level (RFC 3501, section 9: body, body-type-text, body-type-msg, body-type-basic,
+-- body-type-mpart).
 use Rattle.std.specs.Prelude.{ℕ, zero, suc, List, codes}
 use Rattle.imap_grammar.specs.Text.{Bytes, Text, as_text}
 use Rattle.imap_grammar.specs.Rule.{Rule, gives, never, some1, ◌⨾◌, ◌▹◌, ◌◃◌, ◌or◌}
@@ -17,19 +18,38 @@ use Rattle.imap_structure.specs.Extensions.{body_ext_1part, body_ext_mpart}
 
 -- of a single part: its type, and what its fields and extension data say of its content
 abbrev pub common_of : Text → Text → FieldsValue → Ext1PartValue → CommonValue
-common_of ty subtype fields ext = record { ty = record { ty = ty; subtype = subtype; params = fields.param }; disposition = ext.disposition; language = ext.language; location = ext.location }
+common_of ty subtype fields ext =
+    record {
+      ty = record { ty = ty; subtype = subtype; params = fields.param };
+      disposition = ext.disposition;
+      language = ext.language;
+      location = ext.location;
+    }
 
 abbrev pub single_of : FieldsValue → Ext1PartValue → SingleValue
-single_of fields ext = record { id = fields.id; md5 = ext.md5; description = fields.description; transfer_encoding = fields.transfer_encoding; octets = fields.octets }
+single_of fields ext =
+    record {
+      id = fields.id;
+      md5 = ext.md5;
+      description = fields.description;
+      transfer_encoding = fields.transfer_encoding;
+      octets = fields.octets;
+    }
 
 abbrev pub text_of_parts : Text × (FieldsValue × (ℕ × Ext1PartValue)) → BodyValue
-text_of_parts (subtype, (fields, (lines, ext))) = TextBody (common_of (as_text (codes "TEXT")) subtype fields ext) (single_of fields ext) lines ext.extension
+text_of_parts (subtype, (fields, (lines, ext))) =
+    TextBody (common_of (as_text (codes "TEXT")) subtype fields ext) (single_of fields ext) lines
+    ext.extension
 
-abbrev pub message_of : FieldsValue × (EnvelopeValue × (BodyValue × (ℕ × Ext1PartValue))) → BodyValue
-message_of (fields, (envelope, (body, (lines, ext)))) = Message (common_of (as_text (codes "MESSAGE")) (as_text (codes "RFC822")) fields ext) (single_of fields ext) envelope body lines ext.extension
+abbrev pub message_of :
+    FieldsValue × (EnvelopeValue × (BodyValue × (ℕ × Ext1PartValue))) → BodyValue
+message_of (fields, (envelope, (body, (lines, ext)))) =
+    Message (common_of (as_text (codes "MESSAGE")) (as_text (codes "RFC822")) fields ext)
+    (single_of fields ext) envelope body lines ext.extension
 
 abbrev pub basic_of : Text × (Text × (FieldsValue × Ext1PartValue)) → BodyValue
-basic_of (ty, (subtype, (fields, ext))) = Basic (common_of ty subtype fields ext) (single_of fields ext) ext.extension
+basic_of (ty, (subtype, (fields, ext))) =
+    Basic (common_of ty subtype fields ext) (single_of fields ext) ext.extension
 
 abbrev pub multipart_of : List BodyValue × (Text × ExtMPartValue) → BodyValue
 multipart_of (bodies, (subtype, ext)) =
@@ -46,9 +66,12 @@ multipart_of (bodies, (subtype, ext)) =
 
 -- In the four types each field of extension data brings its own SP, and may be missing with it.
 
--- body-type-text = media-text SP body-fields SP body-fld-lines [SP body-ext-1part], where media-text = DQUOTE "TEXT" DQUOTE SP media-subtype
+-- body-type-text = media-text SP body-fields SP body-fld-lines [SP body-ext-1part], where media-text = DQUOTE
+--     "TEXT" DQUOTE SP media-subtype
 unfoldable pub body_type_text : Rule BodyValue
-body_type_text = gives text_of_parts (word "\"TEXT\"" ▹ spaced string_utf8 ⨾ spaced body_fields ⨾ spaced number ⨾ body_ext_1part)
+body_type_text =
+    gives text_of_parts
+    (word "\"TEXT\"" ▹ spaced string_utf8 ⨾ spaced body_fields ⨾ spaced number ⨾ body_ext_1part)
 
 unfoldable pub message_word : Rule Bytes
 message_word = word "\"MESSAGE\" \"RFC822\""
@@ -56,11 +79,18 @@ message_word = word "\"MESSAGE\" \"RFC822\""
 -- body-type-msg = media-message SP body-fields SP envelope SP body SP body-fld-lines [SP body-ext-1part],
 -- where media-message = DQUOTE "MESSAGE" DQUOTE SP DQUOTE "RFC822" DQUOTE
 unfoldable pub body_type_msg : Rule BodyValue → Rule BodyValue
-body_type_msg body = gives message_of (message_word ▹ spaced body_fields ⨾ spaced envelope ⨾ spaced body ⨾ spaced number ⨾ body_ext_1part)
+body_type_msg body =
+    gives message_of
+    (message_word ▹ spaced body_fields
+    ⨾ spaced envelope
+    ⨾ spaced body
+    ⨾ spaced number
+    ⨾ body_ext_1part)
 
 -- body-type-basic = media-basic SP body-fields [SP body-ext-1part], where media-basic = string SP media-subtype
 unfoldable pub body_type_basic : Rule BodyValue
-body_type_basic = gives basic_of (string_utf8 ⨾ spaced string_utf8 ⨾ spaced body_fields ⨾ body_ext_1part)
+body_type_basic =
+    gives basic_of (string_utf8 ⨾ spaced string_utf8 ⨾ spaced body_fields ⨾ body_ext_1part)
 
 -- 1*body
 unfoldable pub some_bodies : Rule BodyValue → Rule (List BodyValue)

@@ -12,7 +12,8 @@ use Rattle.imap_structure.specs.FieldTexts.{canonical_params, spells_params}
 
 abbrev pub canonical_disposition : Option DispositionValue → Pieces
 canonical_disposition None = words "NIL"
-canonical_disposition (Some d) = words "(" then literal_text d.ty then space then canonical_params d.params then words ")"
+canonical_disposition (Some d) =
+    words "(" then literal_text d.ty then space then canonical_params d.params then words ")"
 
 -- always a list, also of one language
 abbrev pub canonical_languages : Option (List Text) → Pieces
@@ -31,7 +32,8 @@ abbrev mutual
 
   pub canonical_further : Extensions → Pieces
   canonical_further no_extensions = []
-  canonical_further (one_extension e es) = space then canonical_extension e then canonical_further es
+  canonical_further (one_extension e es) =
+      space then canonical_extension e then canonical_further es
 
 abbrev pub canonical_last : Option ExtensionValue → Pieces
 canonical_last None = []
@@ -40,23 +42,45 @@ canonical_last (Some e) = space then canonical_extension e
 -- all four fields, then the extension if there is one
 abbrev pub canonical_ext_1part : Ext1PartValue → Pieces
 canonical_ext_1part e =
-    space then ntext e.md5 then space then canonical_disposition e.disposition then space then canonical_languages e.language then space then ntext e.location then canonical_last e.extension
+    space
+    then ntext e.md5
+    then space
+    then canonical_disposition e.disposition
+    then space
+    then canonical_languages e.language
+    then space
+    then ntext e.location
+    then canonical_last e.extension
 
 abbrev pub canonical_ext_mpart : ExtMPartValue → Pieces
 canonical_ext_mpart e =
-    space then canonical_params e.param then space then canonical_disposition e.disposition then space then canonical_languages e.language then space then ntext e.location then canonical_last e.extension
+    space
+    then canonical_params e.param
+    then space
+    then canonical_disposition e.disposition
+    then space
+    then canonical_languages e.language
+    then space
+    then ntext e.location
+    then canonical_last e.extension
 
 -- ---- spelling
 
 abbrev pub spells_some_disposition : DispositionValue → Texts
-spells_some_disposition d = exactly "(" and spells_string_text d.ty and behind_space (spells_params d.params) and exactly ")"
+spells_some_disposition d =
+    exactly "("
+    and spells_string_text d.ty
+    and behind_space (spells_params d.params)
+    and exactly ")"
 
 abbrev pub spells_disposition : Option DispositionValue → Texts
 spells_disposition = nil_or spells_some_disposition
 
 -- one language may stand without brackets
 abbrev pub spells_some_languages : List Text → Texts
-spells_some_languages languages c = spells_some_list spells_string_text languages c ⊎ ((t : Text) × (languages ≡ t ∷ []) × spells_string_text t c)
+spells_some_languages languages c =
+    spells_some_list spells_string_text languages c
+    ⊎ ((t : Text) × (languages ≡ t ∷ []) × spells_string_text t c)
 
 abbrev pub spells_languages : Option (List Text) → Texts
 spells_languages = nil_or spells_some_languages
@@ -65,7 +89,8 @@ abbrev mutual
   pub spells_extension : ExtensionValue → Texts
   spells_extension (Num n) = spells_number n
   spells_extension (Str text) = spells_ntext text
-  spells_extension (Listed members) = exactly "(" and spells_members members and blanks and exactly ")"
+  spells_extension (Listed members) =
+      exactly "(" and spells_members members and blanks and exactly ")"
 
   pub spells_members : Extensions → Texts
   spells_members no_extensions = λ c. ⊥
@@ -86,8 +111,16 @@ spells_last (Some e) = behind_space (spells_extension e)
 
 abbrev pub spells_ext_1part : Ext1PartValue → Texts
 spells_ext_1part e =
-    spells_field spells_ntext e.md5 and spells_field spells_disposition e.disposition and spells_field spells_languages e.language and spells_field spells_ntext e.location and spells_last e.extension
+    spells_field spells_ntext e.md5
+    and spells_field spells_disposition e.disposition
+    and spells_field spells_languages e.language
+    and spells_field spells_ntext e.location
+    and spells_last e.extension
 
 abbrev pub spells_ext_mpart : ExtMPartValue → Texts
 spells_ext_mpart e =
-    spells_field spells_params e.param and spells_field spells_disposition e.disposition and spells_field spells_languages e.language and spells_field spells_ntext e.location and spells_last e.extension
+    spells_field spells_params e.param
+    and spells_field spells_disposition e.disposition
+    and spells_field spells_languages e.language
+    and spells_field spells_ntext e.location
+    and spells_last e.extension

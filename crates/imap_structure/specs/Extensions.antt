@@ -1,4 +1,5 @@
--- Extension data of bodies (RFC 3501, section 9: body-ext-1part, body-ext-mpart, body-fld-dsp, body-fld-lang, body-extension).
+-- Extension data of bodies (RFC 3501, section 9: body-ext-1part, body-ext-mpart, body-fld-dsp, body-fld-lang,
+-- body-extension).
 use Rattle.std.specs.Prelude.{ℕ, zero, suc, List, [], ◌∷◌, Option, Some}
 use Rattle.std.specs.Option.{option_map}
 use Rattle.imap_grammar.specs.Text.{Text}
@@ -20,7 +21,8 @@ disposition_of (ty, params) = record { ty = ty; params = params }
 
 -- body-fld-dsp = "(" string SP body-fld-param ")" / nil
 unfoldable pub body_fld_dsp : Rule (Option DispositionValue)
-body_fld_dsp = nil_or (gives disposition_of (tag "(" ▹ string_utf8 ⨾ spaced body_fld_param ◃ tag ")"))
+body_fld_dsp =
+    nil_or (gives disposition_of (tag "(" ▹ string_utf8 ⨾ spaced body_fld_param ◃ tag ")"))
 
 -- string *(SP string)
 unfoldable pub some_languages : Rule (List Text)
@@ -68,7 +70,8 @@ unfoldable pub extension_list : ℕ → Rule ExtensionValue
 extension_list zero = never
 extension_list (suc level) = bracketed_extensions (extension_list level)
 
--- body-extension = nstring / number / "(" body-extension *(SP body-extension) ")", up to so many lists inside one another
+-- body-extension = nstring / number / "(" body-extension *(SP body-extension) ")", up to so many lists inside one
+--     another
 abbrev pub extension : ℕ → Rule ExtensionValue
 extension level = extension_over (extension_list level)
 
@@ -90,16 +93,43 @@ abbrev pub Ext : Type 0 → Type 0
 Ext A = A × (Option DispositionValue × (Option (List Text) × (Option Text × Option ExtensionValue)))
 
 abbrev pub ext_1part_of : Ext (Option Text) → Ext1PartValue
-ext_1part_of (md5, (disposition, (language, (location, extension)))) = record { md5 = md5; disposition = disposition; language = language; location = location; extension = extension }
+ext_1part_of (md5, (disposition, (language, (location, extension)))) =
+    record {
+      md5 = md5;
+      disposition = disposition;
+      language = language;
+      location = location;
+      extension = extension;
+    }
 
 -- body-ext-1part = body-fld-md5 [SP body-fld-dsp [SP body-fld-lang [SP body-fld-loc *(SP body-extension)]]],
 -- each after its space, any of them missing, and one body-extension at most
 unfoldable pub body_ext_1part : Rule Ext1PartValue
-body_ext_1part = gives ext_1part_of (maybe_spaced nstring_utf8 ⨾ maybe_spaced body_fld_dsp ⨾ maybe_spaced body_fld_lang ⨾ maybe_spaced nstring_utf8 ⨾ last_extension)
+body_ext_1part =
+    gives ext_1part_of
+    (maybe_spaced nstring_utf8
+    ⨾ maybe_spaced body_fld_dsp
+    ⨾ maybe_spaced body_fld_lang
+    ⨾ maybe_spaced nstring_utf8
+    ⨾ last_extension)
 
 abbrev pub ext_mpart_of : Ext ParamsValue → ExtMPartValue
-ext_mpart_of (param, (disposition, (language, (location, extension)))) = record { param = param; disposition = disposition; language = language; location = location; extension = extension }
+ext_mpart_of (param, (disposition, (language, (location, extension)))) =
+    record {
+      param = param;
+      disposition = disposition;
+      language = language;
+      location = location;
+      extension = extension;
+    }
 
--- body-ext-mpart = body-fld-param [SP body-fld-dsp [SP body-fld-lang [SP body-fld-loc *(SP body-extension)]]], in the same way
+-- body-ext-mpart = body-fld-param [SP body-fld-dsp [SP body-fld-lang [SP body-fld-loc *(SP body-extension)]]], in
+--     the same way
 unfoldable pub body_ext_mpart : Rule ExtMPartValue
-body_ext_mpart = gives ext_mpart_of (maybe_spaced body_fld_param ⨾ maybe_spaced body_fld_dsp ⨾ maybe_spaced body_fld_lang ⨾ maybe_spaced nstring_utf8 ⨾ last_extension)
+body_ext_mpart =
+    gives ext_mpart_of
+    (maybe_spaced body_fld_param
+    ⨾ maybe_spaced body_fld_dsp
+    ⨾ maybe_spaced body_fld_lang
+    ⨾ maybe_spaced nstring_utf8
+    ⨾ last_extension)

@@ -32,7 +32,15 @@ canonical_encoding (Other name) = literal_text name
 
 abbrev pub canonical_fields : FieldsValue → Pieces
 canonical_fields f =
-    canonical_params f.param then space then ntext f.id then space then ntext f.description then space then canonical_encoding f.transfer_encoding then space then number_text f.octets
+    canonical_params f.param
+    then space
+    then ntext f.id
+    then space
+    then ntext f.description
+    then space
+    then canonical_encoding f.transfer_encoding
+    then space
+    then number_text f.octets
 
 -- ---- spelling
 
@@ -56,5 +64,8 @@ spells_encoding (Other name) c = spells_string_text name c
 
 abbrev pub spells_fields : FieldsValue → Texts
 spells_fields f =
-    spells_params f.param and behind_space (spells_ntext f.id) and behind_space (spells_ntext f.description) and behind_space (spells_encoding f.transfer_encoding)
+    spells_params f.param
+    and behind_space (spells_ntext f.id)
+    and behind_space (spells_ntext f.description)
+    and behind_space (spells_encoding f.transfer_encoding)
     and behind_space (spells_number f.octets)

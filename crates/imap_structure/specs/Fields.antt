@@ -24,13 +24,19 @@ body_fld_param = nil_or (tag "(" ▹ some_params ◃ blanks0 ⨾ tag ")")
 
 -- "7BIT" / "8BIT" / "BINARY" / "BASE64" / "QUOTED-PRINTABLE"
 unfoldable pub encoding_name : Rule EncodingValue
-encoding_name = names "7BIT" SevenBit or names "8BIT" EightBit or names "BINARY" Binary or names "BASE64" Base64 or names "QUOTED-PRINTABLE" QuotedPrintable
+encoding_name =
+    names "7BIT" SevenBit
+    or names "8BIT" EightBit
+    or names "BINARY" Binary
+    or names "BASE64" Base64
+    or names "QUOTED-PRINTABLE" QuotedPrintable
 
 -- DQUOTE ("7BIT" / "8BIT" / "BINARY" / "BASE64" / "QUOTED-PRINTABLE") DQUOTE
 unfoldable pub quoted_encoding : Rule EncodingValue
 quoted_encoding = tag "\"" ▹ encoding_name ◃ tag "\""
 
--- body-fld-enc = (DQUOTE ("7BIT" / "8BIT" / "BINARY" / "BASE64" / "QUOTED-PRINTABLE") DQUOTE) / string; nil stands for 7BIT
+-- body-fld-enc = (DQUOTE ("7BIT" / "8BIT" / "BINARY" / "BASE64" / "QUOTED-PRINTABLE") DQUOTE) / string; nil stands
+--     for 7BIT
 unfoldable pub body_fld_enc : Rule EncodingValue
 body_fld_enc = nil ▹ nothing SevenBit or quoted_encoding or gives Other string_utf8
 
@@ -57,9 +63,23 @@ other_encoding = gives Other string_utf8
 unfoldable pub encoding_in_quotes : Rule EncodingValue
 encoding_in_quotes = quoted_encoding or other_encoding
 
-abbrev pub fields_of : ParamsValue × (Option Text × (Option Text × (EncodingValue × ℕ))) → FieldsValue
-fields_of (param, (id, (description, (transfer_encoding, octets)))) = record { param = param; id = id; description = description; transfer_encoding = transfer_encoding; octets = octets }
+abbrev pub fields_of :
+    ParamsValue × (Option Text × (Option Text × (EncodingValue × ℕ))) → FieldsValue
+fields_of (param, (id, (description, (transfer_encoding, octets)))) =
+    record {
+      param = param;
+      id = id;
+      description = description;
+      transfer_encoding = transfer_encoding;
+      octets = octets;
+    }
 
 -- body-fields = body-fld-param SP body-fld-id SP body-fld-desc SP body-fld-enc SP body-fld-octets
 unfoldable pub body_fields : Rule FieldsValue
-body_fields = gives fields_of (body_fld_param ⨾ spaced nstring_utf8 ⨾ spaced nstring_utf8 ⨾ spaced body_fld_enc ⨾ spaced number)
+body_fields =
+    gives fields_of
+    (body_fld_param
+    ⨾ spaced nstring_utf8
+    ⨾ spaced nstring_utf8
+    ⨾ spaced body_fld_enc
+    ⨾ spaced number)

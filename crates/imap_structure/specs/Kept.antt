@@ -8,14 +8,17 @@ use Rattle.imap_grammar.specs.Step.{Step}
 use Rattle.imap_shapes.specs.Spans.{Lookup, Rests}
 
 -- The new list is the old one and one element more, whose value in m is what the step yields. Its spans lie before q.
-pub record OneMore {A V : Type 0} (view : Lookup → A → V) (m : Bytes) (old new : List A) (q : ℕ) (s : Step V) : Type 0 where
+pub record OneMore {A V : Type 0}
+    (view : Lookup → A → V) (m : Bytes) (old new : List A) (q : ℕ) (s : Step V) :
+    Type 0 where
   pub one : A
   pub behind : new ≡ old ++ one ∷ []
   pub read : s ≡ Ok (drop q m, view (named_in m) one)
   pub rests : Rests view q one
 
 -- What the step yields was put behind the old ones, unless memory ran out.
-abbrev pub PutsAt : {A V : Type 0} → (Lookup → A → V) → Bytes → List A → List A → Result ℕ Fault → Step V → Type 0
+abbrev pub PutsAt :
+    {A V : Type 0} → (Lookup → A → V) → Bytes → List A → List A → Result ℕ Fault → Step V → Type 0
 PutsAt view m old new (Ok q) s = OneMore view m old new q s
 PutsAt view m old new (Err e) s = Stops e s
 

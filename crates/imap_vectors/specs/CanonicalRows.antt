@@ -62,7 +62,13 @@ abbrev pub unknown : ResponseValue
 unknown = Fetch 1 (Unknown ∷ Uid 4 ∷ [])
 
 abbrev gray : AddressValue
-gray = record { name = Some (lent "T"); adl = None; mailbox = Some (lent "gray"); host = Some (lent "cac") }
+gray =
+    record {
+      name = Some (lent "T");
+      adl = None;
+      mailbox = Some (lent "gray");
+      host = Some (lent "cac");
+    }
 
 abbrev sent : EnvelopeValue
 sent = record {
@@ -82,14 +88,30 @@ abbrev pub an_envelope : ResponseValue
 an_envelope = Fetch 12 (Envelope sent ∷ [])
 
 abbrev text_of_type : String → Option DispositionValue → CommonValue
-text_of_type subtype disposition = record { ty = record { ty = lent "TEXT"; subtype = lent subtype; params = None }; disposition = disposition; language = None; location = None }
+text_of_type subtype disposition =
+    record {
+      ty = record { ty = lent "TEXT"; subtype = lent subtype; params = None };
+      disposition = disposition;
+      language = None;
+      location = None;
+    }
 
 abbrev five_octets : EncodingValue → SingleValue
-five_octets encoding = record { id = None; md5 = None; description = None; transfer_encoding = encoding; octets = 5 }
+five_octets encoding =
+    record {
+      id = None;
+      md5 = None;
+      description = None;
+      transfer_encoding = encoding;
+      octets = 5;
+    }
 
 abbrev pub a_text : ResponseValue
 a_text = Fetch 1 (BodyStructure (TextBody (text_of_type "plain" (Some (record { ty = lent "inline"; params = None }))) (five_octets SevenBit) 1 None) ∷ [])
 
 -- a basic body, though its type says otherwise
 abbrev pub a_basic : ResponseValue
-a_basic = Fetch 1 (BodyStructure (Basic (text_of_type "PLAIN" None) (five_octets (Other (lent "7BIT"))) None) ∷ [])
+a_basic =
+    Fetch 1
+    (BodyStructure (Basic (text_of_type "PLAIN" None) (five_octets (Other (lent "7BIT"))) None) ∷
+    [])

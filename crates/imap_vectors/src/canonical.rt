@@ -88,14 +88,20 @@ pub fn texts_by_definition()
     ensures no_field { canonical_bytes value.no_field ≡ codes "* ID ({0}\r\n NIL)\r\n" }
     ensures a_field { canonical_bytes value.a_field ≡ codes "* ID ({1}\r\na {1}\r\n2)\r\n" }
     ensures no_list { canonical_bytes value.no_list ≡ codes "* ID NIL\r\n" }
-    ensures a_name { canonical_bytes value.a_name ≡ codes "* LIST (\\HasNoChildren) \"/\" {5}\r\nINBOX\r\n" }
-    ensures a_quota_of_any_name { canonical_bytes value.a_quota_of_any_name ≡ codes "* QUOTA {0}\r\n ({7}\r\nSTORAGE 1 2)\r\n" }
+    ensures a_name { canonical_bytes value.a_name
+        ≡ codes "* LIST (\\HasNoChildren) \"/\" {5}\r\nINBOX\r\n" }
+    ensures a_quota_of_any_name { canonical_bytes value.a_quota_of_any_name
+        ≡ codes "* QUOTA {0}\r\n ({7}\r\nSTORAGE 1 2)\r\n" }
     ensures a_quota { canonical_bytes value.a_quota ≡ codes "* QUOTA {0}\r\n (STORAGE 1 2)\r\n" }
-    ensures a_label { canonical_bytes value.a_label ≡ codes "* 1 FETCH (X-GM-LABELS (\"\\\\\"))\r\n" }
+    ensures a_label { canonical_bytes value.a_label
+        ≡ codes "* 1 FETCH (X-GM-LABELS (\"\\\\\"))\r\n" }
     ensures enabled { canonical_bytes value.enabled ≡ codes "* ENABLED IMAP4rev1x\r\n" }
-    ensures a_basic { canonical_bytes value.a_basic ≡ codes "* 1 FETCH (BODYSTRUCTURE ({4}\r\nTEXT {5}\r\nPLAIN NIL NIL NIL {4}\r\n7BIT 5 NIL NIL NIL NIL))\r\n" }
-    ensures an_envelope { canonical_bytes value.an_envelope ≡ codes "* 12 FETCH (ENVELOPE ({1}\r\nd {1}\r\ns (({1}\r\nT NIL {4}\r\ngray {3}\r\ncac)) NIL NIL NIL NIL NIL NIL {3}\r\n<i>))\r\n" }
-    ensures a_text { canonical_bytes value.a_text ≡ codes "* 1 FETCH (BODYSTRUCTURE (\"TEXT\" {5}\r\nplain NIL NIL NIL \"7BIT\" 5 1 NIL ({6}\r\ninline NIL) NIL NIL))\r\n" }
+    ensures a_basic { canonical_bytes value.a_basic
+        ≡ codes "* 1 FETCH (BODYSTRUCTURE ({4}\r\nTEXT {5}\r\nPLAIN NIL NIL NIL {4}\r\n7BIT 5 NIL NIL NIL NIL))\r\n" }
+    ensures an_envelope { canonical_bytes value.an_envelope
+        ≡ codes "* 12 FETCH (ENVELOPE ({1}\r\nd {1}\r\ns (({1}\r\nT NIL {4}\r\ngray {3}\r\ncac)) NIL NIL NIL NIL NIL NIL {3}\r\n<i>))\r\n" }
+    ensures a_text { canonical_bytes value.a_text
+        ≡ codes "* 1 FETCH (BODYSTRUCTURE (\"TEXT\" {5}\r\nplain NIL NIL NIL \"7BIT\" 5 1 NIL ({6}\r\ninline NIL) NIL NIL))\r\n" }
     ensures gone { canonical_bytes value.gone ≡ codes "* VANISHED 4:2\r\n" }
     ensures a_bracket { bracket value.a_bracket ≡ true }
     ensures unknown { canonical_bytes value.unknown ≡ codes "* 1 FETCH (X NIL UID 4)\r\n" }

@@ -56,7 +56,8 @@ fn maybe_origin(m: &[u8], p: usize) -> Reached<Option<u32>>
 fn section_contents<K: KeepAttribute>(keep: &K, alloc: Global, m: &[u8], p: usize) -> Attribute<K>
     requires start { p ≤ length m.now }
     requires serves { K.serves keep.now m.now }
-    ensures steps { GivesAt (λ x. parts_said K.text_said K.bytes_said (named_in m.now) x) m.now result (step rules.section_contents (drop p m.now)) }
+    ensures steps { GivesAt (λ x. parts_said K.text_said K.bytes_said (named_in m.now) x) m.now
+        result (step rules.section_contents (drop p m.now)) }
     ensures ahead { Ahead m.now p result }
     ensures rests { RestsOn (λ n x. parts_said K.text_said K.bytes_said n x) result }
 {
@@ -85,7 +86,8 @@ pub(crate) fn msg_att_body_section<K: KeepAttribute>(
 ) -> Attribute<K>
     requires start { p ≤ length m.now }
     requires serves { K.serves keep.now m.now }
-    ensures steps { GivesAt (λ x. parts_said K.text_said K.bytes_said (named_in m.now) x) m.now result (step rules.msg_att_body_section (drop p m.now)) }
+    ensures steps { GivesAt (λ x. parts_said K.text_said K.bytes_said (named_in m.now) x) m.now
+        result (step rules.msg_att_body_section (drop p m.now)) }
     ensures ahead { Ahead m.now p result }
     ensures rests { RestsOn (λ n x. parts_said K.text_said K.bytes_said n x) result }
 {
@@ -97,7 +99,8 @@ pub(crate) fn msg_att_body_section<K: KeepAttribute>(
 fn structure<K: KeepAttribute>(keep: &K, alloc: Global, m: &[u8], p: usize) -> Attribute<K>
     requires start { p ≤ length m.now }
     requires serves { K.serves keep.now m.now }
-    ensures steps { GivesAt (λ x. parts_said K.text_said K.bytes_said (named_in m.now) x) m.now result (step rules.structure (drop p m.now)) }
+    ensures steps { GivesAt (λ x. parts_said K.text_said K.bytes_said (named_in m.now) x) m.now
+        result (step rules.structure (drop p m.now)) }
     ensures ahead { Ahead m.now p result }
     ensures rests { RestsOn (λ n x. parts_said K.text_said K.bytes_said n x) result }
 {
@@ -111,7 +114,8 @@ fn structure<K: KeepAttribute>(keep: &K, alloc: Global, m: &[u8], p: usize) -> A
 fn body_attribute<K: KeepAttribute>(keep: &K, alloc: Global, m: &[u8], p: usize) -> Attribute<K>
     requires start { p ≤ length m.now }
     requires serves { K.serves keep.now m.now }
-    ensures steps { GivesAt (λ x. parts_said K.text_said K.bytes_said (named_in m.now) x) m.now result (step rules.body_attribute (drop p m.now)) }
+    ensures steps { GivesAt (λ x. parts_said K.text_said K.bytes_said (named_in m.now) x) m.now
+        result (step rules.body_attribute (drop p m.now)) }
     ensures ahead { Ahead m.now p result }
     ensures rests { RestsOn (λ n x. parts_said K.text_said K.bytes_said n x) result }
 {
@@ -124,7 +128,8 @@ fn body_attribute<K: KeepAttribute>(keep: &K, alloc: Global, m: &[u8], p: usize)
 fn whole_message<K: KeepAttribute>(keep: &K, m: &[u8], p: usize) -> Attribute<K>
     requires start { p ≤ length m.now }
     requires serves { K.serves keep.now m.now }
-    ensures steps { ExactlyAt (λ x. parts_said K.text_said K.bytes_said (named_in m.now) x) m.now result (step rules.whole_message (drop p m.now)) }
+    ensures steps { ExactlyAt (λ x. parts_said K.text_said K.bytes_said (named_in m.now) x) m.now
+        result (step rules.whole_message (drop p m.now)) }
     ensures ahead { Ahead m.now p result }
     ensures rests { RestsOn (λ n x. parts_said K.text_said K.bytes_said n x) result }
 {
@@ -137,7 +142,8 @@ fn whole_message<K: KeepAttribute>(keep: &K, m: &[u8], p: usize) -> Attribute<K>
 fn message_header<K: KeepAttribute>(keep: &K, m: &[u8], p: usize) -> Attribute<K>
     requires start { p ≤ length m.now }
     requires serves { K.serves keep.now m.now }
-    ensures steps { ExactlyAt (λ x. parts_said K.text_said K.bytes_said (named_in m.now) x) m.now result (step rules.message_header (drop p m.now)) }
+    ensures steps { ExactlyAt (λ x. parts_said K.text_said K.bytes_said (named_in m.now) x) m.now
+        result (step rules.message_header (drop p m.now)) }
     ensures ahead { Ahead m.now p result }
     ensures rests { RestsOn (λ n x. parts_said K.text_said K.bytes_said n x) result }
 {
@@ -150,7 +156,8 @@ fn message_header<K: KeepAttribute>(keep: &K, m: &[u8], p: usize) -> Attribute<K
 #[tactic(auto, unfolding(crate::specs::Attributes::message_size))]
 fn message_size<K: KeepAttribute>(m: &[u8], p: usize) -> Attribute<K>
     requires { p ≤ length m.now }
-    ensures steps { ExactlyAt (λ x. parts_said K.text_said K.bytes_said (named_in m.now) x) m.now result (step rules.message_size (drop p m.now)) }
+    ensures steps { ExactlyAt (λ x. parts_said K.text_said K.bytes_said (named_in m.now) x) m.now
+        result (step rules.message_size (drop p m.now)) }
     ensures ahead { Ahead m.now p result }
     ensures rests { RestsOn (λ n x. parts_said K.text_said K.bytes_said n x) result }
 {
@@ -163,7 +170,8 @@ fn message_size<K: KeepAttribute>(m: &[u8], p: usize) -> Attribute<K>
 fn message_text<K: KeepAttribute>(keep: &K, m: &[u8], p: usize) -> Attribute<K>
     requires start { p ≤ length m.now }
     requires serves { K.serves keep.now m.now }
-    ensures steps { ExactlyAt (λ x. parts_said K.text_said K.bytes_said (named_in m.now) x) m.now result (step rules.message_text (drop p m.now)) }
+    ensures steps { ExactlyAt (λ x. parts_said K.text_said K.bytes_said (named_in m.now) x) m.now
+        result (step rules.message_text (drop p m.now)) }
     ensures ahead { Ahead m.now p result }
     ensures rests { RestsOn (λ n x. parts_said K.text_said K.bytes_said n x) result }
 {
@@ -176,7 +184,8 @@ fn message_text<K: KeepAttribute>(keep: &K, m: &[u8], p: usize) -> Attribute<K>
 fn message_part<K: KeepAttribute>(keep: &K, m: &[u8], p: usize) -> Attribute<K>
     requires start { p ≤ length m.now }
     requires serves { K.serves keep.now m.now }
-    ensures steps { ExactlyAt (λ x. parts_said K.text_said K.bytes_said (named_in m.now) x) m.now result (step rules.message_part (drop p m.now)) }
+    ensures steps { ExactlyAt (λ x. parts_said K.text_said K.bytes_said (named_in m.now) x) m.now
+        result (step rules.message_part (drop p m.now)) }
     ensures ahead { Ahead m.now p result }
     ensures rests { RestsOn (λ n x. parts_said K.text_said K.bytes_said n x) result }
 {
@@ -191,7 +200,8 @@ fn message_part<K: KeepAttribute>(keep: &K, m: &[u8], p: usize) -> Attribute<K>
 fn message_attribute<K: KeepAttribute>(keep: &K, m: &[u8], p: usize) -> Attribute<K>
     requires start { p ≤ length m.now }
     requires serves { K.serves keep.now m.now }
-    ensures steps { ExactlyAt (λ x. parts_said K.text_said K.bytes_said (named_in m.now) x) m.now result (step rules.message_attribute (drop p m.now)) }
+    ensures steps { ExactlyAt (λ x. parts_said K.text_said K.bytes_said (named_in m.now) x) m.now
+        result (step rules.message_attribute (drop p m.now)) }
     ensures ahead { Ahead m.now p result }
     ensures rests { RestsOn (λ n x. parts_said K.text_said K.bytes_said n x) result }
 {
@@ -205,7 +215,8 @@ fn message_attribute<K: KeepAttribute>(keep: &K, m: &[u8], p: usize) -> Attribut
 fn msg_att_envelope<K: KeepAttribute>(keep: &K, alloc: Global, m: &[u8], p: usize) -> Attribute<K>
     requires start { p ≤ length m.now }
     requires serves { K.serves keep.now m.now }
-    ensures steps { GivesAt (λ x. parts_said K.text_said K.bytes_said (named_in m.now) x) m.now result (step rules.msg_att_envelope (drop p m.now)) }
+    ensures steps { GivesAt (λ x. parts_said K.text_said K.bytes_said (named_in m.now) x) m.now
+        result (step rules.msg_att_envelope (drop p m.now)) }
     ensures ahead { Ahead m.now p result }
     ensures rests { RestsOn (λ n x. parts_said K.text_said K.bytes_said n x) result }
 {
@@ -217,7 +228,8 @@ fn msg_att_envelope<K: KeepAttribute>(keep: &K, alloc: Global, m: &[u8], p: usiz
 #[tactic(auto, unfolding(crate::specs::Attributes::date))]
 fn date(m: &[u8], p: usize) -> Reached<SpannedText>
     requires { p ≤ length m.now }
-    ensures steps { ExactlyAt (λ x. text_in (named_in m.now) x) m.now result (step rules.date (drop p m.now)) }
+    ensures steps { ExactlyAt (λ x. text_in (named_in m.now) x) m.now result
+        (step rules.date (drop p m.now)) }
     ensures ahead { Ahead m.now p result }
     ensures rests { RestsOn text_in result }
 {
@@ -228,7 +240,8 @@ fn date(m: &[u8], p: usize) -> Reached<SpannedText>
 fn msg_att_internal_date<K: KeepAttribute>(keep: &K, m: &[u8], p: usize) -> Attribute<K>
     requires start { p ≤ length m.now }
     requires serves { K.serves keep.now m.now }
-    ensures steps { GivesAt (λ x. parts_said K.text_said K.bytes_said (named_in m.now) x) m.now result (step rules.msg_att_internal_date (drop p m.now)) }
+    ensures steps { GivesAt (λ x. parts_said K.text_said K.bytes_said (named_in m.now) x) m.now
+        result (step rules.msg_att_internal_date (drop p m.now)) }
     ensures ahead { Ahead m.now p result }
     ensures rests { RestsOn (λ n x. parts_said K.text_said K.bytes_said n x) result }
 {
@@ -242,7 +255,8 @@ fn msg_att_internal_date<K: KeepAttribute>(keep: &K, m: &[u8], p: usize) -> Attr
 fn msg_att_flags<K: KeepAttribute>(keep: &K, alloc: Global, m: &[u8], p: usize) -> Attribute<K>
     requires start { p ≤ length m.now }
     requires serves { K.serves keep.now m.now }
-    ensures steps { GivesAt (λ x. parts_said K.text_said K.bytes_said (named_in m.now) x) m.now result (step rules.msg_att_flags (drop p m.now)) }
+    ensures steps { GivesAt (λ x. parts_said K.text_said K.bytes_said (named_in m.now) x) m.now
+        result (step rules.msg_att_flags (drop p m.now)) }
     ensures ahead { Ahead m.now p result }
     ensures rests { RestsOn (λ n x. parts_said K.text_said K.bytes_said n x) result }
 {
@@ -254,7 +268,8 @@ fn msg_att_flags<K: KeepAttribute>(keep: &K, alloc: Global, m: &[u8], p: usize) 
 #[tactic(auto, unfolding(crate::specs::Attributes::msg_att_uid))]
 fn msg_att_uid<K: KeepAttribute>(m: &[u8], p: usize) -> Attribute<K>
     requires { p ≤ length m.now }
-    ensures steps { ExactlyAt (λ x. parts_said K.text_said K.bytes_said (named_in m.now) x) m.now result (step rules.msg_att_uid (drop p m.now)) }
+    ensures steps { ExactlyAt (λ x. parts_said K.text_said K.bytes_said (named_in m.now) x) m.now
+        result (step rules.msg_att_uid (drop p m.now)) }
     ensures ahead { Ahead m.now p result }
     ensures rests { RestsOn (λ n x. parts_said K.text_said K.bytes_said n x) result }
 {
@@ -266,7 +281,8 @@ fn msg_att_uid<K: KeepAttribute>(m: &[u8], p: usize) -> Attribute<K>
 #[tactic(auto, unfolding(crate::specs::Attributes::msg_att_mod_seq))]
 fn msg_att_mod_seq<K: KeepAttribute>(m: &[u8], p: usize) -> Attribute<K>
     requires { p ≤ length m.now }
-    ensures steps { ExactlyAt (λ x. parts_said K.text_said K.bytes_said (named_in m.now) x) m.now result (step rules.msg_att_mod_seq (drop p m.now)) }
+    ensures steps { ExactlyAt (λ x. parts_said K.text_said K.bytes_said (named_in m.now) x) m.now
+        result (step rules.msg_att_mod_seq (drop p m.now)) }
     ensures ahead { Ahead m.now p result }
     ensures rests { RestsOn (λ n x. parts_said K.text_said K.bytes_said n x) result }
 {
@@ -286,7 +302,8 @@ fn msg_att_gmail_labels<K: KeepAttribute>(
 ) -> Attribute<K>
     requires start { p ≤ length m.now }
     requires serves { K.serves keep.now m.now }
-    ensures steps { GivesAt (λ x. parts_said K.text_said K.bytes_said (named_in m.now) x) m.now result (step rules.msg_att_gmail_labels (drop p m.now)) }
+    ensures steps { GivesAt (λ x. parts_said K.text_said K.bytes_said (named_in m.now) x) m.now
+        result (step rules.msg_att_gmail_labels (drop p m.now)) }
     ensures ahead { Ahead m.now p result }
     ensures rests { RestsOn (λ n x. parts_said K.text_said K.bytes_said n x) result }
 {
@@ -297,7 +314,8 @@ fn msg_att_gmail_labels<K: KeepAttribute>(
 #[tactic(auto, unfolding(crate::specs::Attributes::msg_att_gmail_msgid))]
 fn msg_att_gmail_msgid<K: KeepAttribute>(m: &[u8], p: usize) -> Attribute<K>
     requires { p ≤ length m.now }
-    ensures steps { ExactlyAt (λ x. parts_said K.text_said K.bytes_said (named_in m.now) x) m.now result (step rules.msg_att_gmail_msgid (drop p m.now)) }
+    ensures steps { ExactlyAt (λ x. parts_said K.text_said K.bytes_said (named_in m.now) x) m.now
+        result (step rules.msg_att_gmail_msgid (drop p m.now)) }
     ensures ahead { Ahead m.now p result }
     ensures rests { RestsOn (λ n x. parts_said K.text_said K.bytes_said n x) result }
 {
@@ -308,7 +326,8 @@ fn msg_att_gmail_msgid<K: KeepAttribute>(m: &[u8], p: usize) -> Attribute<K>
 #[tactic(auto, unfolding(crate::specs::Attributes::msg_att_gmail_thrid))]
 fn msg_att_gmail_thrid<K: KeepAttribute>(m: &[u8], p: usize) -> Attribute<K>
     requires { p ≤ length m.now }
-    ensures steps { ExactlyAt (λ x. parts_said K.text_said K.bytes_said (named_in m.now) x) m.now result (step rules.msg_att_gmail_thrid (drop p m.now)) }
+    ensures steps { ExactlyAt (λ x. parts_said K.text_said K.bytes_said (named_in m.now) x) m.now
+        result (step rules.msg_att_gmail_thrid (drop p m.now)) }
     ensures ahead { Ahead m.now p result }
     ensures rests { RestsOn (λ n x. parts_said K.text_said K.bytes_said n x) result }
 {
@@ -319,7 +338,8 @@ fn msg_att_gmail_thrid<K: KeepAttribute>(m: &[u8], p: usize) -> Attribute<K>
 #[tactic(auto, using(imap_grammar::proofs::Positions::kept_self), unfolding(crate::specs::Attributes::id_bytes))]
 fn id_bytes(m: &[u8], p: usize) -> Reached<Span>
     requires { p ≤ length m.now }
-    ensures steps { ExactlyAt (λ x. named_in m.now x) m.now result (step rules.id_bytes (drop p m.now)) }
+    ensures steps { ExactlyAt (λ x. named_in m.now x) m.now result
+        (step rules.id_bytes (drop p m.now)) }
     ensures inside { Inside m.now p result }
 {
     let (q, id) = astring_chars(m, p)?;
@@ -330,7 +350,8 @@ fn id_bytes(m: &[u8], p: usize) -> Reached<Span>
 #[tactic(auto, using(crate::proofs::Resting::id_decoded, imap_shapes::proofs::Places::part_rests), unfolding(crate::specs::Attributes::object_id))]
 fn object_id(m: &[u8], p: usize) -> Reached<SpannedText>
     requires { p ≤ length m.now }
-    ensures steps { ExactlyAt (λ x. text_in (named_in m.now) x) m.now result (step rules.object_id (drop p m.now)) }
+    ensures steps { ExactlyAt (λ x. text_in (named_in m.now) x) m.now result
+        (step rules.object_id (drop p m.now)) }
     ensures ahead { Ahead m.now p result }
     ensures rests { RestsOn text_in result }
 {
@@ -341,7 +362,8 @@ fn object_id(m: &[u8], p: usize) -> Reached<SpannedText>
 #[tactic(auto, unfolding(crate::specs::Attributes::bracketed_id))]
 fn bracketed_id(m: &[u8], p: usize) -> Reached<SpannedText>
     requires { p ≤ length m.now }
-    ensures steps { ExactlyAt (λ x. text_in (named_in m.now) x) m.now result (step rules.bracketed_id (drop p m.now)) }
+    ensures steps { ExactlyAt (λ x. text_in (named_in m.now) x) m.now result
+        (step rules.bracketed_id (drop p m.now)) }
     ensures ahead { Ahead m.now p result }
     ensures rests { RestsOn text_in result }
 {
@@ -355,7 +377,8 @@ fn bracketed_id(m: &[u8], p: usize) -> Reached<SpannedText>
 fn msg_att_email_id<K: KeepAttribute>(keep: &K, m: &[u8], p: usize) -> Attribute<K>
     requires start { p ≤ length m.now }
     requires serves { K.serves keep.now m.now }
-    ensures steps { GivesAt (λ x. parts_said K.text_said K.bytes_said (named_in m.now) x) m.now result (step rules.msg_att_email_id (drop p m.now)) }
+    ensures steps { GivesAt (λ x. parts_said K.text_said K.bytes_said (named_in m.now) x) m.now
+        result (step rules.msg_att_email_id (drop p m.now)) }
     ensures ahead { Ahead m.now p result }
     ensures rests { RestsOn (λ n x. parts_said K.text_said K.bytes_said n x) result }
 {
@@ -369,7 +392,8 @@ fn msg_att_email_id<K: KeepAttribute>(keep: &K, m: &[u8], p: usize) -> Attribute
 fn msg_att_thread_id<K: KeepAttribute>(keep: &K, m: &[u8], p: usize) -> Attribute<K>
     requires start { p ≤ length m.now }
     requires serves { K.serves keep.now m.now }
-    ensures steps { GivesAt (λ x. parts_said K.text_said K.bytes_said (named_in m.now) x) m.now result (step rules.msg_att_thread_id (drop p m.now)) }
+    ensures steps { GivesAt (λ x. parts_said K.text_said K.bytes_said (named_in m.now) x) m.now
+        result (step rules.msg_att_thread_id (drop p m.now)) }
     ensures ahead { Ahead m.now p result }
     ensures rests { RestsOn (λ n x. parts_said K.text_said K.bytes_said n x) result }
 {
@@ -393,7 +417,8 @@ impl Class for InsideChar {
 
 fn inside(m: &[u8], p: usize) -> Reached<Span>
     requires { p ≤ length m.now }
-    ensures steps { ExactlyAt (λ x. named_in m.now x) m.now result (step (run0 rules.is_inside) (drop p m.now)) }
+    ensures steps { ExactlyAt (λ x. named_in m.now x) m.now result
+        (step (run0 rules.is_inside) (drop p m.now)) }
     ensures inside { Inside m.now p result }
 {
     let (_, i) = m.split_at(p);
@@ -413,7 +438,8 @@ impl Class for BareChar {
 
 fn bare(m: &[u8], p: usize) -> Reached<Span>
     requires { p ≤ length m.now }
-    ensures steps { ExactlyAt (λ x. named_in m.now x) m.now result (step (run1 rules.is_bare) (drop p m.now)) }
+    ensures steps { ExactlyAt (λ x. named_in m.now x) m.now result
+        (step (run1 rules.is_bare) (drop p m.now)) }
     ensures inside { Inside m.now p result }
 {
     let (_, i) = m.split_at(p);
@@ -461,7 +487,8 @@ fn skipped_value(m: &[u8], p: usize) -> Reached<()>
 #[inline(never)]
 fn msg_att_unknown<K: KeepAttribute>(m: &[u8], p: usize) -> Attribute<K>
     requires { p ≤ length m.now }
-    ensures steps { ExactlyAt (λ x. parts_said K.text_said K.bytes_said (named_in m.now) x) m.now result (step rules.msg_att_unknown (drop p m.now)) }
+    ensures steps { ExactlyAt (λ x. parts_said K.text_said K.bytes_said (named_in m.now) x) m.now
+        result (step rules.msg_att_unknown (drop p m.now)) }
     ensures ahead { Ahead m.now p result }
     ensures rests { RestsOn (λ n x. parts_said K.text_said K.bytes_said n x) result }
 {
@@ -479,7 +506,8 @@ fn msg_att_unknown<K: KeepAttribute>(m: &[u8], p: usize) -> Attribute<K>
 fn attribute_of_b<K: KeepAttribute>(keep: &K, alloc: Global, m: &[u8], p: usize) -> Attribute<K>
     requires start { p ≤ length m.now }
     requires serves { K.serves keep.now m.now }
-    ensures steps { GivesAt (λ x. parts_said K.text_said K.bytes_said (named_in m.now) x) m.now result (step rules.attribute_of_b (drop p m.now)) }
+    ensures steps { GivesAt (λ x. parts_said K.text_said K.bytes_said (named_in m.now) x) m.now
+        result (step rules.attribute_of_b (drop p m.now)) }
     ensures ahead { Ahead m.now p result }
     ensures rests { RestsOn (λ n x. parts_said K.text_said K.bytes_said n x) result }
 {
@@ -492,7 +520,8 @@ fn attribute_of_b<K: KeepAttribute>(keep: &K, alloc: Global, m: &[u8], p: usize)
 fn attribute_of_e<K: KeepAttribute>(keep: &K, alloc: Global, m: &[u8], p: usize) -> Attribute<K>
     requires start { p ≤ length m.now }
     requires serves { K.serves keep.now m.now }
-    ensures steps { GivesAt (λ x. parts_said K.text_said K.bytes_said (named_in m.now) x) m.now result (step rules.attribute_of_e (drop p m.now)) }
+    ensures steps { GivesAt (λ x. parts_said K.text_said K.bytes_said (named_in m.now) x) m.now
+        result (step rules.attribute_of_e (drop p m.now)) }
     ensures ahead { Ahead m.now p result }
     ensures rests { RestsOn (λ n x. parts_said K.text_said K.bytes_said n x) result }
 {
@@ -506,7 +535,8 @@ fn attribute_of_e<K: KeepAttribute>(keep: &K, alloc: Global, m: &[u8], p: usize)
 fn attribute_of_f<K: KeepAttribute>(keep: &K, alloc: Global, m: &[u8], p: usize) -> Attribute<K>
     requires start { p ≤ length m.now }
     requires serves { K.serves keep.now m.now }
-    ensures steps { GivesAt (λ x. parts_said K.text_said K.bytes_said (named_in m.now) x) m.now result (step rules.attribute_of_f (drop p m.now)) }
+    ensures steps { GivesAt (λ x. parts_said K.text_said K.bytes_said (named_in m.now) x) m.now
+        result (step rules.attribute_of_f (drop p m.now)) }
     ensures ahead { Ahead m.now p result }
     ensures rests { RestsOn (λ n x. parts_said K.text_said K.bytes_said n x) result }
 {
@@ -519,7 +549,8 @@ fn attribute_of_f<K: KeepAttribute>(keep: &K, alloc: Global, m: &[u8], p: usize)
 fn attribute_of_i<K: KeepAttribute>(keep: &K, m: &[u8], p: usize) -> Attribute<K>
     requires start { p ≤ length m.now }
     requires serves { K.serves keep.now m.now }
-    ensures steps { GivesAt (λ x. parts_said K.text_said K.bytes_said (named_in m.now) x) m.now result (step rules.attribute_of_i (drop p m.now)) }
+    ensures steps { GivesAt (λ x. parts_said K.text_said K.bytes_said (named_in m.now) x) m.now
+        result (step rules.attribute_of_i (drop p m.now)) }
     ensures ahead { Ahead m.now p result }
     ensures rests { RestsOn (λ n x. parts_said K.text_said K.bytes_said n x) result }
 {
@@ -531,7 +562,8 @@ fn attribute_of_i<K: KeepAttribute>(keep: &K, m: &[u8], p: usize) -> Attribute<K
 #[inline(never)]
 fn attribute_of_m<K: KeepAttribute>(m: &[u8], p: usize) -> Attribute<K>
     requires { p ≤ length m.now }
-    ensures steps { GivesAt (λ x. parts_said K.text_said K.bytes_said (named_in m.now) x) m.now result (step rules.attribute_of_m (drop p m.now)) }
+    ensures steps { GivesAt (λ x. parts_said K.text_said K.bytes_said (named_in m.now) x) m.now
+        result (step rules.attribute_of_m (drop p m.now)) }
     ensures ahead { Ahead m.now p result }
     ensures rests { RestsOn (λ n x. parts_said K.text_said K.bytes_said n x) result }
 {
@@ -544,7 +576,8 @@ fn attribute_of_m<K: KeepAttribute>(m: &[u8], p: usize) -> Attribute<K>
 fn attribute_of_r<K: KeepAttribute>(keep: &K, m: &[u8], p: usize) -> Attribute<K>
     requires start { p ≤ length m.now }
     requires serves { K.serves keep.now m.now }
-    ensures steps { GivesAt (λ x. parts_said K.text_said K.bytes_said (named_in m.now) x) m.now result (step rules.attribute_of_r (drop p m.now)) }
+    ensures steps { GivesAt (λ x. parts_said K.text_said K.bytes_said (named_in m.now) x) m.now
+        result (step rules.attribute_of_r (drop p m.now)) }
     ensures ahead { Ahead m.now p result }
     ensures rests { RestsOn (λ n x. parts_said K.text_said K.bytes_said n x) result }
 {
@@ -557,7 +590,8 @@ fn attribute_of_r<K: KeepAttribute>(keep: &K, m: &[u8], p: usize) -> Attribute<K
 fn attribute_of_t<K: KeepAttribute>(keep: &K, m: &[u8], p: usize) -> Attribute<K>
     requires start { p ≤ length m.now }
     requires serves { K.serves keep.now m.now }
-    ensures steps { GivesAt (λ x. parts_said K.text_said K.bytes_said (named_in m.now) x) m.now result (step rules.attribute_of_t (drop p m.now)) }
+    ensures steps { GivesAt (λ x. parts_said K.text_said K.bytes_said (named_in m.now) x) m.now
+        result (step rules.attribute_of_t (drop p m.now)) }
     ensures ahead { Ahead m.now p result }
     ensures rests { RestsOn (λ n x. parts_said K.text_said K.bytes_said n x) result }
 {
@@ -569,7 +603,8 @@ fn attribute_of_t<K: KeepAttribute>(keep: &K, m: &[u8], p: usize) -> Attribute<K
 #[inline(never)]
 fn attribute_of_u<K: KeepAttribute>(m: &[u8], p: usize) -> Attribute<K>
     requires { p ≤ length m.now }
-    ensures steps { GivesAt (λ x. parts_said K.text_said K.bytes_said (named_in m.now) x) m.now result (step rules.attribute_of_u (drop p m.now)) }
+    ensures steps { GivesAt (λ x. parts_said K.text_said K.bytes_said (named_in m.now) x) m.now
+        result (step rules.attribute_of_u (drop p m.now)) }
     ensures ahead { Ahead m.now p result }
     ensures rests { RestsOn (λ n x. parts_said K.text_said K.bytes_said n x) result }
 {
@@ -582,7 +617,8 @@ fn attribute_of_u<K: KeepAttribute>(m: &[u8], p: usize) -> Attribute<K>
 fn attribute_of_x<K: KeepAttribute>(keep: &K, alloc: Global, m: &[u8], p: usize) -> Attribute<K>
     requires start { p ≤ length m.now }
     requires serves { K.serves keep.now m.now }
-    ensures steps { GivesAt (λ x. parts_said K.text_said K.bytes_said (named_in m.now) x) m.now result (step rules.attribute_of_x (drop p m.now)) }
+    ensures steps { GivesAt (λ x. parts_said K.text_said K.bytes_said (named_in m.now) x) m.now
+        result (step rules.attribute_of_x (drop p m.now)) }
     ensures ahead { Ahead m.now p result }
     ensures rests { RestsOn (λ n x. parts_said K.text_said K.bytes_said n x) result }
 {
@@ -606,7 +642,8 @@ pub(crate) fn attribute<K: KeepAttribute>(
 ) -> Attribute<K>
     requires start { p ≤ length m.now }
     requires serves { K.serves keep.now m.now }
-    ensures steps { GivesAt (λ x. parts_said K.text_said K.bytes_said (named_in m.now) x) m.now result (step rules.attribute (drop p m.now)) }
+    ensures steps { GivesAt (λ x. parts_said K.text_said K.bytes_said (named_in m.now) x) m.now
+        result (step rules.attribute (drop p m.now)) }
     ensures ahead { Ahead m.now p result }
     ensures rests { RestsOn (λ n x. parts_said K.text_said K.bytes_said n x) result }
 {

@@ -25,7 +25,8 @@ fn named<'a>(
     spans: AttributeSpans,
 ) -> IResult<&'a [u8], AttributeValue<'a>>
     requires { q ≤ length i.now }
-    ensures is { IfOk result (λ x. (x.0.now ≡ drop q i.now) × (attribute_value x.1 ≡ parts_in (named_in i.now) spans)) }
+    ensures is { IfOk result (λ x.
+        (x.0.now ≡ drop q i.now) × (attribute_value x.1 ≡ parts_in (named_in i.now) spans)) }
     ensures memory { IfErr result (λ e. e ≡ Failure) }
 {
     let value = spans.value(alloc, i);
@@ -63,10 +64,12 @@ pub fn attribute(alloc: Global, i: &[u8]) -> IResult<&[u8], AttributeValue<'_>>
 
 /// The attributes of a message in parentheses, one or more, by one space (RFC 3501, section 9: msg-att).
 ///
-/// It takes memory for the list, for the lists, envelopes and body structures in it, and for texts that are not UTF-8.
+/// An empty list, or neither a space nor `)` behind an attribute, is `Error`. It takes memory for the list, for the
+/// lists, envelopes and body structures in it, and for texts that are not UTF-8.
 #[tactic(auto, using(imap_grammar::proofs::Agreement::answered))]
 pub fn attribute_list(alloc: Global, i: &[u8]) -> IResult<&[u8], Vec<AttributeValue<'_>>>
-    ensures steps { Gives (λ x. map attribute_value x.items) result (step rules.attribute_list i.now) }
+    ensures steps { Gives (λ x. map attribute_value x.items) result
+        (step rules.attribute_list i.now) }
     ensures answer { Answers rules.attribute_list (λ x. map attribute_value x.items) i.now result }
 {
     let (q, values) = made!(kept_list(&Named { alloc, m: i }, alloc, i, 0));

@@ -24,7 +24,8 @@ use std::ops::RangeInclusive;
 #[tactic(auto, using(imap_grammar::proofs::Agreement::exact_answered_at), unfolding(crate::specs::Sets::sequence_range))]
 pub fn sequence_range(m: &[u8], p: usize) -> Reached<RangeInclusive<u32>>
     requires { p ≤ length m.now }
-    ensures steps { ExactlyAt (λ x. range_of x) m.now result (step sets.sequence_range (drop p m.now)) }
+    ensures steps { ExactlyAt (λ x. range_of x) m.now result
+        (step sets.sequence_range (drop p m.now)) }
     ensures answer { AnswersAt sets.sequence_range (λ x. range_of x) m.now p result }
     ensures ahead { Ahead m.now p result }
     ensures no_failure { NeverFails result }
@@ -38,7 +39,8 @@ pub fn sequence_range(m: &[u8], p: usize) -> Reached<RangeInclusive<u32>>
 // A colon and the number behind it.
 fn range_end(m: &[u8], p: usize) -> Reached<u32>
     requires { p ≤ length m.now }
-    ensures steps { ExactlyAt (λ x. x) m.now result (step (tags.tag ":" ▹ numbers.number) (drop p m.now)) }
+    ensures steps { ExactlyAt (λ x. x) m.now result
+        (step (tags.tag ":" ▹ numbers.number) (drop p m.now)) }
     ensures ahead { Ahead m.now p result }
 {
     let (p, _) = tag(b":", m, p)?;
@@ -50,7 +52,8 @@ fn range_end(m: &[u8], p: usize) -> Reached<u32>
 /// It ends before a colon behind which `number` denies. A number past 32 bits in front is `Error`.
 pub(crate) fn sequence_item(m: &[u8], p: usize) -> Reached<RangeInclusive<u32>>
     requires { p ≤ length m.now }
-    ensures steps { ExactlyAt (λ x. range_of x) m.now result (step sets.sequence_item (drop p m.now)) }
+    ensures steps { ExactlyAt (λ x. range_of x) m.now result
+        (step sets.sequence_item (drop p m.now)) }
     ensures ahead { Ahead m.now p result }
     ensures no_failure { NeverFails result }
 {
@@ -67,13 +70,16 @@ pub(crate) fn sequence_item(m: &[u8], p: usize) -> Reached<RangeInclusive<u32>>
 /// memory for the list.
 pub fn sequence_set(alloc: Global, m: &[u8], p: usize) -> Reached<Vec<RangeInclusive<u32>>>
     requires { p ≤ length m.now }
-    ensures steps { GivesAt (λ x. map (λ r. range_of r) x.items) m.now result (step sets.sequence_set (drop p m.now)) }
-    ensures answer { AnswersAt sets.sequence_set (λ x. map (λ r. range_of r) x.items) m.now p result }
+    ensures steps { GivesAt (λ x. map (λ r. range_of r) x.items) m.now result
+        (step sets.sequence_set (drop p m.now)) }
+    ensures answer { AnswersAt sets.sequence_set (λ x. map (λ r. range_of r) x.items) m.now p
+        result }
     ensures ahead { Ahead m.now p result }
 {
     let item = |k: usize|
         requires { k ≤ length m.now }
-        ensures steps { ExactlyAt (λ x. range_of x) m.entry.now result (step sets.sequence_item (drop k m.entry.now)) }
+        ensures steps { ExactlyAt (λ x. range_of x) m.entry.now result
+            (step sets.sequence_item (drop k m.entry.now)) }
         ensures ahead { Ahead m.entry.now k result }
     { sequence_item(m, k) };
     separated(alloc, Separator::Comma, item, m, p)

@@ -23,7 +23,8 @@ use imap_grammar::{Err, Needed, first, maybe};
 #[inline(always)]
 fn plain(m: &[u8], p: usize) -> Reached<Span>
     requires { p ≤ length m.now }
-    ensures steps { ExactlyAt (λ x. named_in m.now x) m.now result (step (run1 classes.is_quoted_char) (drop p m.now)) }
+    ensures steps { ExactlyAt (λ x. named_in m.now x) m.now result
+        (step (run1 classes.is_quoted_char) (drop p m.now)) }
     ensures inside { Inside m.now p result }
 {
     let (_, i) = m.split_at(p);
@@ -34,7 +35,8 @@ fn plain(m: &[u8], p: usize) -> Reached<Span>
 #[inline(always)]
 fn quoted_part(m: &[u8], p: usize) -> Reached<Span>
     requires { p ≤ length m.now }
-    ensures steps { ExactlyAt (λ x. named_in m.now x) m.now result (step strings.quoted_part (drop p m.now)) }
+    ensures steps { ExactlyAt (λ x. named_in m.now x) m.now result
+        (step strings.quoted_part (drop p m.now)) }
     ensures inside { Inside m.now p result }
 {
     first!(plain(m, p));
@@ -45,7 +47,8 @@ fn quoted_part(m: &[u8], p: usize) -> Reached<Span>
 #[inline(always)]
 fn next_part(m: &[u8], p: usize) -> Reached<Option<Span>>
     requires { p ≤ length m.now }
-    ensures steps { ExactlyAt (λ x. maybe_in m.now x) m.now result (step (opt strings.quoted_part) (drop p m.now)) }
+    ensures steps { ExactlyAt (λ x. maybe_in m.now x) m.now result
+        (step (opt strings.quoted_part) (drop p m.now)) }
     ensures ahead { Ahead m.now p result }
 {
     maybe!(quoted_part(m, p), p)
@@ -55,7 +58,8 @@ fn next_part(m: &[u8], p: usize) -> Reached<Option<Span>>
 #[inline(always)]
 fn quoted_content(m: &[u8], p: usize) -> Reached<Span>
     requires { p ≤ length m.now }
-    ensures steps { ExactlyAt (λ x. named_in m.now x) m.now result (step strings.quoted_content (drop p m.now)) }
+    ensures steps { ExactlyAt (λ x. named_in m.now x) m.now result
+        (step strings.quoted_content (drop p m.now)) }
     ensures inside { Inside m.now p result }
     ensures no_failure { NeverFails result }
 {
@@ -82,7 +86,8 @@ fn quoted_content(m: &[u8], p: usize) -> Reached<Span>
 #[inline(never)]
 pub fn quoted(m: &[u8], p: usize) -> Reached<Span>
     requires { p ≤ length m.now }
-    ensures steps { ExactlyAt (λ x. named_in m.now x) m.now result (step strings.quoted (drop p m.now)) }
+    ensures steps { ExactlyAt (λ x. named_in m.now x) m.now result
+        (step strings.quoted (drop p m.now)) }
     ensures answer { AnswersAt strings.quoted (λ x. named_in m.now x) m.now p result }
     ensures inside { Inside m.now p result }
     ensures no_failure { NeverFails result }
@@ -111,7 +116,8 @@ fn literal_header(m: &[u8], p: usize) -> Reached<u32>
 #[tactic(auto, using(imap_grammar::proofs::Positions::stepped), unfolding(imap_grammar::specs::Step::take_step))]
 fn counted(count: usize, m: &[u8], p: usize) -> Reached<Span>
     requires { p ≤ length m.now }
-    ensures steps { ExactlyAt (λ x. named_in m.now x) m.now result (take_step count (drop p m.now)) }
+    ensures steps { ExactlyAt (λ x. named_in m.now x) m.now result
+        (take_step count (drop p m.now)) }
     ensures inside { Inside m.now p result }
     ensures no_failure { NeverFails result }
 {
@@ -130,7 +136,8 @@ fn counted(count: usize, m: &[u8], p: usize) -> Reached<Span>
 #[inline(never)]
 pub fn literal(m: &[u8], p: usize) -> Reached<Span>
     requires { p ≤ length m.now }
-    ensures steps { ExactlyAt (λ x. named_in m.now x) m.now result (step strings.literal (drop p m.now)) }
+    ensures steps { ExactlyAt (λ x. named_in m.now x) m.now result
+        (step strings.literal (drop p m.now)) }
     ensures answer { AnswersAt strings.literal (λ x. named_in m.now x) m.now p result }
     ensures inside { Inside m.now p result }
     ensures no_failure { NeverFails result }
@@ -153,7 +160,8 @@ fn quote_follows(m: &[u8], p: usize) -> bool
 #[inline(always)]
 fn plain_string(m: &[u8], p: usize) -> Option<(usize, Span)>
     requires { p ≤ length m.now }
-    ensures steps { IfSome result (λ x. step strings.string (drop p m.now) ≡ Ok (drop x.0 m.now, named_in m.now x.1)) }
+    ensures steps { IfSome result (λ x.
+        step strings.string (drop p m.now) ≡ Ok (drop x.0 m.now, named_in m.now x.1)) }
     ensures inside { IfSome result (λ x. Lies p x.1 x.0 × (x.0 ≤ length m.now)) }
 {
     if !quote_follows(m, p) {
@@ -170,7 +178,8 @@ fn plain_string(m: &[u8], p: usize) -> Option<(usize, Span)>
 #[inline(never)]
 fn any_string(m: &[u8], p: usize) -> Reached<Span>
     requires { p ≤ length m.now }
-    ensures steps { ExactlyAt (λ x. named_in m.now x) m.now result (step strings.string (drop p m.now)) }
+    ensures steps { ExactlyAt (λ x. named_in m.now x) m.now result
+        (step strings.string (drop p m.now)) }
     ensures inside { Inside m.now p result }
     ensures no_failure { NeverFails result }
 {
@@ -186,7 +195,8 @@ fn any_string(m: &[u8], p: usize) -> Reached<Span>
 #[inline(always)]
 pub fn string(m: &[u8], p: usize) -> Reached<Span>
     requires { p ≤ length m.now }
-    ensures steps { ExactlyAt (λ x. named_in m.now x) m.now result (step strings.string (drop p m.now)) }
+    ensures steps { ExactlyAt (λ x. named_in m.now x) m.now result
+        (step strings.string (drop p m.now)) }
     ensures answer { AnswersAt strings.string (λ x. named_in m.now x) m.now p result }
     ensures inside { Inside m.now p result }
     ensures no_failure { NeverFails result }
@@ -200,7 +210,8 @@ pub fn string(m: &[u8], p: usize) -> Reached<Span>
 /// At least one astring-char (RFC 3501, section 9: ASTRING-CHAR). No memory.
 pub fn astring_chars(m: &[u8], p: usize) -> Reached<Span>
     requires { p ≤ length m.now }
-    ensures steps { ExactlyAt (λ x. named_in m.now x) m.now result (step (run1 classes.is_astring_char) (drop p m.now)) }
+    ensures steps { ExactlyAt (λ x. named_in m.now x) m.now result
+        (step (run1 classes.is_astring_char) (drop p m.now)) }
     ensures inside { Inside m.now p result }
     ensures no_failure { NeverFails result }
 {
@@ -212,7 +223,8 @@ pub fn astring_chars(m: &[u8], p: usize) -> Reached<Span>
 #[tactic(auto, using(imap_grammar::proofs::Agreement::exact_answered_at), unfolding(crate::specs::Strings::astring))]
 pub fn astring(m: &[u8], p: usize) -> Reached<Span>
     requires { p ≤ length m.now }
-    ensures steps { ExactlyAt (λ x. named_in m.now x) m.now result (step strings.astring (drop p m.now)) }
+    ensures steps { ExactlyAt (λ x. named_in m.now x) m.now result
+        (step strings.astring (drop p m.now)) }
     ensures answer { AnswersAt strings.astring (λ x. named_in m.now x) m.now p result }
     ensures inside { Inside m.now p result }
     ensures no_failure { NeverFails result }
@@ -225,7 +237,8 @@ pub fn astring(m: &[u8], p: usize) -> Reached<Span>
 #[tactic(auto, using(imap_grammar::proofs::Agreement::exact_answered_at), unfolding(crate::specs::Strings::nil))]
 pub fn nil(m: &[u8], p: usize) -> Reached<Span>
     requires { p ≤ length m.now }
-    ensures steps { ExactlyAt (λ x. named_in m.now x) m.now result (step strings.nil (drop p m.now)) }
+    ensures steps { ExactlyAt (λ x. named_in m.now x) m.now result
+        (step strings.nil (drop p m.now)) }
     ensures answer { AnswersAt strings.nil (λ x. named_in m.now x) m.now p result }
     ensures inside { Inside m.now p result }
     ensures no_failure { NeverFails result }
@@ -238,7 +251,8 @@ pub fn nil(m: &[u8], p: usize) -> Reached<Span>
 #[inline(always)]
 pub fn nstring(m: &[u8], p: usize) -> Reached<Option<Span>>
     requires { p ≤ length m.now }
-    ensures steps { ExactlyAt (λ x. maybe_in m.now x) m.now result (step strings.nstring (drop p m.now)) }
+    ensures steps { ExactlyAt (λ x. maybe_in m.now x) m.now result
+        (step strings.nstring (drop p m.now)) }
     ensures answer { AnswersAt strings.nstring (λ x. maybe_in m.now x) m.now p result }
     ensures ahead { Ahead m.now p result }
     ensures inside { MaybeInside p result }
@@ -255,7 +269,8 @@ pub fn nstring(m: &[u8], p: usize) -> Reached<Option<Span>>
 /// Atom-chars, maybe none (RFC 3501, section 9: ATOM-CHAR). No memory.
 pub fn atom_chars0(m: &[u8], p: usize) -> Reached<Span>
     requires { p ≤ length m.now }
-    ensures steps { ExactlyAt (λ x. named_in m.now x) m.now result (step (run0 classes.is_atom_char) (drop p m.now)) }
+    ensures steps { ExactlyAt (λ x. named_in m.now x) m.now result
+        (step (run0 classes.is_atom_char) (drop p m.now)) }
     ensures inside { Inside m.now p result }
     ensures no_failure { NeverFails result }
 {
@@ -266,7 +281,8 @@ pub fn atom_chars0(m: &[u8], p: usize) -> Reached<Span>
 // At least one atom-char (RFC 3501, section 9: ATOM-CHAR).
 fn atom_chars(m: &[u8], p: usize) -> Reached<Span>
     requires { p ≤ length m.now }
-    ensures steps { ExactlyAt (λ x. named_in m.now x) m.now result (step (run1 classes.is_atom_char) (drop p m.now)) }
+    ensures steps { ExactlyAt (λ x. named_in m.now x) m.now result
+        (step (run1 classes.is_atom_char) (drop p m.now)) }
     ensures inside { Inside m.now p result }
     ensures no_failure { NeverFails result }
 {
@@ -278,7 +294,8 @@ fn atom_chars(m: &[u8], p: usize) -> Reached<Span>
 #[tactic(auto, using(imap_grammar::proofs::Positions::kept_self), unfolding(crate::specs::Strings::atom))]
 pub(crate) fn atom_text(m: &[u8], p: usize) -> Reached<(Span, &str)>
     requires { p ≤ length m.now }
-    ensures span { ExactlyAt (λ x. named_in m.now x.0) m.now result (step strings.atom (drop p m.now)) }
+    ensures span { ExactlyAt (λ x. named_in m.now x.0) m.now result
+        (step strings.atom (drop p m.now)) }
     ensures text { ExactlyAt (λ x. x.1.now) m.now result (step strings.atom (drop p m.now)) }
     ensures inside { IfOk result (λ x. Lies p x.1.0 x.0 × (x.0 ≤ length m.now)) }
     ensures no_failure { NeverFails result }
@@ -294,7 +311,8 @@ pub(crate) fn atom_text(m: &[u8], p: usize) -> Reached<(Span, &str)>
 #[tactic(auto, using(imap_grammar::proofs::Agreement::exact_answered_at))]
 pub fn atom(m: &[u8], p: usize) -> Reached<Span>
     requires { p ≤ length m.now }
-    ensures steps { ExactlyAt (λ x. named_in m.now x) m.now result (step strings.atom (drop p m.now)) }
+    ensures steps { ExactlyAt (λ x. named_in m.now x) m.now result
+        (step strings.atom (drop p m.now)) }
     ensures answer { AnswersAt strings.atom (λ x. named_in m.now x) m.now p result }
     ensures inside { Inside m.now p result }
     ensures no_failure { NeverFails result }

@@ -17,7 +17,8 @@ use imap_grammar::scanning::{TextChar, long_run_end};
 /// Text-chars, maybe none (RFC 3501, section 9: TEXT-CHAR). No memory.
 pub(crate) fn text_chars(m: &[u8], p: usize) -> Reached<Span>
     requires { p ≤ length m.now }
-    ensures steps { ExactlyAt (λ x. named_in m.now x) m.now result (step (run0 classes.is_text_char) (drop p m.now)) }
+    ensures steps { ExactlyAt (λ x. named_in m.now x) m.now result
+        (step (run0 classes.is_text_char) (drop p m.now)) }
     ensures inside { Inside m.now p result }
     ensures no_failure { NeverFails result }
 {
@@ -29,7 +30,8 @@ pub(crate) fn text_chars(m: &[u8], p: usize) -> Reached<Span>
 #[tactic(auto, using(imap_grammar::proofs::Agreement::exact_answered_at), unfolding(crate::specs::Texts::text))]
 pub fn text(m: &[u8], p: usize) -> Reached<Span>
     requires { p ≤ length m.now }
-    ensures steps { ExactlyAt (λ x. decoded (named_in m.now x)) m.now result (step texts.text (drop p m.now)) }
+    ensures steps { ExactlyAt (λ x. decoded (named_in m.now x)) m.now result
+        (step texts.text (drop p m.now)) }
     ensures answer { AnswersAt texts.text (λ x. decoded (named_in m.now x)) m.now p result }
     ensures inside { Inside m.now p result }
     ensures no_failure { NeverFails result }

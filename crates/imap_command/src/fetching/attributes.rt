@@ -1,7 +1,7 @@
 //! A FETCH that has been told attributes.
 
-ghost use Rattle.std.specs.Prelude.{◌≡◌, ◌++◌, List, ◌∷◌, codes, IfOk};
-ghost use Rattle.imap_command.specs.Calls.{Call, stage, begun, attributes, Holds};
+ghost use Rattle.std.specs.Prelude.{◌≡◌, ◌++◌, codes, IfOk};
+ghost use Rattle.imap_command.specs.Calls.{attributes, Adds, Finishes};
 ghost use Rattle.imap_command.specs.Calls as call;
 
 use super::FetchCommand;
@@ -24,8 +24,7 @@ impl FetchCommand<Attributes> {
     /// Asks for one more attribute (RFC 3501, section 6.4.5). It takes memory; `Err`: memory ran
     /// out.
     pub fn attr(self, attribute: Attribute) -> Result<FetchCommand<Attributes>, AllocError>
-        ensures { IfOk result (λ command. (calls : List Call) → stage calls ≡ attributes
-            → self ≡ begun calls → command ≡ begun (call.attr attribute ∷ calls)) }
+        ensures { IfOk result (Adds attributes (call.attr attribute) self) }
     {
         let mut args = self.args;
         args.push(b' ')?;
@@ -36,8 +35,7 @@ impl FetchCommand<Attributes> {
     /// Asks only for messages that changed after this mod-sequence (RFC 4551, section 3.3.1). It
     /// takes memory; `Err`: memory ran out.
     pub fn changed_since(self, mod_seq: u64) -> Result<FetchCommand<Modifiers>, AllocError>
-        ensures { IfOk result (λ command. (calls : List Call) → stage calls ≡ attributes
-            → self ≡ begun calls → command ≡ begun (call.changed_since mod_seq ∷ calls)) }
+        ensures { IfOk result (Adds attributes (call.changed_since mod_seq) self) }
     {
         let mut args = self.closed()?;
         push_changed_since(&mut args, mod_seq)?;
@@ -47,11 +45,11 @@ impl FetchCommand<Attributes> {
     /// The finished command. It takes memory; `Err`: memory ran out.
     #[tactic(auto, using(crate::proofs::NextStates::fetches_attributes))]
     pub fn into_command(self) -> Result<Command, AllocError>
-        ensures { IfOk result (λ command. (calls : List Call) → stage calls ≡ attributes
-            → self ≡ begun calls → Holds calls command) }
+        ensures { IfOk result (Finishes attributes self) }
     {
+        let args = self.closed()?;
         Ok(Command {
-            args: self.closed()?,
+            args,
             next_state: None,
         })
     }

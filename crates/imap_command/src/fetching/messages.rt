@@ -1,8 +1,8 @@
 //! A FETCH that has been told messages.
 
-ghost use Rattle.std.specs.Prelude.{◌≡◌, ◌++◌, List, ◌∷◌, codes, IfOk};
+ghost use Rattle.std.specs.Prelude.{◌≡◌, ◌++◌, codes, IfOk};
 ghost use Rattle.std.specs.Range.{range_inclusive_start, range_inclusive_end};
-ghost use Rattle.imap_command.specs.Calls.{Call, stage, begun, messages};
+ghost use Rattle.imap_command.specs.Calls.{messages, Adds};
 ghost use Rattle.imap_command.specs.Calls as call;
 
 use super::FetchCommand;
@@ -26,8 +26,7 @@ impl FetchCommand<Messages> {
     /// Asks for one more message, by its number or, behind `uid_fetch`, by its UID (RFC 3501, sections
     /// 6.4.5 and 6.4.8). It takes memory; `Err`: memory ran out.
     pub fn num(self, number: u32) -> Result<FetchCommand<Messages>, AllocError>
-        ensures { IfOk result (λ command. (calls : List Call) → stage calls ≡ messages
-            → self ≡ begun calls → command ≡ begun (call.num number ∷ calls)) }
+        ensures { IfOk result (Adds messages (call.num number) self) }
     {
         let mut args = self.continued()?;
         push_number(&mut args, u64::from(number))?;
@@ -37,9 +36,9 @@ impl FetchCommand<Messages> {
     /// Asks for one more range of messages, of numbers or, behind `uid_fetch`, of UIDs (RFC 3501,
     /// sections 6.4.5 and 6.4.8). It takes memory; `Err`: memory ran out.
     pub fn range(self, range: RangeInclusive<u32>) -> Result<FetchCommand<Messages>, AllocError>
-        ensures { IfOk result (λ command. (calls : List Call) → stage calls ≡ messages
-            → self ≡ begun calls → command
-            ≡ begun (call.range (range_inclusive_start range) (range_inclusive_end range) ∷ calls)) }
+        ensures { IfOk result
+            (Adds messages (call.range (range_inclusive_start range) (range_inclusive_end range))
+            self) }
     {
         let mut args = self.continued()?;
         push_range(&mut args, range)?;
@@ -49,8 +48,7 @@ impl FetchCommand<Messages> {
     /// Asks also for the messages from a number on, behind `uid_fetch` from a UID on (RFC 3501, sections
     /// 6.4.5 and 6.4.8). It takes memory; `Err`: memory ran out.
     pub fn range_from(self, range: RangeFrom<u32>) -> Result<FetchCommand<Messages>, AllocError>
-        ensures { IfOk result (λ command. (calls : List Call) → stage calls ≡ messages
-            → self ≡ begun calls → command ≡ begun (call.range_from range.start ∷ calls)) }
+        ensures { IfOk result (Adds messages (call.range_from range.start) self) }
     {
         let mut args = self.continued()?;
         push_open_range(&mut args, range.start)?;
@@ -60,8 +58,7 @@ impl FetchCommand<Messages> {
     /// Asks for a group of attributes of the messages (RFC 3501, section 6.4.5). It takes memory;
     /// `Err`: memory ran out.
     pub fn attr_macro(self, group: AttrMacro) -> Result<FetchCommand<Modifiers>, AllocError>
-        ensures { IfOk result (λ command. (calls : List Call) → stage calls ≡ messages
-            → self ≡ begun calls → command ≡ begun (call.attr_macro group ∷ calls)) }
+        ensures { IfOk result (Adds messages (call.attr_macro group) self) }
     {
         let mut args = self.args;
         args.push(b' ')?;
@@ -72,8 +69,7 @@ impl FetchCommand<Messages> {
     /// Asks for an attribute of the messages (RFC 3501, section 6.4.5). It takes memory;
     /// `Err`: memory ran out.
     pub fn attr(self, attribute: Attribute) -> Result<FetchCommand<Attributes>, AllocError>
-        ensures { IfOk result (λ command. (calls : List Call) → stage calls ≡ messages
-            → self ≡ begun calls → command ≡ begun (call.attr attribute ∷ calls)) }
+        ensures { IfOk result (Adds messages (call.attr attribute) self) }
     {
         let mut args = self.args;
         args.extend_from_slice(b" (")?;

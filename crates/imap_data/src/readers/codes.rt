@@ -164,7 +164,8 @@ fn code_of_a(alloc: Global, i: &[u8]) -> IResult<&[u8], ResponseCode<'_>>
 #[tactic(auto, unfolding(crate::specs::Codes::code_of_c))]
 fn code_of_c(alloc: Global, i: &[u8]) -> IResult<&[u8], ResponseCode<'_>>
     ensures steps { Gives (λ x. code_value x) result (step codes.code_of_c i.now) }
-    ensures memory { FailsOnlyIf (BeginsWord "CAPABILITY" i.now ⊎ BeginsWord "COPYUID " i.now) result }
+    ensures memory { FailsOnlyIf (BeginsWord "CAPABILITY" i.now ⊎ BeginsWord "COPYUID " i.now)
+        result }
 {
     first!(capabilities(alloc, i));
     copy_uid(alloc, i)

@@ -110,7 +110,8 @@ fn datum_of_number(i: &[u8]) -> IResult<&[u8], MailboxDatum<'_>>
 
 /// `LIST` or `LSUB`, and what it says of a mailbox (RFC 3501, section 9: mailbox-data).
 ///
-/// It takes memory for the attributes, and for texts that are not UTF-8.
+/// Any other word, or a part that is missing, is `Error`. It takes memory for the attributes, and for texts that are
+/// not UTF-8.
 #[tactic(auto, using(imap_grammar::proofs::Agreement::answered), unfolding(crate::specs::MailboxData::list_or_lsub))]
 #[inline(always)]
 pub fn list_or_lsub(alloc: Global, i: &[u8]) -> IResult<&[u8], MailboxDatum<'_>>
@@ -163,7 +164,8 @@ fn datum(alloc: Global, i: &[u8]) -> IResult<&[u8], MailboxDatum<'_>>
 /// Data of a mailbox: `FLAGS`, `EXISTS`, `LIST`, `LSUB`, `STATUS`, `RECENT`, `SEARCH`, `SORT` and Gmail's items,
 /// words in any case (RFC 3501, section 9: mailbox-data; RFC 5256, section 5: sort-data; Gmail's X-GM-EXT-1).
 ///
-/// Its lists take memory, and texts only for bytes that are not UTF-8. A datum that is one number takes none.
+/// Any other word, and data that its rule denies, is `Error`. Its lists take memory, and texts only for bytes that are
+/// not UTF-8. A datum that is one number takes none.
 #[tactic(auto, using(imap_grammar::proofs::Agreement::answered))]
 #[inline(always)]
 pub fn mailbox_datum(alloc: Global, i: &[u8]) -> IResult<&[u8], MailboxDatum<'_>>

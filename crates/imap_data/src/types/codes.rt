@@ -1,8 +1,7 @@
 //! Response codes.
 
 ghost use Rattle.std.specs.Prelude.{◌≡◌, map, option_map, IfOk};
-ghost use Rattle.imap_grammar.specs.Text.{text_of};
-ghost use Rattle.imap_items.specs.Owned.{owned_text as owned};
+ghost use Rattle.imap_grammar.specs.Text.{text_of, owned_text as owned};
 ghost use Rattle.imap_data.specs.Codes.{code_value};
 ghost use Rattle.imap_data.specs.Owned.{owned_code};
 
@@ -58,7 +57,9 @@ fn owned_charsets(
     alloc: Global,
     charsets: Option<Vec<CowStr<'_>>>,
 ) -> Result<Option<Vec<CowStr<'static>>>, AllocError>
-    ensures { IfOk result (λ c. option_map (λ v. map text_of v.items) c ≡ option_map (map owned) (option_map (λ v. map text_of v.items) charsets.entry)) }
+    ensures { IfOk result (λ c.
+        option_map (λ v. map text_of v.items) c
+        ≡ option_map (map owned) (option_map (λ v. map text_of v.items) charsets.entry)) }
 {
     Ok(match charsets {
         None => None,

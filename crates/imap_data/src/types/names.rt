@@ -77,7 +77,8 @@ impl<'a> NameAttribute<'a> {
 
     /// The same attribute with its text owned. It takes memory only for a borrowed text; `Err`: memory ran out.
     pub fn into_owned(self, alloc: Global) -> Result<NameAttribute<'static>, AllocError>
-        ensures { IfOk result (λ a. attribute_value a ≡ owned_attribute (attribute_value self.entry)) }
+        ensures { IfOk result (λ a.
+            attribute_value a ≡ owned_attribute (attribute_value self.entry)) }
     {
         Ok(match self {
             NameAttribute::NoInferiors => NameAttribute::NoInferiors,
@@ -99,7 +100,8 @@ impl<'a> NameAttribute<'a> {
 fn copied_attributes<'a>(
     attributes: &Vec<NameAttribute<'a>>,
 ) -> Result<Vec<NameAttribute<'a>>, AllocError>
-    ensures { IfOk result (λ v. map attribute_value v.items ≡ map attribute_value attributes.now.items) }
+    ensures { IfOk result (λ v.
+        map attribute_value v.items ≡ map attribute_value attributes.now.items) }
 {
     let mut copy = Vec::with_capacity(*attributes.allocator(), attributes.len())?;
     for attribute in attributes {
@@ -121,7 +123,9 @@ fn owned_attributes(
     alloc: Global,
     attributes: Vec<NameAttribute<'_>>,
 ) -> Result<Vec<NameAttribute<'static>>, AllocError>
-    ensures { IfOk result (λ v. map attribute_value v.items ≡ map owned_attribute (map attribute_value attributes.entry.items)) }
+    ensures { IfOk result (λ v.
+        map attribute_value v.items
+        ≡ map owned_attribute (map attribute_value attributes.entry.items)) }
 {
     let mut owned = Vec::with_capacity(alloc, attributes.len())?;
     for attribute in attributes {

@@ -38,7 +38,8 @@ struct LastFields<B> {
 fn kept_string<K: Keep>(keep: &K, m: &[u8], p: usize) -> Reached<Option<K::Bytes>>
     requires start { p ≤ length m.now }
     requires serves { K.serves keep.now m.now }
-    ensures steps { ExactlyAt (λ x. option_map (K.bytes_said (named_in m.now)) x) m.now result (step envelopes.byte_string (drop p m.now)) }
+    ensures steps { ExactlyAt (λ x. option_map (K.bytes_said (named_in m.now)) x) m.now result
+        (step envelopes.byte_string (drop p m.now)) }
     ensures ahead { Ahead m.now p result }
     ensures rests { RestsOn (λ n x. option_map (K.bytes_said n) x) result }
     ensures no_failure { NeverFails result }
@@ -52,7 +53,8 @@ fn kept_string<K: Keep>(keep: &K, m: &[u8], p: usize) -> Reached<Option<K::Bytes
 fn spaced_string<K: Keep>(keep: &K, m: &[u8], p: usize) -> Reached<Option<K::Bytes>>
     requires start { p ≤ length m.now }
     requires serves { K.serves keep.now m.now }
-    ensures steps { ExactlyAt (λ x. option_map (K.bytes_said (named_in m.now)) x) m.now result (step (spaced envelopes.byte_string) (drop p m.now)) }
+    ensures steps { ExactlyAt (λ x. option_map (K.bytes_said (named_in m.now)) x) m.now result
+        (step (spaced envelopes.byte_string) (drop p m.now)) }
     ensures ahead { Ahead m.now p result }
     ensures rests { RestsOn (λ n x. option_map (K.bytes_said n) x) result }
     ensures no_failure { NeverFails result }
@@ -66,7 +68,8 @@ fn spaced_string<K: Keep>(keep: &K, m: &[u8], p: usize) -> Reached<Option<K::Byt
 pub fn address<K: Keep>(keep: &K, m: &[u8], p: usize) -> Reached<Address<K::Bytes>>
     requires start { p ≤ length m.now }
     requires serves { K.serves keep.now m.now }
-    ensures steps { ExactlyAt (λ x. address_seen (K.bytes_said (named_in m.now)) x) m.now result (step envelopes.address (drop p m.now)) }
+    ensures steps { ExactlyAt (λ x. address_seen (K.bytes_said (named_in m.now)) x) m.now result
+        (step envelopes.address (drop p m.now)) }
     ensures ahead { Ahead m.now p result }
     ensures rests { RestsOn (λ n x. address_seen (K.bytes_said n) x) result }
     ensures no_failure { NeverFails result }
@@ -93,7 +96,8 @@ pub fn address<K: Keep>(keep: &K, m: &[u8], p: usize) -> Reached<Address<K::Byte
 fn listed_address<K: Keep>(keep: &K, m: &[u8], p: usize) -> Reached<Address<K::Bytes>>
     requires start { p ≤ length m.now }
     requires serves { K.serves keep.now m.now }
-    ensures steps { ExactlyAt (λ x. address_seen (K.bytes_said (named_in m.now)) x) m.now result (step envelopes.listed_address (drop p m.now)) }
+    ensures steps { ExactlyAt (λ x. address_seen (K.bytes_said (named_in m.now)) x) m.now result
+        (step envelopes.listed_address (drop p m.now)) }
     ensures ahead { Ahead m.now p result }
     ensures rests { RestsOn (λ n x. address_seen (K.bytes_said n) x) result }
 {
@@ -111,7 +115,8 @@ fn some_addresses<K: Keep>(
 ) -> Reached<Vec<Address<K::Bytes>>>
     requires start { p ≤ length m.now }
     requires serves { K.serves keep.now m.now }
-    ensures steps { GivesAt (λ x. map (address_seen (K.bytes_said (named_in m.now))) x.items) m.now result (step envelopes.some_addresses (drop p m.now)) }
+    ensures steps { GivesAt (λ x. map (address_seen (K.bytes_said (named_in m.now))) x.items) m.now
+        result (step envelopes.some_addresses (drop p m.now)) }
     ensures ahead { Ahead m.now p result }
     ensures rests { RestsOn (λ n x. map (address_seen (K.bytes_said n)) x.items) result }
 {
@@ -155,7 +160,8 @@ fn addresses<K: Keep>(
 ) -> Reached<Option<Vec<Address<K::Bytes>>>>
     requires start { p ≤ length m.now }
     requires serves { K.serves keep.now m.now }
-    ensures steps { GivesAt (λ x. addresses_seen (K.bytes_said (named_in m.now)) x) m.now result (step envelopes.addresses (drop p m.now)) }
+    ensures steps { GivesAt (λ x. addresses_seen (K.bytes_said (named_in m.now)) x) m.now result
+        (step envelopes.addresses (drop p m.now)) }
     ensures ahead { Ahead m.now p result }
     ensures rests { RestsOn (λ n x. addresses_seen (K.bytes_said n) x) result }
 {
@@ -177,7 +183,8 @@ fn spaced_addresses<K: Keep>(
 ) -> Reached<Option<Vec<Address<K::Bytes>>>>
     requires start { p ≤ length m.now }
     requires serves { K.serves keep.now m.now }
-    ensures steps { GivesAt (λ x. addresses_seen (K.bytes_said (named_in m.now)) x) m.now result (step (spaced envelopes.addresses) (drop p m.now)) }
+    ensures steps { GivesAt (λ x. addresses_seen (K.bytes_said (named_in m.now)) x) m.now result
+        (step (spaced envelopes.addresses) (drop p m.now)) }
     ensures ahead { Ahead m.now p result }
     ensures rests { RestsOn (λ n x. addresses_seen (K.bytes_said n) x) result }
 {
@@ -197,7 +204,8 @@ fn last_fields<K: Keep>(
 ) -> Reached<LastFields<K::Bytes>>
     requires start { p ≤ length m.now }
     requires serves { K.serves keep.now m.now }
-    ensures steps { GivesAt (λ x. last_fields_seen (K.bytes_said (named_in m.now)) x) m.now result (step envelopes.last_fields (drop p m.now)) }
+    ensures steps { GivesAt (λ x. last_fields_seen (K.bytes_said (named_in m.now)) x) m.now result
+        (step envelopes.last_fields (drop p m.now)) }
     ensures ahead { Ahead m.now p result }
     ensures rests { RestsOn (λ n x. last_fields_seen (K.bytes_said n) x) result }
 {
@@ -224,7 +232,8 @@ fn last_fields<K: Keep>(
 pub fn envelope<K: Keep>(keep: &K, alloc: Global, m: &[u8], p: usize) -> Reached<Envelope<K::Bytes>>
     requires start { p ≤ length m.now }
     requires serves { K.serves keep.now m.now }
-    ensures steps { GivesAt (λ x. envelope_seen (K.bytes_said (named_in m.now)) x) m.now result (step envelopes.envelope (drop p m.now)) }
+    ensures steps { GivesAt (λ x. envelope_seen (K.bytes_said (named_in m.now)) x) m.now result
+        (step envelopes.envelope (drop p m.now)) }
     ensures ahead { Ahead m.now p result }
     ensures rests { RestsOn (λ n x. envelope_seen (K.bytes_said n) x) result }
 {

@@ -23,7 +23,8 @@ use imap_shapes::spans::{Span, SpannedText};
 #[inline(always)]
 pub fn byte_string(m: &[u8], p: usize) -> Reached<Option<Span>>
     requires { p ≤ length m.now }
-    ensures steps { ExactlyAt (λ x. maybe_bytes_in (named_in m.now) x) m.now result (step envelopes.byte_string (drop p m.now)) }
+    ensures steps { ExactlyAt (λ x. maybe_bytes_in (named_in m.now) x) m.now result
+        (step envelopes.byte_string (drop p m.now)) }
     ensures ahead { Ahead m.now p result }
     ensures inside { MaybeInside p result }
     ensures rests { RestsOn maybe_bytes_in result }
@@ -37,7 +38,8 @@ pub fn byte_string(m: &[u8], p: usize) -> Reached<Option<Span>>
 #[inline(always)]
 pub fn spaced_byte_string(m: &[u8], p: usize) -> Reached<Option<Span>>
     requires { p ≤ length m.now }
-    ensures steps { ExactlyAt (λ x. maybe_bytes_in (named_in m.now) x) m.now result (step (spaced envelopes.byte_string) (drop p m.now)) }
+    ensures steps { ExactlyAt (λ x. maybe_bytes_in (named_in m.now) x) m.now result
+        (step (spaced envelopes.byte_string) (drop p m.now)) }
     ensures ahead { Ahead m.now p result }
     ensures inside { MaybeInside p result }
     ensures rests { RestsOn maybe_bytes_in result }
@@ -52,7 +54,8 @@ pub fn spaced_byte_string(m: &[u8], p: usize) -> Reached<Option<Span>>
 #[inline(always)]
 pub fn string_text(m: &[u8], p: usize) -> Reached<SpannedText>
     requires { p ≤ length m.now }
-    ensures steps { ExactlyAt (λ x. text_in (named_in m.now) x) m.now result (step texts.string_utf8 (drop p m.now)) }
+    ensures steps { ExactlyAt (λ x. text_in (named_in m.now) x) m.now result
+        (step texts.string_utf8 (drop p m.now)) }
     ensures ahead { Ahead m.now p result }
     ensures rests { RestsOn text_in result }
     ensures no_failure { NeverFails result }
@@ -65,7 +68,8 @@ pub fn string_text(m: &[u8], p: usize) -> Reached<SpannedText>
 #[inline(always)]
 pub fn spaced_string_text(m: &[u8], p: usize) -> Reached<SpannedText>
     requires { p ≤ length m.now }
-    ensures steps { ExactlyAt (λ x. text_in (named_in m.now) x) m.now result (step (spaced texts.string_utf8) (drop p m.now)) }
+    ensures steps { ExactlyAt (λ x. text_in (named_in m.now) x) m.now result
+        (step (spaced texts.string_utf8) (drop p m.now)) }
     ensures ahead { Ahead m.now p result }
     ensures rests { RestsOn text_in result }
     ensures no_failure { NeverFails result }
@@ -79,7 +83,8 @@ pub fn spaced_string_text(m: &[u8], p: usize) -> Reached<SpannedText>
 #[tactic(auto, unfolding(imap_bytes::specs::Texts::nstring_utf8))]
 pub fn nstring_text(m: &[u8], p: usize) -> Reached<Option<SpannedText>>
     requires { p ≤ length m.now }
-    ensures steps { ExactlyAt (λ x. maybe_text_in (named_in m.now) x) m.now result (step texts.nstring_utf8 (drop p m.now)) }
+    ensures steps { ExactlyAt (λ x. maybe_text_in (named_in m.now) x) m.now result
+        (step texts.nstring_utf8 (drop p m.now)) }
     ensures ahead { Ahead m.now p result }
     ensures rests { RestsOn maybe_text_in result }
     ensures no_failure { NeverFails result }
@@ -93,7 +98,8 @@ pub fn nstring_text(m: &[u8], p: usize) -> Reached<Option<SpannedText>>
 #[inline(always)]
 pub fn spaced_nstring_text(m: &[u8], p: usize) -> Reached<Option<SpannedText>>
     requires { p ≤ length m.now }
-    ensures steps { ExactlyAt (λ x. maybe_text_in (named_in m.now) x) m.now result (step (spaced texts.nstring_utf8) (drop p m.now)) }
+    ensures steps { ExactlyAt (λ x. maybe_text_in (named_in m.now) x) m.now result
+        (step (spaced texts.nstring_utf8) (drop p m.now)) }
     ensures ahead { Ahead m.now p result }
     ensures rests { RestsOn maybe_text_in result }
     ensures no_failure { NeverFails result }

@@ -38,7 +38,8 @@ fn acl_entries(alloc: Global, i: &[u8]) -> IResult<&[u8], Vec<AclEntry<'_>>>
 
 /// `ACL`, a mailbox, and the rights of each identifier on it, maybe of none (RFC 4314, section 7: acl-data).
 ///
-/// It takes memory for them, and for texts that are not UTF-8.
+/// Any other word, or no mailbox behind it, is `Error`; the entries end before one that is denied. It takes memory for
+/// them, and for texts that are not UTF-8.
 #[tactic(auto, using(imap_grammar::proofs::Agreement::answered), unfolding(crate::specs::Acls::acl))]
 pub fn acl(alloc: Global, i: &[u8]) -> IResult<&[u8], Acl<'_>>
     ensures steps { Gives (λ x. acl_value x) result (step rules.acl i.now) }
@@ -53,7 +54,8 @@ pub fn acl(alloc: Global, i: &[u8]) -> IResult<&[u8], Acl<'_>>
 }
 
 fn right_groups(alloc: Global, i: &[u8]) -> IResult<&[u8], Vec<Vec<AclRight>>>
-    ensures { Gives (λ x. map (λ group. group.items) x.items) result (step rules.right_groups i.now) }
+    ensures { Gives (λ x. map (λ group. group.items) x.items) result
+        (step rules.right_groups i.now) }
 {
     let group = |i|
         ensures { Gives (λ x. x.items) result (step letters.rights i.entry.now) }
@@ -106,7 +108,7 @@ fn list_rights_parts(alloc: Global, i: &[u8]) -> IResult<&[u8], ListRights<'_>>
 /// `LISTRIGHTS`, a mailbox, an identifier, the rights that it always has there, and those that it may be granted, in
 /// order (RFC 4314, section 7: listrights-data).
 ///
-/// It takes memory for them, and for texts that are not UTF-8.
+/// Any other word, or a part that is missing, is `Error`. It takes memory for them, and for texts that are not UTF-8.
 #[tactic(auto, using(imap_grammar::proofs::Agreement::answered))]
 pub fn list_rights(alloc: Global, i: &[u8]) -> IResult<&[u8], ListRights<'_>>
     ensures steps { Gives (λ x. list_rights_value x) result (step rules.list_rights i.now) }
@@ -129,7 +131,7 @@ fn my_rights_parts(alloc: Global, i: &[u8]) -> IResult<&[u8], MyRights<'_>>
 
 /// `MYRIGHTS`, a mailbox, and the client's own rights on it (RFC 4314, section 7: myrights-data).
 ///
-/// It takes memory for them, and for texts that are not UTF-8.
+/// Any other word, or a part that is missing, is `Error`. It takes memory for them, and for texts that are not UTF-8.
 #[tactic(auto, using(imap_grammar::proofs::Agreement::answered))]
 pub fn my_rights(alloc: Global, i: &[u8]) -> IResult<&[u8], MyRights<'_>>
     ensures steps { Gives (λ x. my_rights_value x) result (step rules.my_rights i.now) }

@@ -149,7 +149,8 @@ fn owned_string(alloc: Global, text: CowStr<'_>) -> Result<String, AllocError>
 }
 
 fn owned_value(alloc: Global, value: Option<CowStr<'_>>) -> Result<Option<String>, AllocError>
-    ensures { IfOk result (λ v. option_map string_bytes v ≡ option_map rules.bytes_in (option_map text_of value.entry)) }
+    ensures { IfOk result (λ v.
+        option_map string_bytes v ≡ option_map rules.bytes_in (option_map text_of value.entry)) }
 {
     match value {
         None => Ok(None),
@@ -183,7 +184,8 @@ fn metadata_mailbox_parts(alloc: Global, i: &[u8]) -> IResult<&[u8], CowStr<'_>>
 /// `METADATA`, the mailbox in quotes, empty for the server, and a space: what stands before annotations or entries
 /// (RFC 5464, section 5: metadata-resp).
 ///
-/// It takes memory only where the mailbox is not UTF-8.
+/// Any other word, a mailbox without quotes, or no space behind it, is `Error`. It takes memory only where the mailbox
+/// is not UTF-8.
 #[tactic(auto, using(imap_grammar::proofs::Agreement::answered))]
 pub fn metadata_mailbox(alloc: Global, i: &[u8]) -> IResult<&[u8], CowStr<'_>>
     ensures steps { Gives (λ x. text_of x) result (step rules.metadata_mailbox i.now) }

@@ -48,7 +48,8 @@ fn maybe_next_pair(alloc: Global, i: &[u8]) -> IResult<&[u8], Option<IdPair<'_>>
 
 // A pair without a value is dropped.
 fn put_pair<'a>(map: &mut IdMap<'a>, pair: IdPair<'a>) -> Result<(), AllocError>
-    ensures { OnOk result (id_value map.new ≡ put_value (id_value map.old) (pair_value pair.entry)) }
+    ensures { OnOk result
+        (id_value map.new ≡ put_value (id_value map.old) (pair_value pair.entry)) }
 {
     match pair {
         (key, Some(value)) => put(map, key, value),
@@ -114,7 +115,8 @@ fn id_params(alloc: Global, i: &[u8]) -> IResult<&[u8], Option<IdMap<'_>>>
 /// `ID`, and fields with their values, or `NIL` (RFC 2971, section 4: id_response).
 ///
 /// A field whose value is `NIL` is left out, and of equal fields the last counts. `NIL` in place of the list is `None`.
-/// It takes memory for the map, and for texts that are not UTF-8; for `NIL` none.
+/// Any other word, and behind it neither fields in parentheses nor `NIL`, is `Error`. It takes memory for the map, and
+/// for texts that are not UTF-8; for `NIL` none.
 #[tactic(auto, using(imap_grammar::proofs::Agreement::answered), unfolding(crate::specs::Ids::id))]
 pub fn id(alloc: Global, i: &[u8]) -> IResult<&[u8], Option<IdMap<'_>>>
     ensures steps { Gives (option_map id_value) result (step ids.id i.now) }

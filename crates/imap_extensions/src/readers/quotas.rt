@@ -16,7 +16,8 @@ use std::borrow::CowStr;
 
 #[tactic(auto, unfolding(crate::specs::Quotas::quota_resource_name))]
 fn quota_resource_name(alloc: Global, i: &[u8]) -> IResult<&[u8], QuotaResourceName<'_>>
-    ensures { Gives (λ x. quota_resource_name_value x) result (step quotas.quota_resource_name i.now) }
+    ensures { Gives (λ x. quota_resource_name_value x) result
+        (step quotas.quota_resource_name i.now) }
 {
     named!(b"STORAGE", i, QuotaResourceName::Storage);
     named!(b"MESSAGE", i, QuotaResourceName::Message);
@@ -37,10 +38,12 @@ fn quota_resource(alloc: Global, i: &[u8]) -> IResult<&[u8], QuotaResource<'_>>
 }
 
 fn quota_resources(alloc: Global, i: &[u8]) -> IResult<&[u8], Vec<QuotaResource<'_>>>
-    ensures { Gives (λ x. map quota_resource_value x.items) result (step quotas.quota_resources i.now) }
+    ensures { Gives (λ x. map quota_resource_value x.items) result
+        (step quotas.quota_resources i.now) }
 {
     let resource = |i|
-        ensures { Gives (λ x. quota_resource_value x) result (step quotas.quota_resource i.entry.now) }
+        ensures { Gives (λ x. quota_resource_value x) result
+            (step quotas.quota_resource i.entry.now) }
     { quota_resource(alloc, i) };
     maybe_separated(alloc, Separator::Blanks, resource, i)
 }
@@ -120,7 +123,8 @@ fn quota_root_parts(alloc: Global, i: &[u8]) -> IResult<&[u8], QuotaRoot<'_>>
 
 /// `QUOTAROOT`, a mailbox, and its quota roots, maybe none (RFC 2087, section 6: quotaroot_response).
 ///
-/// It takes memory for the roots, and for texts that are not UTF-8.
+/// Any other word, or no mailbox behind it, is `Error`; the roots end before one that is denied. It takes memory for
+/// the roots, and for texts that are not UTF-8.
 #[tactic(auto, using(imap_grammar::proofs::Agreement::answered))]
 pub fn quota_root(alloc: Global, i: &[u8]) -> IResult<&[u8], QuotaRoot<'_>>
     ensures steps { Gives (λ x. quota_root_value x) result (step quotas.quota_root i.now) }

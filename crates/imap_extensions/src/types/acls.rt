@@ -55,7 +55,8 @@ pub struct MyRights<'a> {
 impl<'a> AclEntry<'a> {
     /// The same entry with its text owned. It takes memory only where that is borrowed; `Err`: memory ran out.
     pub fn into_owned(self, alloc: Global) -> Result<AclEntry<'static>, AllocError>
-        ensures { IfOk result (λ entry. acl_entry_value entry ≡ owned_acl_entry (acl_entry_value self.entry)) }
+        ensures { IfOk result (λ entry.
+            acl_entry_value entry ≡ owned_acl_entry (acl_entry_value self.entry)) }
     {
         let AclEntry { identifier, rights } = self;
         Ok(AclEntry {
@@ -69,7 +70,9 @@ fn owned_entries(
     alloc: Global,
     entries: Vec<AclEntry<'_>>,
 ) -> Result<Vec<AclEntry<'static>>, AllocError>
-    ensures { IfOk result (λ v. map acl_entry_value v.items ≡ map owned_acl_entry (map acl_entry_value entries.entry.items)) }
+    ensures { IfOk result (λ v.
+        map acl_entry_value v.items
+        ≡ map owned_acl_entry (map acl_entry_value entries.entry.items)) }
 {
     let mut owned = Vec::with_capacity(alloc, entries.len())?;
     for entry in entries {
@@ -93,7 +96,8 @@ impl<'a> Acl<'a> {
 impl<'a> ListRights<'a> {
     /// The same rights with all texts owned. It takes memory only for borrowed texts; `Err`: memory ran out.
     pub fn into_owned(self, alloc: Global) -> Result<ListRights<'static>, AllocError>
-        ensures { IfOk result (λ rights. list_rights_value rights ≡ owned_list_rights (list_rights_value self.entry)) }
+        ensures { IfOk result (λ rights.
+            list_rights_value rights ≡ owned_list_rights (list_rights_value self.entry)) }
     {
         Ok(ListRights {
             mailbox: owned_text(alloc, self.mailbox)?,
@@ -108,7 +112,8 @@ impl<'a> MyRights<'a> {
     /// The same rights with the mailbox's name owned. It takes memory only where that is borrowed; `Err`: memory ran
     /// out.
     pub fn into_owned(self, alloc: Global) -> Result<MyRights<'static>, AllocError>
-        ensures { IfOk result (λ rights. my_rights_value rights ≡ owned_my_rights (my_rights_value self.entry)) }
+        ensures { IfOk result (λ rights.
+            my_rights_value rights ≡ owned_my_rights (my_rights_value self.entry)) }
     {
         Ok(MyRights {
             mailbox: owned_text(alloc, self.mailbox)?,

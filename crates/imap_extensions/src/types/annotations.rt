@@ -39,7 +39,8 @@ fn copied_value(value: &Option<String>) -> Result<Option<String>, AllocError>
 
 /// The same annotations. It takes memory for the list and for the texts; `Err`: memory ran out.
 pub fn copied_annotations(annotations: &Vec<Metadata>) -> Result<Vec<Metadata>, AllocError>
-    ensures { IfOk result (λ v. map metadata_value v.items ≡ map metadata_value annotations.now.items) }
+    ensures { IfOk result (λ v.
+        map metadata_value v.items ≡ map metadata_value annotations.now.items) }
 {
     let mut copy = Vec::with_capacity(*annotations.allocator(), annotations.len())?;
     for annotation in annotations {

@@ -3,8 +3,7 @@
 ghost use Rattle.std.specs.Prelude.{◌≡◌, IfOk, OnOk};
 ghost use Rattle.std.specs.FinMap.{insert};
 ghost use Rattle.std.specs.Cow.{cow_str_bytes};
-ghost use Rattle.imap_grammar.specs.Text.{text_of};
-ghost use Rattle.imap_items.specs.Owned.{owned_text as owned};
+ghost use Rattle.imap_grammar.specs.Text.{text_of, owned_text as owned};
 ghost use Rattle.imap_extensions.specs.Ids.{id_value};
 ghost use Rattle.imap_extensions.specs.Owned.{owned_id};
 
@@ -22,7 +21,9 @@ pub(crate) fn put<'a>(
     key: CowStr<'a>,
     value: CowStr<'a>,
 ) -> Result<(), AllocError>
-    ensures { OnOk result (id_value map.new ≡ insert (id_value map.old) (cow_str_bytes key.entry) (text_of value.entry)) }
+    ensures { OnOk result
+        (id_value map.new
+        ≡ insert (id_value map.old) (cow_str_bytes key.entry) (text_of value.entry)) }
 {
     map.insert(key, value)?;
     Ok(())
@@ -34,7 +35,9 @@ fn put_owned(
     key: CowStr<'_>,
     value: CowStr<'_>,
 ) -> Result<(), AllocError>
-    ensures { OnOk result (id_value map.new ≡ insert (id_value map.old) (cow_str_bytes key.entry) (owned (text_of value.entry))) }
+    ensures { OnOk result
+        (id_value map.new
+        ≡ insert (id_value map.old) (cow_str_bytes key.entry) (owned (text_of value.entry))) }
 {
     let key = owned_text(alloc, key)?;
     let value = owned_text(alloc, value)?;

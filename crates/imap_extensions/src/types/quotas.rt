@@ -53,7 +53,8 @@ pub struct QuotaRoot<'a> {
 impl<'a> QuotaResourceName<'a> {
     /// The same name. It takes memory only for an owned text; `Err`: memory ran out.
     pub fn clone(&self) -> Result<Self, AllocError>
-        ensures same { IfOk result (λ copy. quota_resource_name_value copy ≡ quota_resource_name_value self.now) }
+        ensures same { IfOk result (λ copy.
+            quota_resource_name_value copy ≡ quota_resource_name_value self.now) }
         ensures memory { IsLentName (quota_resource_name_value self.now) → IsOk result }
     {
         Ok(match self {
@@ -65,7 +66,9 @@ impl<'a> QuotaResourceName<'a> {
 
     /// The same name with its text owned. It takes memory only where that is borrowed; `Err`: memory ran out.
     pub fn into_owned(self, alloc: Global) -> Result<QuotaResourceName<'static>, AllocError>
-        ensures { IfOk result (λ name. quota_resource_name_value name ≡ owned_quota_resource_name (quota_resource_name_value self.entry)) }
+        ensures { IfOk result (λ name.
+            quota_resource_name_value name
+            ≡ owned_quota_resource_name (quota_resource_name_value self.entry)) }
     {
         Ok(match self {
             QuotaResourceName::Storage => QuotaResourceName::Storage,
@@ -78,7 +81,8 @@ impl<'a> QuotaResourceName<'a> {
 impl<'a> QuotaResource<'a> {
     /// The same resource. It takes memory only for an owned text; `Err`: memory ran out.
     pub fn clone(&self) -> Result<Self, AllocError>
-        ensures same { IfOk result (λ copy. quota_resource_value copy ≡ quota_resource_value self.now) }
+        ensures same { IfOk result (λ copy.
+            quota_resource_value copy ≡ quota_resource_value self.now) }
         ensures memory { IsLentName (quota_resource_name_value self.now.name) → IsOk result }
     {
         Ok(QuotaResource {
@@ -90,7 +94,9 @@ impl<'a> QuotaResource<'a> {
 
     /// The same resource with its text owned. It takes memory only where that is borrowed; `Err`: memory ran out.
     pub fn into_owned(self, alloc: Global) -> Result<QuotaResource<'static>, AllocError>
-        ensures { IfOk result (λ resource. quota_resource_value resource ≡ owned_quota_resource (quota_resource_value self.entry)) }
+        ensures { IfOk result (λ resource.
+            quota_resource_value resource
+            ≡ owned_quota_resource (quota_resource_value self.entry)) }
     {
         let QuotaResource { name, usage, limit } = self;
         Ok(QuotaResource {
@@ -104,7 +110,8 @@ impl<'a> QuotaResource<'a> {
 fn copied_resources<'a>(
     resources: &Vec<QuotaResource<'a>>,
 ) -> Result<Vec<QuotaResource<'a>>, AllocError>
-    ensures { IfOk result (λ v. map quota_resource_value v.items ≡ map quota_resource_value resources.now.items) }
+    ensures { IfOk result (λ v.
+        map quota_resource_value v.items ≡ map quota_resource_value resources.now.items) }
 {
     let mut copies = Vec::with_capacity(*resources.allocator(), resources.len())?;
     for resource in resources {
@@ -117,7 +124,9 @@ fn owned_resources(
     alloc: Global,
     resources: Vec<QuotaResource<'_>>,
 ) -> Result<Vec<QuotaResource<'static>>, AllocError>
-    ensures { IfOk result (λ v. map quota_resource_value v.items ≡ map owned_quota_resource (map quota_resource_value resources.entry.items)) }
+    ensures { IfOk result (λ v.
+        map quota_resource_value v.items
+        ≡ map owned_quota_resource (map quota_resource_value resources.entry.items)) }
 {
     let mut owned = Vec::with_capacity(alloc, resources.len())?;
     for resource in resources {
@@ -163,7 +172,8 @@ impl<'a> QuotaRoot<'a> {
     /// The same roots with all texts owned. It takes memory for the list of them, and for borrowed texts; `Err`: memory
     /// ran out.
     pub fn into_owned(self, alloc: Global) -> Result<QuotaRoot<'static>, AllocError>
-        ensures { IfOk result (λ root. quota_root_value root ≡ owned_quota_root (quota_root_value self.entry)) }
+        ensures { IfOk result (λ root.
+            quota_root_value root ≡ owned_quota_root (quota_root_value self.entry)) }
     {
         Ok(QuotaRoot {
             mailbox_name: owned_text(alloc, self.mailbox_name)?,

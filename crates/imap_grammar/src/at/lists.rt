@@ -21,7 +21,8 @@ const ROOM: usize = 8;
 
 fn read_separator(between: Separator, m: &[u8], p: usize) -> Reached<Span>
     requires { p ≤ length m.now }
-    ensures steps { ExactlyAt (λ x. named_in m.now x) m.now result (step (separator_rule between) (drop p m.now)) }
+    ensures steps { ExactlyAt (λ x. named_in m.now x) m.now result
+        (step (separator_rule between) (drop p m.now)) }
     ensures ahead { Ahead m.now p result }
 {
     match between {
@@ -41,7 +42,8 @@ fn next_item<O: Drop, F: Fn(usize) -> Reached<O>>(
     requires start { p ≤ length m.now }
     requires may { (k : ℕ) → k ≤ length m.now → F.pre f.now k }
     requires advances { Advances m.now (F.post f.now) }
-    ensures follows { FollowsAt (behind_means (meaning (separator_rule between))) (F.post f.now) (λ x. x) m.now p result }
+    ensures follows { FollowsAt (behind_means (meaning (separator_rule between))) (F.post f.now)
+        (λ x. x) m.now p result }
     ensures onward { Onward m.now p result }
 {
     let (q, _) = read_separator(between, m, p)?;
@@ -71,7 +73,8 @@ pub fn repeated<O: Drop, F: Fn(usize) -> Reached<O>>(
     requires start { p ≤ length m.now }
     requires may { (k : ℕ) → k ≤ length m.now → F.pre f k }
     requires advances { Advances m.now (F.post f) }
-    ensures follows { FollowsAt (λ a. or_memory (many_means a)) (F.post f) (λ x. x.items) m.now p result }
+    ensures follows { FollowsAt (λ a. or_memory (many_means a)) (F.post f) (λ x. x.items) m.now p
+        result }
     ensures ahead { Ahead m.now p result }
 {
     let mut q = p;
@@ -97,7 +100,8 @@ pub fn separated<O: Drop, F: Fn(usize) -> Reached<O>>(
     requires start { p ≤ length m.now }
     requires may { (k : ℕ) → k ≤ length m.now → F.pre f k }
     requires advances { Advances m.now (F.post f) }
-    ensures follows { FollowsAt (λ a. or_memory (list1_means (meaning (separator_rule between)) a)) (F.post f) (λ x. x.items) m.now p result }
+    ensures follows { FollowsAt (λ a. or_memory (list1_means (meaning (separator_rule between)) a))
+        (F.post f) (λ x. x.items) m.now p result }
     ensures ahead { Ahead m.now p result }
 {
     let (mut q, first) = f(p)?;
@@ -124,7 +128,8 @@ pub fn maybe_separated<O: Drop, F: Fn(usize) -> Reached<O>>(
     requires start { p ≤ length m.now }
     requires may { (k : ℕ) → k ≤ length m.now → F.pre f k }
     requires advances { Advances m.now (F.post f) }
-    ensures follows { FollowsAt (λ a. or_memory (list0_means (meaning (separator_rule between)) a)) (F.post f) (λ x. x.items) m.now p result }
+    ensures follows { FollowsAt (λ a. or_memory (list0_means (meaning (separator_rule between)) a))
+        (F.post f) (λ x. x.items) m.now p result }
     ensures ahead { Ahead m.now p result }
 {
     match tried(separated(alloc, between, f, m, p))? {
@@ -146,7 +151,8 @@ pub fn parenthesized_list<O: Drop, F: Fn(usize) -> Reached<O>>(
     requires start { p ≤ length m.now }
     requires may { (k : ℕ) → k ≤ length m.now → F.pre f k }
     requires advances { Advances m.now (F.post f) }
-    ensures follows { FollowsAt (λ a. or_memory (list_means a)) (F.post f) (λ x. x.items) m.now p result }
+    ensures follows { FollowsAt (λ a. or_memory (list_means a)) (F.post f) (λ x. x.items) m.now p
+        result }
     ensures ahead { Ahead m.now p result }
 {
     let (p, _) = tag(b"(", m, p)?;
@@ -170,7 +176,8 @@ pub fn parenthesized_nonempty_list<O: Drop, F: Fn(usize) -> Reached<O>>(
     requires start { p ≤ length m.now }
     requires may { (k : ℕ) → k ≤ length m.now → F.pre f k }
     requires advances { Advances m.now (F.post f) }
-    ensures follows { FollowsAt (λ a. or_memory (nonempty_list_means a)) (F.post f) (λ x. x.items) m.now p result }
+    ensures follows { FollowsAt (λ a. or_memory (nonempty_list_means a)) (F.post f) (λ x. x.items)
+        m.now p result }
     ensures ahead { Ahead m.now p result }
 {
     let (p, _) = tag(b"(", m, p)?;

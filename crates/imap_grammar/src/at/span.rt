@@ -76,7 +76,9 @@ pub fn rest(m: &[u8], p: usize) -> &[u8]
 /// length.
 pub fn sliced(m: &[u8], reached: Reached<Span>) -> IResult<&[u8], &[u8]>
     requires { Inside m.now 0 reached }
-    ensures steps { (s : Step (List ℕ)) → ExactlyAt (λ x. named_in m.now x) m.now reached s → Exactly (λ x. x.now) result s }
+    ensures steps { (s : Step (List ℕ)) →
+        ExactlyAt (λ x. named_in m.now x) m.now reached s →
+        Exactly (λ x. x.now) result s }
     ensures no_failure { NeverFails reached → NeverFails result }
 {
     match reached {

@@ -43,7 +43,8 @@ fn agrees_in_any_case(word: &[u8], i: &[u8]) -> bool
 #[inline(always)]
 pub fn tag(text: &[u8], m: &[u8], p: usize) -> Reached<Span>
     requires { p ≤ length m.now }
-    ensures steps { ExactlyAt (λ x. named_in m.now x) m.now result (step (tag_by ◌==◌ text.now) (drop p m.now)) }
+    ensures steps { ExactlyAt (λ x. named_in m.now x) m.now result
+        (step (tag_by ◌==◌ text.now) (drop p m.now)) }
     ensures inside { Inside m.now p result }
     ensures no_failure { NeverFails result }
 {
@@ -66,7 +67,8 @@ pub fn tag(text: &[u8], m: &[u8], p: usize) -> Reached<Span>
 #[tactic(auto, using(crate::proofs::Positions::stepped, crate::proofs::Positions::zip_cut), unfolding(crate::specs::Step::tag_step))]
 pub fn word(text: &[u8], m: &[u8], p: usize) -> Reached<Span>
     requires { p ≤ length m.now }
-    ensures steps { ExactlyAt (λ x. named_in m.now x) m.now result (step (tag_by same_letter text.now) (drop p m.now)) }
+    ensures steps { ExactlyAt (λ x. named_in m.now x) m.now result
+        (step (tag_by same_letter text.now) (drop p m.now)) }
     ensures inside { Inside m.now p result }
     ensures no_failure { NeverFails result }
 {
@@ -88,7 +90,8 @@ pub fn word(text: &[u8], m: &[u8], p: usize) -> Reached<Span>
 /// A space, or nothing. No memory.
 pub fn maybe_space(m: &[u8], p: usize) -> Reached<Option<Span>>
     requires { p ≤ length m.now }
-    ensures steps { ExactlyAt (λ x. maybe_in m.now x) m.now result (step tags.maybe_space (drop p m.now)) }
+    ensures steps { ExactlyAt (λ x. maybe_in m.now x) m.now result
+        (step tags.maybe_space (drop p m.now)) }
     ensures ahead { Ahead m.now p result }
     ensures inside { MaybeInside p result }
     ensures no_failure { NeverFails result }
@@ -103,7 +106,9 @@ pub fn maybe_space(m: &[u8], p: usize) -> Reached<Option<Span>>
 #[tactic(auto, using(crate::proofs::Positions::stepped), unfolding(crate::specs::Step::run0_step))]
 pub fn cut0(end: Option<usize>, m: &[u8], p: usize) -> Reached<Span>
     requires { ForSome end (λ n. p + n < length m.now) }
-    ensures steps { (class : ℕ → Bool) → end ≡ position (outside class) (drop p m.now) → ExactlyAt (λ x. named_in m.now x) m.now result (step (run0 class) (drop p m.now)) }
+    ensures steps { (class : ℕ → Bool) →
+        end ≡ position (outside class) (drop p m.now) →
+        ExactlyAt (λ x. named_in m.now x) m.now result (step (run0 class) (drop p m.now)) }
     ensures inside { Inside m.now p result }
     ensures no_failure { NeverFails result }
 {
@@ -123,7 +128,9 @@ pub fn cut0(end: Option<usize>, m: &[u8], p: usize) -> Reached<Span>
 /// one, must be a place in m: p and `end` together are below m's length.
 pub fn cut1(end: Option<usize>, m: &[u8], p: usize) -> Reached<Span>
     requires { ForSome end (λ n. p + n < length m.now) }
-    ensures steps { (class : ℕ → Bool) → end ≡ position (outside class) (drop p m.now) → ExactlyAt (λ x. named_in m.now x) m.now result (step (run1 class) (drop p m.now)) }
+    ensures steps { (class : ℕ → Bool) →
+        end ≡ position (outside class) (drop p m.now) →
+        ExactlyAt (λ x. named_in m.now x) m.now result (step (run1 class) (drop p m.now)) }
     ensures inside { Inside m.now p result }
     ensures no_failure { NeverFails result }
 {
@@ -147,7 +154,8 @@ fn blanks_end(i: &[u8]) -> Option<usize>
 /// Spaces and tabs, maybe none. No memory.
 pub fn blanks0(m: &[u8], p: usize) -> Reached<Span>
     requires { p ≤ length m.now }
-    ensures steps { ExactlyAt (λ x. named_in m.now x) m.now result (step tags.blanks0 (drop p m.now)) }
+    ensures steps { ExactlyAt (λ x. named_in m.now x) m.now result
+        (step tags.blanks0 (drop p m.now)) }
     ensures inside { Inside m.now p result }
     ensures no_failure { NeverFails result }
 {
@@ -158,7 +166,8 @@ pub fn blanks0(m: &[u8], p: usize) -> Reached<Span>
 /// Spaces and tabs, at least one. No memory.
 pub fn blanks1(m: &[u8], p: usize) -> Reached<Span>
     requires { p ≤ length m.now }
-    ensures steps { ExactlyAt (λ x. named_in m.now x) m.now result (step tags.blanks1 (drop p m.now)) }
+    ensures steps { ExactlyAt (λ x. named_in m.now x) m.now result
+        (step tags.blanks1 (drop p m.now)) }
     ensures inside { Inside m.now p result }
     ensures no_failure { NeverFails result }
 {

@@ -20,7 +20,8 @@ use std::alloc::Global;
 #[inline(always)]
 fn backslashed(m: &[u8], p: usize) -> Reached<Span>
     requires { p ≤ length m.now }
-    ensures steps { ExactlyAt (λ x. named_in m.now x) m.now result (step flags.backslashed (drop p m.now)) }
+    ensures steps { ExactlyAt (λ x. named_in m.now x) m.now result
+        (step flags.backslashed (drop p m.now)) }
     ensures inside { Inside m.now p result }
     ensures no_failure { NeverFails result }
 {
@@ -33,7 +34,8 @@ fn backslashed(m: &[u8], p: usize) -> Reached<Span>
 #[inline(always)]
 pub(crate) fn backslashed_text(m: &[u8], p: usize) -> Reached<&str>
     requires { p ≤ length m.now }
-    ensures steps { ExactlyAt (λ x. x.now) m.now result (step flags.backslashed_text (drop p m.now)) }
+    ensures steps { ExactlyAt (λ x. x.now) m.now result
+        (step flags.backslashed_text (drop p m.now)) }
     ensures ahead { Ahead m.now p result }
     ensures no_failure { NeverFails result }
 {
@@ -74,7 +76,8 @@ pub(crate) fn flag(m: &[u8], p: usize) -> Reached<&str>
 #[inline(always)]
 fn star(m: &[u8], p: usize) -> Reached<&str>
     requires { p ≤ length m.now }
-    ensures steps { ExactlyAt (λ x. x.now) m.now result (step (exactly_names "\\*" (codes "\\*")) (drop p m.now)) }
+    ensures steps { ExactlyAt (λ x. x.now) m.now result
+        (step (exactly_names "\\*" (codes "\\*")) (drop p m.now)) }
     ensures ahead { Ahead m.now p result }
     ensures no_failure { NeverFails result }
 {
@@ -98,7 +101,8 @@ pub(crate) fn flag_perm(m: &[u8], p: usize) -> Reached<&str>
 #[tactic(auto, using(crate::proofs::Spanned::flag_perm_there), unfolding(crate::specs::Flags::flag_text))]
 fn flag_text(m: &[u8], p: usize) -> Reached<Span>
     requires { p ≤ length m.now }
-    ensures steps { ExactlyAt (λ x. decoded_in m.now x) m.now result (step flags.flag_text (drop p m.now)) }
+    ensures steps { ExactlyAt (λ x. decoded_in m.now x) m.now result
+        (step flags.flag_text (drop p m.now)) }
     ensures inside { Inside m.now p result }
 {
     let (q, _) = flag_perm(m, p)?;
@@ -110,14 +114,17 @@ fn flag_text(m: &[u8], p: usize) -> Reached<Span>
 /// It takes memory for the list, and for no text. Bytes that are not UTF-8 are `Error`.
 pub fn flag_list(alloc: Global, m: &[u8], p: usize) -> Reached<Vec<Span>>
     requires { p ≤ length m.now }
-    ensures steps { GivesAt (λ x. map (decoded_in m.now) x.items) m.now result (step flags.flag_list (drop p m.now)) }
-    ensures answer { AnswersAt flags.flag_list (λ x. map (decoded_in m.now) x.items) m.now p result }
+    ensures steps { GivesAt (λ x. map (decoded_in m.now) x.items) m.now result
+        (step flags.flag_list (drop p m.now)) }
+    ensures answer { AnswersAt flags.flag_list (λ x. map (decoded_in m.now) x.items) m.now p
+        result }
     ensures ahead { Ahead m.now p result }
     ensures inside { EachInside p result }
 {
     let item = |k: usize|
         requires { k ≤ length m.now }
-        ensures steps { ExactlyAt (λ x. decoded_in m.entry.now x) m.entry.now result (step flags.flag_text (drop k m.entry.now)) }
+        ensures steps { ExactlyAt (λ x. decoded_in m.entry.now x) m.entry.now result
+            (step flags.flag_text (drop k m.entry.now)) }
         ensures inside { Inside m.entry.now k result }
     { flag_text(m, k) };
     parenthesized_list(alloc, item, m, p)

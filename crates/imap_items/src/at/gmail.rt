@@ -19,7 +19,8 @@ use std::alloc::Global;
 #[tactic(auto, using(crate::proofs::Spanned::flag_there))]
 fn flag_label(m: &[u8], p: usize) -> Reached<Span>
     requires { p ≤ length m.now }
-    ensures steps { ExactlyAt (λ x. decoded_in m.now x) m.now result (step rules.flag_label (drop p m.now)) }
+    ensures steps { ExactlyAt (λ x. decoded_in m.now x) m.now result
+        (step rules.flag_label (drop p m.now)) }
     ensures inside { Inside m.now p result }
 {
     let (q, _) = flag(m, p)?;
@@ -29,7 +30,8 @@ fn flag_label(m: &[u8], p: usize) -> Reached<Span>
 #[tactic(auto, unfolding(imap_bytes::specs::Texts::quoted_utf8))]
 fn quoted_label(m: &[u8], p: usize) -> Reached<Span>
     requires { p ≤ length m.now }
-    ensures steps { ExactlyAt (λ x. decoded_in m.now x) m.now result (step texts.quoted_utf8 (drop p m.now)) }
+    ensures steps { ExactlyAt (λ x. decoded_in m.now x) m.now result
+        (step texts.quoted_utf8 (drop p m.now)) }
     ensures inside { Inside m.now p result }
 {
     quoted(m, p)
@@ -39,7 +41,8 @@ fn quoted_label(m: &[u8], p: usize) -> Reached<Span>
 #[tactic(auto, unfolding(crate::specs::Gmail::gmail_label))]
 pub(crate) fn gmail_label(m: &[u8], p: usize) -> Reached<Span>
     requires { p ≤ length m.now }
-    ensures steps { ExactlyAt (λ x. decoded_in m.now x) m.now result (step rules.gmail_label (drop p m.now)) }
+    ensures steps { ExactlyAt (λ x. decoded_in m.now x) m.now result
+        (step rules.gmail_label (drop p m.now)) }
     ensures inside { Inside m.now p result }
 {
     first!(flag_label(m, p));
@@ -48,13 +51,15 @@ pub(crate) fn gmail_label(m: &[u8], p: usize) -> Reached<Span>
 
 fn gmail_labels(alloc: Global, m: &[u8], p: usize) -> Reached<Vec<Span>>
     requires { p ≤ length m.now }
-    ensures steps { GivesAt (λ x. map (decoded_in m.now) x.items) m.now result (step rules.gmail_labels (drop p m.now)) }
+    ensures steps { GivesAt (λ x. map (decoded_in m.now) x.items) m.now result
+        (step rules.gmail_labels (drop p m.now)) }
     ensures ahead { Ahead m.now p result }
     ensures inside { EachInside p result }
 {
     let label = |k: usize|
         requires { k ≤ length m.now }
-        ensures steps { ExactlyAt (λ x. decoded_in m.entry.now x) m.entry.now result (step rules.gmail_label (drop k m.entry.now)) }
+        ensures steps { ExactlyAt (λ x. decoded_in m.entry.now x) m.entry.now result
+            (step rules.gmail_label (drop k m.entry.now)) }
         ensures inside { Inside m.entry.now k result }
     { gmail_label(m, k) };
     parenthesized_list(alloc, label, m, p)
@@ -63,7 +68,8 @@ fn gmail_labels(alloc: Global, m: &[u8], p: usize) -> Reached<Vec<Span>>
 #[tactic(auto, unfolding(crate::specs::Gmail::gmail_label_list))]
 fn labels(alloc: Global, m: &[u8], p: usize) -> Reached<Vec<Span>>
     requires { p ≤ length m.now }
-    ensures steps { GivesAt (λ x. map (decoded_in m.now) x.items) m.now result (step rules.gmail_label_list (drop p m.now)) }
+    ensures steps { GivesAt (λ x. map (decoded_in m.now) x.items) m.now result
+        (step rules.gmail_label_list (drop p m.now)) }
     ensures ahead { Ahead m.now p result }
     ensures inside { EachInside p result }
 {
@@ -71,14 +77,17 @@ fn labels(alloc: Global, m: &[u8], p: usize) -> Reached<Vec<Span>>
     gmail_labels(alloc, m, p)
 }
 
-/// `X-GM-LABELS` and the labels of a message in parentheses, maybe none, each as the span of a flag's text or of a quoted string's raw content (Gmail's X-GM-EXT-1).
+/// `X-GM-LABELS` and the labels of a message in parentheses, maybe none, each as the span of a flag's text or of a
+/// quoted string's raw content (Gmail's X-GM-EXT-1).
 ///
 /// It takes memory for the list, and for no text.
 #[tactic(auto, using(imap_grammar::proofs::Agreement::answered_at))]
 pub fn gmail_label_list(alloc: Global, m: &[u8], p: usize) -> Reached<Vec<Span>>
     requires { p ≤ length m.now }
-    ensures steps { GivesAt (λ x. map (decoded_in m.now) x.items) m.now result (step rules.gmail_label_list (drop p m.now)) }
-    ensures answer { AnswersAt rules.gmail_label_list (λ x. map (decoded_in m.now) x.items) m.now p result }
+    ensures steps { GivesAt (λ x. map (decoded_in m.now) x.items) m.now result
+        (step rules.gmail_label_list (drop p m.now)) }
+    ensures answer { AnswersAt rules.gmail_label_list (λ x. map (decoded_in m.now) x.items) m.now p
+        result }
     ensures ahead { Ahead m.now p result }
     ensures inside { EachInside p result }
 {

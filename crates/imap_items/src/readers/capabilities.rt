@@ -59,13 +59,15 @@ pub(crate) fn spaced_name(i: &[u8]) -> IResult<&[u8], Capability<'_>>
 }
 
 fn spaced_capabilities(alloc: Global, i: &[u8]) -> IResult<&[u8], Vec<Capability<'_>>>
-    ensures { Gives (λ x. map capability_value x.items) result (step capabilities.spaced_capabilities i.now) }
+    ensures { Gives (λ x. map capability_value x.items) result
+        (step capabilities.spaced_capabilities i.now) }
 {
     repeated(alloc, spaced_capability, i)
 }
 
 fn spaced_names(alloc: Global, i: &[u8]) -> IResult<&[u8], Vec<Capability<'_>>>
-    ensures { Gives (λ x. map capability_value x.items) result (step capabilities.spaced_names i.now) }
+    ensures { Gives (λ x. map capability_value x.items) result
+        (step capabilities.spaced_names i.now) }
 {
     repeated(alloc, spaced_name, i)
 }
@@ -78,7 +80,8 @@ fn has_revision(items: &[Capability<'_>]) -> bool
 
 #[tactic(auto, unfolding(crate::specs::Capabilities::capability_data))]
 fn with_revision(alloc: Global, i: &[u8]) -> IResult<&[u8], Vec<Capability<'_>>>
-    ensures steps { Gives (λ x. map capability_value x.items) result (step capabilities.capability_data i.now) }
+    ensures steps { Gives (λ x. map capability_value x.items) result
+        (step capabilities.capability_data i.now) }
     ensures memory { FailsOnlyIf (BeginsWord "CAPABILITY" i.now) result }
 {
     let (rest, _) = word(b"CAPABILITY", i)?;
@@ -94,8 +97,10 @@ fn with_revision(alloc: Global, i: &[u8]) -> IResult<&[u8], Vec<Capability<'_>>>
 /// They are `Error` where none is `IMAP4rev1`. It takes memory for the list, and only behind `CAPABILITY`.
 #[tactic(auto, using(imap_grammar::proofs::Agreement::answered))]
 pub fn capability_data(alloc: Global, i: &[u8]) -> IResult<&[u8], Vec<Capability<'_>>>
-    ensures steps { Gives (λ x. map capability_value x.items) result (step capabilities.capability_data i.now) }
-    ensures answer { Answers capabilities.capability_data (λ x. map capability_value x.items) i.now result }
+    ensures steps { Gives (λ x. map capability_value x.items) result
+        (step capabilities.capability_data i.now) }
+    ensures answer { Answers capabilities.capability_data (λ x. map capability_value x.items) i.now
+        result }
     ensures memory { FailsOnlyIf (BeginsWord "CAPABILITY" i.now) result }
 {
     with_revision(alloc, i)
@@ -106,8 +111,10 @@ pub fn capability_data(alloc: Global, i: &[u8]) -> IResult<&[u8], Vec<Capability
 /// Any other word is `Error`. It takes memory for the list.
 #[tactic(auto, using(imap_grammar::proofs::Agreement::answered), unfolding(crate::specs::Capabilities::enabled_data))]
 pub fn enabled_data(alloc: Global, i: &[u8]) -> IResult<&[u8], Vec<Capability<'_>>>
-    ensures steps { Gives (λ x. map capability_value x.items) result (step capabilities.enabled_data i.now) }
-    ensures answer { Answers capabilities.enabled_data (λ x. map capability_value x.items) i.now result }
+    ensures steps { Gives (λ x. map capability_value x.items) result
+        (step capabilities.enabled_data i.now) }
+    ensures answer { Answers capabilities.enabled_data (λ x. map capability_value x.items) i.now
+        result }
 {
     let (rest, _) = word(b"ENABLED", i)?;
     spaced_names(alloc, rest)

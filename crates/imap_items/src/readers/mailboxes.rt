@@ -5,8 +5,8 @@ ghost use Rattle.imap_grammar.specs.Answer.{Answers, Gives};
 ghost use Rattle.imap_grammar.specs.Step.{step};
 ghost use Rattle.imap_grammar.specs.Meaning.{is_word};
 ghost use Rattle.imap_grammar.specs.Tags.{same_letter};
-ghost use Rattle.imap_grammar.specs.Text.{text_of};
-ghost use Rattle.imap_bytes.specs.Texts.{astring_utf8 as astring_rule, FailsForOwned, is_owned};
+ghost use Rattle.imap_grammar.specs.Text.{text_of, IsOwned};
+ghost use Rattle.imap_bytes.specs.Texts.{astring_utf8 as astring_rule, FailsForOwned};
 ghost use Rattle.imap_items.specs.Mailboxes as mailboxes;
 ghost use Rattle.imap_items.specs.Mailboxes.{mailbox_of};
 
@@ -37,7 +37,7 @@ fn mailbox_name(name: CowStr<'_>) -> CowStr<'_>
 pub fn mailbox(alloc: Global, i: &[u8]) -> IResult<&[u8], CowStr<'_>>
     ensures steps { Gives (λ x. text_of x) result (step mailboxes.mailbox i.now) }
     ensures answer { Answers mailboxes.mailbox (λ x. text_of x) i.now result }
-    ensures memory { FailsForOwned is_owned astring_rule i.now result }
+    ensures memory { FailsForOwned IsOwned astring_rule i.now result }
 {
     let (rest, name) = astring_utf8(alloc, i)?;
     Ok((rest, mailbox_name(name)))

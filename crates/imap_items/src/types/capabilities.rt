@@ -22,7 +22,8 @@ pub enum Capability<'a> {
 impl<'a> Capability<'a> {
     /// The same capability with its text owned. It takes memory only where that is borrowed; `Err`: memory ran out.
     pub fn into_owned(self, alloc: Global) -> Result<Capability<'static>, AllocError>
-        ensures { IfOk result (λ c. capability_value c ≡ owned_capability (capability_value self.entry)) }
+        ensures { IfOk result (λ c.
+            capability_value c ≡ owned_capability (capability_value self.entry)) }
     {
         Ok(match self {
             Capability::Imap4rev1 => Capability::Imap4rev1,

@@ -27,7 +27,8 @@ use std::alloc::Global;
 
 fn spaced_name(m: &[u8], p: usize) -> Reached<Span>
     requires { p ≤ length m.now }
-    ensures steps { ExactlyAt (λ x. named_in m.now x) m.now result (step (spaced strings.astring) (drop p m.now)) }
+    ensures steps { ExactlyAt (λ x. named_in m.now x) m.now result
+        (step (spaced strings.astring) (drop p m.now)) }
     ensures ahead { Ahead m.now p result }
 {
     let (p, _) = tag(b" ", m, p)?;
@@ -50,7 +51,8 @@ fn header_names(m: &[u8], p: usize) -> Reached<()>
 
 fn maybe_header_names(m: &[u8], p: usize) -> Reached<()>
     requires { p ≤ length m.now }
-    ensures steps { ExactlyAt (λ x. tt) m.now result (step (otherwise sections.header_names tt) (drop p m.now)) }
+    ensures steps { ExactlyAt (λ x. tt) m.now result
+        (step (otherwise sections.header_names tt) (drop p m.now)) }
     ensures ahead { Ahead m.now p result }
 {
     match header_names(m, p) {
@@ -75,7 +77,8 @@ fn header_list(m: &[u8], p: usize) -> Reached<()>
 #[tactic(auto, unfolding(crate::specs::Sections::fields_word))]
 fn fields_word(m: &[u8], p: usize) -> Reached<Span>
     requires { p ≤ length m.now }
-    ensures steps { ExactlyAt (λ x. named_in m.now x) m.now result (step sections.fields_word (drop p m.now)) }
+    ensures steps { ExactlyAt (λ x. named_in m.now x) m.now result
+        (step sections.fields_word (drop p m.now)) }
     ensures ahead { Ahead m.now p result }
 {
     word(b"HEADER.FIELDS", m, p)
@@ -84,7 +87,8 @@ fn fields_word(m: &[u8], p: usize) -> Reached<Span>
 #[tactic(auto, unfolding(crate::specs::Sections::not_word))]
 fn maybe_not(m: &[u8], p: usize) -> Reached<Option<Span>>
     requires { p ≤ length m.now }
-    ensures steps { ExactlyAt (λ x. option_map (λ y. named_in m.now y) x) m.now result (step (opt sections.not_word) (drop p m.now)) }
+    ensures steps { ExactlyAt (λ x. option_map (λ y. named_in m.now y) x) m.now result
+        (step (opt sections.not_word) (drop p m.now)) }
     ensures ahead { Ahead m.now p result }
 {
     maybe!(word(b".NOT", m, p), p)
@@ -105,7 +109,8 @@ fn header_fields(m: &[u8], p: usize) -> Reached<MessageSection>
 
 fn header(m: &[u8], p: usize) -> Reached<MessageSection>
     requires { p ≤ length m.now }
-    ensures steps { ExactlyAt (λ x. x) m.now result (step (tags.names "HEADER" what.Header) (drop p m.now)) }
+    ensures steps { ExactlyAt (λ x. x) m.now result
+        (step (tags.names "HEADER" what.Header) (drop p m.now)) }
     ensures ahead { Ahead m.now p result }
 {
     let (p, _) = word(b"HEADER", m, p)?;
@@ -134,7 +139,8 @@ fn body_text(m: &[u8], p: usize) -> Reached<MessageSection>
 
 fn mime(m: &[u8], p: usize) -> Reached<MessageSection>
     requires { p ≤ length m.now }
-    ensures steps { ExactlyAt (λ x. x) m.now result (step (tags.names "MIME" what.Mime) (drop p m.now)) }
+    ensures steps { ExactlyAt (λ x. x) m.now result
+        (step (tags.names "MIME" what.Mime) (drop p m.now)) }
     ensures ahead { Ahead m.now p result }
     ensures no_failure { NeverFails result }
 {
@@ -175,7 +181,8 @@ pub fn section_text(m: &[u8], p: usize) -> Reached<MessageSection>
 
 fn dotted_number(m: &[u8], p: usize) -> Reached<u32>
     requires { p ≤ length m.now }
-    ensures steps { ExactlyAt (λ x. x) m.now result (step (tags.tag "." ▹ numbers.number) (drop p m.now)) }
+    ensures steps { ExactlyAt (λ x. x) m.now result
+        (step (tags.tag "." ▹ numbers.number) (drop p m.now)) }
     ensures ahead { Ahead m.now p result }
 {
     let (p, _) = tag(b".", m, p)?;
@@ -186,7 +193,8 @@ fn dotted_number(m: &[u8], p: usize) -> Reached<u32>
 #[tactic(auto, unfolding(crate::specs::Sections::section_part))]
 pub fn section_part(alloc: Global, m: &[u8], p: usize) -> Reached<Vec<u32>>
     requires { p ≤ length m.now }
-    ensures steps { GivesAt (λ x. x.items) m.now result (step sections.section_part (drop p m.now)) }
+    ensures steps { GivesAt (λ x. x.items) m.now result
+        (step sections.section_part (drop p m.now)) }
     ensures ahead { Ahead m.now p result }
 {
     let (mut q, first) = number(m, p)?;
@@ -219,7 +227,8 @@ fn maybe_part_text(m: &[u8], p: usize) -> Reached<Option<MessageSection>>
 #[tactic(auto, unfolding(crate::specs::Sections::part_path))]
 fn part_path(alloc: Global, m: &[u8], p: usize) -> Reached<SectionPath>
     requires { p ≤ length m.now }
-    ensures steps { GivesAt (λ x. path_value x) m.now result (step sections.part_path (drop p m.now)) }
+    ensures steps { GivesAt (λ x. path_value x) m.now result
+        (step sections.part_path (drop p m.now)) }
     ensures ahead { Ahead m.now p result }
 {
     let (p, numbers) = section_part(alloc, m, p)?;
@@ -232,7 +241,8 @@ fn part_path(alloc: Global, m: &[u8], p: usize) -> Reached<SectionPath>
 #[tactic(auto, unfolding(crate::specs::Sections::section_spec))]
 pub fn section_spec(alloc: Global, m: &[u8], p: usize) -> Reached<SectionPath>
     requires { p ≤ length m.now }
-    ensures steps { GivesAt (λ x. path_value x) m.now result (step sections.section_spec (drop p m.now)) }
+    ensures steps { GivesAt (λ x. path_value x) m.now result
+        (step sections.section_spec (drop p m.now)) }
     ensures ahead { Ahead m.now p result }
 {
     first!(section_msgtext(m, p), what => SectionPath::Full(what));
@@ -241,7 +251,8 @@ pub fn section_spec(alloc: Global, m: &[u8], p: usize) -> Reached<SectionPath>
 
 fn maybe_spec(alloc: Global, m: &[u8], p: usize) -> Reached<Option<SectionPath>>
     requires { p ≤ length m.now }
-    ensures steps { GivesAt (λ x. option_map path_value x) m.now result (step (opt sections.section_spec) (drop p m.now)) }
+    ensures steps { GivesAt (λ x. option_map path_value x) m.now result
+        (step (opt sections.section_spec) (drop p m.now)) }
     ensures ahead { Ahead m.now p result }
 {
     maybe!(section_spec(alloc, m, p), p)
@@ -251,7 +262,8 @@ fn maybe_spec(alloc: Global, m: &[u8], p: usize) -> Reached<Option<SectionPath>>
 #[tactic(auto, unfolding(crate::specs::Sections::section))]
 pub fn section(alloc: Global, m: &[u8], p: usize) -> Reached<Option<SectionPath>>
     requires { p ≤ length m.now }
-    ensures steps { GivesAt (λ x. option_map path_value x) m.now result (step sections.section (drop p m.now)) }
+    ensures steps { GivesAt (λ x. option_map path_value x) m.now result
+        (step sections.section (drop p m.now)) }
     ensures ahead { Ahead m.now p result }
 {
     let (p, _) = tag(b"[", m, p)?;

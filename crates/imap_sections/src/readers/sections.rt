@@ -15,7 +15,7 @@ use std::alloc::Global;
 
 /// The path of a part: numbers by dots (RFC 3501, section 9: section-part, zero allowed).
 ///
-/// It takes memory for the path.
+/// No digit in front, or a first number past 32 bits, is `Error`. It takes memory for the path.
 #[tactic(auto, using(imap_grammar::proofs::Agreement::answered))]
 pub fn section_part(alloc: Global, i: &[u8]) -> IResult<&[u8], Vec<u32>>
     ensures steps { Gives (λ x. x.items) result (step sections.section_part i.now) }
@@ -41,7 +41,7 @@ pub fn section_msgtext(i: &[u8]) -> IResult<&[u8], MessageSection>
 
 /// A section in brackets, `None` where they are empty (RFC 3501, section 9: section).
 ///
-/// It takes memory for the path of a part.
+/// No `[`, or what is no section in the brackets, is `Error`. It takes memory for the path of a part.
 #[tactic(auto, using(imap_grammar::proofs::Agreement::answered))]
 pub fn section(alloc: Global, i: &[u8]) -> IResult<&[u8], Option<SectionPath>>
     ensures steps { Gives (λ x. option_map path_value x) result (step sections.section i.now) }

@@ -76,7 +76,8 @@ impl<S> BodyContentSinglePart<S> {
 impl<S, B> BodyStructure<S, B> {
     // What every body says.
     fn common(&self) -> &BodyContentCommon<S>
-        ensures { (f : S → Text) (g : B → Text) → common_of (body_seen f g self.now) ≡ common_seen f result.now }
+        ensures { (f : S → Text) (g : B → Text) →
+            common_of (body_seen f g self.now) ≡ common_seen f result.now }
     {
         match self {
             BodyStructure::Basic { common, .. }
@@ -88,7 +89,8 @@ impl<S, B> BodyStructure<S, B> {
 
     // Its extension data.
     fn extension(&self) -> &Option<BodyExtension<S>>
-        ensures { (f : S → Text) (g : B → Text) → extension_of (body_seen f g self.now) ≡ option_map (extension_seen f) result.now }
+        ensures { (f : S → Text) (g : B → Text) →
+            extension_of (body_seen f g self.now) ≡ option_map (extension_seen f) result.now }
     {
         match self {
             BodyStructure::Basic { extension, .. }
@@ -106,7 +108,8 @@ impl<S, B> BodyStructure<S, B> {
         c: &C,
         d: &D,
     ) -> Result<BodyStructure<C::To, D::To>, AllocError>
-        ensures { IfOk result (λ b. body_seen C.after D.after b ≡ body_seen (C.before c.now) (D.before d.now) self.now) }
+        ensures { IfOk result (λ b.
+            body_seen C.after D.after b ≡ body_seen (C.before c.now) (D.before d.now) self.now) }
     {
         mapped_body(alloc, c, d, self)
     }
@@ -121,7 +124,8 @@ fn mapped_body<S, B, C: Change<S>, D: Change<B>>(
     d: &D,
     body: &BodyStructure<S, B>,
 ) -> Result<BodyStructure<C::To, D::To>, AllocError>
-    ensures { IfOk result (λ b. body_seen C.after D.after b ≡ body_seen (C.before c.now) (D.before d.now) body.now) }
+    ensures { IfOk result (λ b.
+        body_seen C.after D.after b ≡ body_seen (C.before c.now) (D.before d.now) body.now) }
 {
     let common = body.common().try_map(alloc, c)?;
     let extension = made!(mapped_extension(alloc, c, body.extension()), common);
@@ -174,7 +178,8 @@ fn mapped_inner<S, B, C: Change<S>, D: Change<B>>(
     d: &D,
     inner: &BodyStructure<S, B>,
 ) -> Result<Box<BodyStructure<C::To, D::To>>, AllocError>
-    ensures { IfOk result (λ b. body_seen C.after D.after b.value ≡ body_seen (C.before c.now) (D.before d.now) inner.now) }
+    ensures { IfOk result (λ b.
+        body_seen C.after D.after b.value ≡ body_seen (C.before c.now) (D.before d.now) inner.now) }
 {
     let mapped = made!(mapped_body(alloc, c, d, inner));
     Ok(Box::new(alloc, mapped)?)
@@ -188,7 +193,9 @@ fn mapped_bodies<S, B, C: Change<S>, D: Change<B>>(
     d: &D,
     bodies: &Vec<BodyStructure<S, B>>,
 ) -> Result<Vec<BodyStructure<C::To, D::To>>, AllocError>
-    ensures { IfOk result (λ v. map (body_seen C.after D.after) v.items ≡ map (body_seen (C.before c.now) (D.before d.now)) bodies.now.items) }
+    ensures { IfOk result (λ v.
+        map (body_seen C.after D.after) v.items
+        ≡ map (body_seen (C.before c.now) (D.before d.now)) bodies.now.items) }
 {
     let mut mapped = Vec::with_capacity(alloc, bodies.len())?;
     for body in bodies {

@@ -120,7 +120,8 @@ impl<'a> Change<SpannedText> for NamedTexts<'a> {
 impl<'a> BodyChange<Box<shapes::bodies::BodyStructure<SpannedText, Span>>> for NamedTexts<'a> {
     type To = BodyStructure<'a>;
 
-    ghost before = { λ c b. body_seen (text_in (named_in c.m.now)) (bytes_in (named_in c.m.now)) b.value };
+    ghost before = { λ c b.
+        body_seen (text_in (named_in c.m.now)) (bytes_in (named_in c.m.now)) b.value };
 
     ghost after = { body_seen text_of bytes_of };
 

@@ -11,7 +11,8 @@ use std::alloc::{AllocError, Global};
 impl<B> Address<B> {
     /// The same address with each text changed.
     pub(crate) fn try_map<C: Change<B>>(&self, c: &C) -> Result<Address<C::To>, AllocError>
-        ensures { IfOk result (λ a. address_seen C.after a ≡ address_seen (C.before c.now) self.now) }
+        ensures { IfOk result (λ a.
+            address_seen C.after a ≡ address_seen (C.before c.now) self.now) }
     {
         Ok(Address {
             name: mapped_text(c, &self.name)?,
@@ -27,7 +28,9 @@ fn mapped_list<B, C: Change<B>>(
     c: &C,
     addresses: &Vec<Address<B>>,
 ) -> Result<Vec<Address<C::To>>, AllocError>
-    ensures { IfOk result (λ v. map (address_seen C.after) v.items ≡ map (address_seen (C.before c.now)) addresses.now.items) }
+    ensures { IfOk result (λ v.
+        map (address_seen C.after) v.items
+        ≡ map (address_seen (C.before c.now)) addresses.now.items) }
 {
     let mut mapped = Vec::with_capacity(alloc, addresses.len())?;
     for address in addresses {
@@ -42,7 +45,8 @@ fn mapped_addresses<B, C: Change<B>>(
     c: &C,
     addresses: &Option<Vec<Address<B>>>,
 ) -> Result<Option<Vec<Address<C::To>>>, AllocError>
-    ensures { IfOk result (λ t. addresses_seen C.after t ≡ addresses_seen (C.before c.now) addresses.now) }
+    ensures { IfOk result (λ t.
+        addresses_seen C.after t ≡ addresses_seen (C.before c.now) addresses.now) }
 {
     match addresses {
         None => Ok(None),
@@ -55,7 +59,8 @@ impl<B> Envelope<B> {
     /// out.
     #[tactic(auto, unfolding(crate::specs::EnvelopeValues::envelope_seen))]
     pub fn try_map<C: Change<B>>(&self, alloc: Global, c: &C) -> Result<Envelope<C::To>, AllocError>
-        ensures { IfOk result (λ e. envelope_seen C.after e ≡ envelope_seen (C.before c.now) self.now) }
+        ensures { IfOk result (λ e.
+            envelope_seen C.after e ≡ envelope_seen (C.before c.now) self.now) }
     {
         Ok(Envelope {
             date: mapped_text(c, &self.date)?,
@@ -82,7 +87,8 @@ pub fn mapped_envelope<B, D: Change<B>>(
     d: &D,
     envelope: &Envelope<B>,
 ) -> Result<Box<Envelope<D::To>>, AllocError>
-    ensures { IfOk result (λ e. envelope_seen D.after e.value ≡ envelope_seen (D.before d.now) envelope.now) }
+    ensures { IfOk result (λ e.
+        envelope_seen D.after e.value ≡ envelope_seen (D.before d.now) envelope.now) }
 {
     let mapped = made!(envelope.try_map(alloc, d));
     Ok(Box::new(alloc, mapped)?)

@@ -17,7 +17,8 @@ impl<S> ContentDisposition<S> {
         alloc: Global,
         c: &C,
     ) -> Result<ContentDisposition<C::To>, AllocError>
-        ensures { IfOk result (λ d. disposition_seen C.after d ≡ disposition_seen (C.before c.now) self.now) }
+        ensures { IfOk result (λ d.
+            disposition_seen C.after d ≡ disposition_seen (C.before c.now) self.now) }
     {
         Ok(ContentDisposition {
             ty: c.change(&self.ty)?,
@@ -31,7 +32,9 @@ pub(crate) fn mapped_disposition<S, C: Change<S>>(
     c: &C,
     disposition: &Option<ContentDisposition<S>>,
 ) -> Result<Option<ContentDisposition<C::To>>, AllocError>
-    ensures { IfOk result (λ d. option_map (disposition_seen C.after) d ≡ option_map (disposition_seen (C.before c.now)) disposition.now) }
+    ensures { IfOk result (λ d.
+        option_map (disposition_seen C.after) d
+        ≡ option_map (disposition_seen (C.before c.now)) disposition.now) }
 {
     match disposition {
         None => Ok(None),
@@ -46,7 +49,8 @@ impl<S> BodyExtension<S> {
         alloc: Global,
         c: &C,
     ) -> Result<BodyExtension<C::To>, AllocError>
-        ensures { IfOk result (λ x. extension_seen C.after x ≡ extension_seen (C.before c.now) self.now) }
+        ensures { IfOk result (λ x.
+            extension_seen C.after x ≡ extension_seen (C.before c.now) self.now) }
     {
         match self {
             BodyExtension::Num(n) => Ok(BodyExtension::Num(*n)),
@@ -67,7 +71,9 @@ pub(crate) fn mapped_extension<S, C: Change<S>>(
     c: &C,
     extension: &Option<BodyExtension<S>>,
 ) -> Result<Option<BodyExtension<C::To>>, AllocError>
-    ensures { IfOk result (λ x. option_map (extension_seen C.after) x ≡ option_map (extension_seen (C.before c.now)) extension.now) }
+    ensures { IfOk result (λ x.
+        option_map (extension_seen C.after) x
+        ≡ option_map (extension_seen (C.before c.now)) extension.now) }
 {
     match extension {
         None => Ok(None),
@@ -83,7 +89,8 @@ impl<S> BodyExt1Part<S> {
         alloc: Global,
         c: &C,
     ) -> Result<BodyExt1Part<C::To>, AllocError>
-        ensures { IfOk result (λ x. ext_1part_seen C.after x ≡ ext_1part_seen (C.before c.now) self.now) }
+        ensures { IfOk result (λ x.
+            ext_1part_seen C.after x ≡ ext_1part_seen (C.before c.now) self.now) }
     {
         Ok(BodyExt1Part {
             md5: mapped_text(c, &self.md5)?,
@@ -103,7 +110,8 @@ impl<S> BodyExtMPart<S> {
         alloc: Global,
         c: &C,
     ) -> Result<BodyExtMPart<C::To>, AllocError>
-        ensures { IfOk result (λ x. ext_mpart_seen C.after x ≡ ext_mpart_seen (C.before c.now) self.now) }
+        ensures { IfOk result (λ x.
+            ext_mpart_seen C.after x ≡ ext_mpart_seen (C.before c.now) self.now) }
     {
         Ok(BodyExtMPart {
             param: mapped_params(alloc, c, &self.param)?,

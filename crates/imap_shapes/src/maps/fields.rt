@@ -13,7 +13,8 @@ fn mapped_pairs<S, C: Change<S>>(
     c: &C,
     params: &Vec<(S, S)>,
 ) -> Result<Vec<(C::To, C::To)>, AllocError>
-    ensures { IfOk result (λ v. map (pair_seen C.after) v.items ≡ map (pair_seen (C.before c.now)) params.now.items) }
+    ensures { IfOk result (λ v.
+        map (pair_seen C.after) v.items ≡ map (pair_seen (C.before c.now)) params.now.items) }
 {
     let mut mapped = Vec::with_capacity(alloc, params.len())?;
     for (name, value) in params {
@@ -39,7 +40,8 @@ pub(crate) fn mapped_params<S, C: Change<S>>(
 impl<S> ContentEncoding<S> {
     /// The same encoding with its text changed.
     pub(crate) fn try_map<C: Change<S>>(&self, c: &C) -> Result<ContentEncoding<C::To>, AllocError>
-        ensures { IfOk result (λ e. encoding_seen C.after e ≡ encoding_seen (C.before c.now) self.now) }
+        ensures { IfOk result (λ e.
+            encoding_seen C.after e ≡ encoding_seen (C.before c.now) self.now) }
     {
         match self {
             ContentEncoding::SevenBit => Ok(ContentEncoding::SevenBit),

@@ -38,7 +38,8 @@ pub(crate) fn mapped_texts<X, C: Change<X>>(
     c: &C,
     texts: &Option<Vec<X>>,
 ) -> Result<Option<Vec<C::To>>, AllocError>
-    ensures { IfOk result (λ t. languages_seen C.after t ≡ languages_seen (C.before c.now) texts.now) }
+    ensures { IfOk result (λ t.
+        languages_seen C.after t ≡ languages_seen (C.before c.now) texts.now) }
 {
     match texts {
         None => Ok(None),

@@ -38,7 +38,9 @@ pub type Bodies<S, B> = Vec<BodyStructure<S, B>>;
 // inlined them would clear it at each call.
 #[inline(never)]
 fn drop_last<T: Drop>(items: &mut Vec<T>)
-    ensures { (others : List T) (last : T) → items.old.items ≡ others ++ last ∷ [] → items.new.items ≡ others }
+    ensures { (others : List T) (last : T) →
+        items.old.items ≡ others ++ last ∷ [] →
+        items.new.items ≡ others }
 {
     drop(items.pop());
 }
@@ -66,7 +68,8 @@ fn body_type_text<K: Keep>(
 ) -> Result<usize, Err>
     requires start { p ≤ length m.now }
     requires serves { K.serves keep.now m.now }
-    ensures puts { PutsAt (λ n x. body_seen (K.text_said n) (K.bytes_said n) x) m.now others.old.items others.new.items result (step bodies.body_type_text (drop p m.now)) }
+    ensures puts { PutsAt (λ n x. body_seen (K.text_said n) (K.bytes_said n) x) m.now
+        others.old.items others.new.items result (step bodies.body_type_text (drop p m.now)) }
     ensures leaves { Leaves others.old.items others.new.items result }
     ensures ahead { Reaches m.now p result }
 {
@@ -113,7 +116,8 @@ fn body_type_basic<K: Keep>(
 ) -> Result<usize, Err>
     requires start { p ≤ length m.now }
     requires serves { K.serves keep.now m.now }
-    ensures puts { PutsAt (λ n x. body_seen (K.text_said n) (K.bytes_said n) x) m.now others.old.items others.new.items result (step bodies.body_type_basic (drop p m.now)) }
+    ensures puts { PutsAt (λ n x. body_seen (K.text_said n) (K.bytes_said n) x) m.now
+        others.old.items others.new.items result (step bodies.body_type_basic (drop p m.now)) }
     ensures leaves { Leaves others.old.items others.new.items result }
     ensures ahead { Reaches m.now p result }
 {
@@ -155,7 +159,8 @@ fn spaced_envelope<K: Keep>(
 ) -> Reached<Envelope<K::Bytes>>
     requires start { p ≤ length m.now }
     requires serves { K.serves keep.now m.now }
-    ensures steps { GivesAt (λ x. envelope_seen (K.bytes_said (named_in m.now)) x) m.now result (step (spaced envelopes.envelope) (drop p m.now)) }
+    ensures steps { GivesAt (λ x. envelope_seen (K.bytes_said (named_in m.now)) x) m.now result
+        (step (spaced envelopes.envelope) (drop p m.now)) }
     ensures ahead { Ahead m.now p result }
     ensures rests { RestsOn (λ n x. envelope_seen (K.bytes_said n) x) result }
 {
@@ -166,7 +171,8 @@ fn spaced_envelope<K: Keep>(
 #[tactic(auto, unfolding(crate::specs::Bodies::message_word))]
 fn message_word(m: &[u8], p: usize) -> Reached<Span>
     requires { p ≤ length m.now }
-    ensures steps { ExactlyAt (λ x. named_in m.now x) m.now result (step bodies.message_word (drop p m.now)) }
+    ensures steps { ExactlyAt (λ x. named_in m.now x) m.now result
+        (step bodies.message_word (drop p m.now)) }
     ensures ahead { Ahead m.now p result }
 {
     word(b"\"MESSAGE\" \"RFC822\"", m, p)
@@ -188,7 +194,8 @@ pub fn body<K: Keep>(
 ) -> Result<usize, Err>
     requires start { p ≤ length m.now }
     requires serves { K.serves keep.now m.now }
-    ensures puts { PutsAt (λ n x. body_seen (K.text_said n) (K.bytes_said n) x) m.now others.old.items others.new.items result (step (bodies.body level) (drop p m.now)) }
+    ensures puts { PutsAt (λ n x. body_seen (K.text_said n) (K.bytes_said n) x) m.now
+        others.old.items others.new.items result (step (bodies.body level) (drop p m.now)) }
     ensures leaves { Leaves others.old.items others.new.items result }
     ensures ahead { Reaches m.now p result }
 {
@@ -210,7 +217,9 @@ fn bracketed_body<K: Keep>(
 ) -> Result<usize, Err>
     requires start { p ≤ length m.now }
     requires serves { K.serves keep.now m.now }
-    ensures puts { PutsAt (λ n x. body_seen (K.text_said n) (K.bytes_said n) x) m.now others.old.items others.new.items result (step (bodies.bracketed_body (bodies.body level)) (drop p m.now)) }
+    ensures puts { PutsAt (λ n x. body_seen (K.text_said n) (K.bytes_said n) x) m.now
+        others.old.items others.new.items result
+        (step (bodies.bracketed_body (bodies.body level)) (drop p m.now)) }
     ensures leaves { Leaves others.old.items others.new.items result }
     ensures ahead { Reaches m.now p result }
 {
@@ -238,7 +247,9 @@ fn body_type<K: Keep>(
 ) -> Result<usize, Err>
     requires start { p ≤ length m.now }
     requires serves { K.serves keep.now m.now }
-    ensures puts { PutsAt (λ n x. body_seen (K.text_said n) (K.bytes_said n) x) m.now others.old.items others.new.items result (step (bodies.body_type (bodies.body level)) (drop p m.now)) }
+    ensures puts { PutsAt (λ n x. body_seen (K.text_said n) (K.bytes_said n) x) m.now
+        others.old.items others.new.items result
+        (step (bodies.body_type (bodies.body level)) (drop p m.now)) }
     ensures leaves { Leaves others.old.items others.new.items result }
     ensures ahead { Reaches m.now p result }
 {
@@ -264,7 +275,9 @@ fn quoted_type<K: Keep>(
 ) -> Result<usize, Err>
     requires start { p ≤ length m.now }
     requires serves { K.serves keep.now m.now }
-    ensures puts { PutsAt (λ n x. body_seen (K.text_said n) (K.bytes_said n) x) m.now others.old.items others.new.items result (step (bodies.quoted_type (bodies.body level)) (drop p m.now)) }
+    ensures puts { PutsAt (λ n x. body_seen (K.text_said n) (K.bytes_said n) x) m.now
+        others.old.items others.new.items result
+        (step (bodies.quoted_type (bodies.body level)) (drop p m.now)) }
     ensures leaves { Leaves others.old.items others.new.items result }
     ensures ahead { Reaches m.now p result }
 {
@@ -286,7 +299,9 @@ fn body_type_msg<K: Keep>(
 ) -> Result<usize, Err>
     requires start { p ≤ length m.now }
     requires serves { K.serves keep.now m.now }
-    ensures puts { PutsAt (λ n x. body_seen (K.text_said n) (K.bytes_said n) x) m.now others.old.items others.new.items result (step (bodies.body_type_msg (bodies.body level)) (drop p m.now)) }
+    ensures puts { PutsAt (λ n x. body_seen (K.text_said n) (K.bytes_said n) x) m.now
+        others.old.items others.new.items result
+        (step (bodies.body_type_msg (bodies.body level)) (drop p m.now)) }
     ensures leaves { Leaves others.old.items others.new.items result }
     ensures ahead { Reaches m.now p result }
 {
@@ -335,7 +350,9 @@ fn spaced_body<K: Keep>(
 ) -> Reached<Boxed<K::Text, K::Bytes>>
     requires start { p ≤ length m.now }
     requires serves { K.serves keep.now m.now }
-    ensures steps { GivesAt (λ x. boxed_seen (K.text_said (named_in m.now)) (K.bytes_said (named_in m.now)) x) m.now result (step (spaced (bodies.body level)) (drop p m.now)) }
+    ensures steps { GivesAt
+        (λ x. boxed_seen (K.text_said (named_in m.now)) (K.bytes_said (named_in m.now)) x) m.now
+        result (step (spaced (bodies.body level)) (drop p m.now)) }
     ensures ahead { Ahead m.now p result }
     ensures rests { RestsOn (λ n x. boxed_seen (K.text_said n) (K.bytes_said n) x) result }
 {
@@ -356,7 +373,9 @@ fn body_type_mpart<K: Keep>(
 ) -> Result<usize, Err>
     requires start { p ≤ length m.now }
     requires serves { K.serves keep.now m.now }
-    ensures puts { PutsAt (λ n x. body_seen (K.text_said n) (K.bytes_said n) x) m.now others.old.items others.new.items result (step (bodies.body_type_mpart (bodies.body level)) (drop p m.now)) }
+    ensures puts { PutsAt (λ n x. body_seen (K.text_said n) (K.bytes_said n) x) m.now
+        others.old.items others.new.items result
+        (step (bodies.body_type_mpart (bodies.body level)) (drop p m.now)) }
     ensures leaves { Leaves others.old.items others.new.items result }
     ensures ahead { Reaches m.now p result }
 {
@@ -394,9 +413,13 @@ fn some_bodies<K: Keep>(
 ) -> Reached<Vec<BodyStructure<K::Text, K::Bytes>>>
     requires start { p ≤ length m.now }
     requires serves { K.serves keep.now m.now }
-    ensures steps { GivesAt (λ x. map (body_seen (K.text_said (named_in m.now)) (K.bytes_said (named_in m.now))) x.items) m.now result (step (bodies.some_bodies (bodies.body level)) (drop p m.now)) }
+    ensures steps { GivesAt
+        (λ x.
+        map (body_seen (K.text_said (named_in m.now)) (K.bytes_said (named_in m.now))) x.items)
+        m.now result (step (bodies.some_bodies (bodies.body level)) (drop p m.now)) }
     ensures ahead { Ahead m.now p result }
-    ensures rests { RestsOn (λ n x. map (body_seen (K.text_said n) (K.bytes_said n)) x.items) result }
+    ensures rests { RestsOn (λ n x. map (body_seen (K.text_said n) (K.bytes_said n)) x.items)
+        result }
 {
     let mut items = Vec::new(alloc);
     let mut q = made!(body(keep, alloc, level, m, p, &mut items), items);
@@ -424,7 +447,9 @@ fn one_body<K: Keep>(
 ) -> Reached<Boxed<K::Text, K::Bytes>>
     requires start { p ≤ length m.now }
     requires serves { K.serves keep.now m.now }
-    ensures steps { GivesAt (λ x. boxed_seen (K.text_said (named_in m.now)) (K.bytes_said (named_in m.now)) x) m.now result (step (bodies.body level) (drop p m.now)) }
+    ensures steps { GivesAt
+        (λ x. boxed_seen (K.text_said (named_in m.now)) (K.bytes_said (named_in m.now)) x) m.now
+        result (step (bodies.body level) (drop p m.now)) }
     ensures ahead { Ahead m.now p result }
     ensures rests { RestsOn (λ n x. boxed_seen (K.text_said n) (K.bytes_said n) x) result }
 {
@@ -443,7 +468,9 @@ pub fn body_structure<K: Keep>(
 ) -> Reached<Boxed<K::Text, K::Bytes>>
     requires start { p ≤ length m.now }
     requires serves { K.serves keep.now m.now }
-    ensures steps { GivesAt (λ x. boxed_seen (K.text_said (named_in m.now)) (K.bytes_said (named_in m.now)) x) m.now result (step bodies.body_structure (drop p m.now)) }
+    ensures steps { GivesAt
+        (λ x. boxed_seen (K.text_said (named_in m.now)) (K.bytes_said (named_in m.now)) x) m.now
+        result (step bodies.body_structure (drop p m.now)) }
     ensures ahead { Ahead m.now p result }
     ensures rests { RestsOn (λ n x. boxed_seen (K.text_said n) (K.bytes_said n) x) result }
 {

@@ -44,7 +44,8 @@ fn spaced_params<K: Keep>(
 ) -> Reached<BodyParams<K::Text>>
     requires start { p ≤ length m.now }
     requires serves { K.serves keep.now m.now }
-    ensures steps { GivesAt (λ x. params_seen (K.text_said (named_in m.now)) x) m.now result (step (spaced fields.body_fld_param) (drop p m.now)) }
+    ensures steps { GivesAt (λ x. params_seen (K.text_said (named_in m.now)) x) m.now result
+        (step (spaced fields.body_fld_param) (drop p m.now)) }
     ensures ahead { Ahead m.now p result }
     ensures rests { RestsOn (λ n x. params_seen (K.text_said n) x) result }
 {
@@ -62,7 +63,8 @@ fn body_fld_dsp<K: Keep>(
 ) -> Reached<Option<ContentDisposition<K::Text>>>
     requires start { p ≤ length m.now }
     requires serves { K.serves keep.now m.now }
-    ensures steps { GivesAt (λ x. option_map (disposition_seen (K.text_said (named_in m.now))) x) m.now result (step extensions.body_fld_dsp (drop p m.now)) }
+    ensures steps { GivesAt (λ x. option_map (disposition_seen (K.text_said (named_in m.now))) x)
+        m.now result (step extensions.body_fld_dsp (drop p m.now)) }
     ensures ahead { Ahead m.now p result }
     ensures rests { RestsOn (λ n x. option_map (disposition_seen (K.text_said n)) x) result }
 {
@@ -81,7 +83,8 @@ fn body_fld_dsp<K: Keep>(
 fn some_languages<K: Keep>(keep: &K, alloc: Global, m: &[u8], p: usize) -> Reached<Vec<K::Text>>
     requires start { p ≤ length m.now }
     requires serves { K.serves keep.now m.now }
-    ensures steps { GivesAt (λ x. map (K.text_said (named_in m.now)) x.items) m.now result (step extensions.some_languages (drop p m.now)) }
+    ensures steps { GivesAt (λ x. map (K.text_said (named_in m.now)) x.items) m.now result
+        (step extensions.some_languages (drop p m.now)) }
     ensures ahead { Ahead m.now p result }
     ensures rests { RestsOn (λ n x. map (K.text_said n) x.items) result }
 {
@@ -104,7 +107,8 @@ fn language_list<K: Keep>(
 ) -> Reached<Option<Vec<K::Text>>>
     requires start { p ≤ length m.now }
     requires serves { K.serves keep.now m.now }
-    ensures steps { GivesAt (λ x. languages_seen (K.text_said (named_in m.now)) x) m.now result (step extensions.language_list (drop p m.now)) }
+    ensures steps { GivesAt (λ x. languages_seen (K.text_said (named_in m.now)) x) m.now result
+        (step extensions.language_list (drop p m.now)) }
     ensures ahead { Ahead m.now p result }
     ensures rests { RestsOn (λ n x. languages_seen (K.text_said n) x) result }
 {
@@ -117,7 +121,8 @@ fn language_list<K: Keep>(
 
 // A list of one, where there is one.
 fn single<S: Drop>(alloc: Global, language: Option<S>) -> Result<Option<Vec<S>>, AllocError>
-    ensures { IfOk result (λ x. (f : S → Text) → languages_seen f x ≡ extensions.single (option_map f language)) }
+    ensures { IfOk result (λ x.
+        (f : S → Text) → languages_seen f x ≡ extensions.single (option_map f language)) }
 {
     match language {
         None => Ok(None),
@@ -135,7 +140,8 @@ fn body_fld_lang<K: Keep>(
 ) -> Reached<Option<Vec<K::Text>>>
     requires start { p ≤ length m.now }
     requires serves { K.serves keep.now m.now }
-    ensures steps { GivesAt (λ x. languages_seen (K.text_said (named_in m.now)) x) m.now result (step extensions.body_fld_lang (drop p m.now)) }
+    ensures steps { GivesAt (λ x. languages_seen (K.text_said (named_in m.now)) x) m.now result
+        (step extensions.body_fld_lang (drop p m.now)) }
     ensures ahead { Ahead m.now p result }
     ensures rests { RestsOn (λ n x. languages_seen (K.text_said n) x) result }
 {
@@ -148,7 +154,8 @@ fn body_fld_lang<K: Keep>(
 #[tactic(auto, using(crate::proofs::Seeing::number_seen, crate::proofs::Seeing::number_rests), unfolding(crate::specs::Extensions::number_extension))]
 fn number_extension<K: Keep>(m: &[u8], p: usize) -> Reached<BodyExtension<K::Text>>
     requires { p ≤ length m.now }
-    ensures steps { ExactlyAt (λ x. extension_seen (K.text_said (named_in m.now)) x) m.now result (step extensions.number_extension (drop p m.now)) }
+    ensures steps { ExactlyAt (λ x. extension_seen (K.text_said (named_in m.now)) x) m.now result
+        (step extensions.number_extension (drop p m.now)) }
     ensures ahead { Ahead m.now p result }
     ensures rests { RestsOn (λ n x. extension_seen (K.text_said n) x) result }
 {
@@ -160,7 +167,8 @@ fn number_extension<K: Keep>(m: &[u8], p: usize) -> Reached<BodyExtension<K::Tex
 fn string_extension<K: Keep>(keep: &K, m: &[u8], p: usize) -> Reached<BodyExtension<K::Text>>
     requires start { p ≤ length m.now }
     requires serves { K.serves keep.now m.now }
-    ensures steps { GivesAt (λ x. extension_seen (K.text_said (named_in m.now)) x) m.now result (step extensions.string_extension (drop p m.now)) }
+    ensures steps { GivesAt (λ x. extension_seen (K.text_said (named_in m.now)) x) m.now result
+        (step extensions.string_extension (drop p m.now)) }
     ensures ahead { Ahead m.now p result }
     ensures rests { RestsOn (λ n x. extension_seen (K.text_said n) x) result }
 {
@@ -183,7 +191,8 @@ pub fn extension<K: Keep>(
 ) -> Reached<BodyExtension<K::Text>>
     requires start { p ≤ length m.now }
     requires serves { K.serves keep.now m.now }
-    ensures steps { GivesAt (λ x. extension_seen (K.text_said (named_in m.now)) x) m.now result (step (extensions.extension level) (drop p m.now)) }
+    ensures steps { GivesAt (λ x. extension_seen (K.text_said (named_in m.now)) x) m.now result
+        (step (extensions.extension level) (drop p m.now)) }
     ensures ahead { Ahead m.now p result }
     ensures rests { RestsOn (λ n x. extension_seen (K.text_said n) x) result }
 {
@@ -208,7 +217,8 @@ fn extension_list<K: Keep>(
 ) -> Reached<BodyExtension<K::Text>>
     requires start { p ≤ length m.now }
     requires serves { K.serves keep.now m.now }
-    ensures steps { GivesAt (λ x. extension_seen (K.text_said (named_in m.now)) x) m.now result (step (extensions.extension_list level) (drop p m.now)) }
+    ensures steps { GivesAt (λ x. extension_seen (K.text_said (named_in m.now)) x) m.now result
+        (step (extensions.extension_list level) (drop p m.now)) }
     ensures ahead { Ahead m.now p result }
     ensures rests { RestsOn (λ n x. extension_seen (K.text_said n) x) result }
 {
@@ -229,7 +239,8 @@ fn bracketed_extensions<K: Keep>(
 ) -> Reached<BodyExtension<K::Text>>
     requires start { p ≤ length m.now }
     requires serves { K.serves keep.now m.now }
-    ensures steps { GivesAt (λ x. extension_seen (K.text_said (named_in m.now)) x) m.now result (step (extensions.bracketed_extensions (extensions.extension_list level)) (drop p m.now)) }
+    ensures steps { GivesAt (λ x. extension_seen (K.text_said (named_in m.now)) x) m.now result
+        (step (extensions.bracketed_extensions (extensions.extension_list level)) (drop p m.now)) }
     ensures ahead { Ahead m.now p result }
     ensures rests { RestsOn (λ n x. extension_seen (K.text_said n) x) result }
 {
@@ -251,7 +262,9 @@ fn some_extensions<K: Keep>(
 ) -> Reached<Vec<BodyExtension<K::Text>>>
     requires start { p ≤ length m.now }
     requires serves { K.serves keep.now m.now }
-    ensures steps { GivesAt (λ x. map (extension_seen (K.text_said (named_in m.now))) x.items) m.now result (step (extensions.some_extensions (extensions.extension_list level)) (drop p m.now)) }
+    ensures steps { GivesAt (λ x. map (extension_seen (K.text_said (named_in m.now))) x.items) m.now
+        result
+        (step (extensions.some_extensions (extensions.extension_list level)) (drop p m.now)) }
     ensures ahead { Ahead m.now p result }
     ensures rests { RestsOn (λ n x. map (extension_seen (K.text_said n)) x.items) result }
 {
@@ -277,7 +290,8 @@ fn spaced_extension<K: Keep>(
 ) -> Reached<BodyExtension<K::Text>>
     requires start { p ≤ length m.now }
     requires serves { K.serves keep.now m.now }
-    ensures steps { GivesAt (λ x. extension_seen (K.text_said (named_in m.now)) x) m.now result (step (spaced (extensions.extension level)) (drop p m.now)) }
+    ensures steps { GivesAt (λ x. extension_seen (K.text_said (named_in m.now)) x) m.now result
+        (step (spaced (extensions.extension level)) (drop p m.now)) }
     ensures ahead { Ahead m.now p result }
     ensures rests { RestsOn (λ n x. extension_seen (K.text_said n) x) result }
 {
@@ -296,7 +310,8 @@ pub fn body_extension<K: Keep>(
 ) -> Reached<BodyExtension<K::Text>>
     requires start { p ≤ length m.now }
     requires serves { K.serves keep.now m.now }
-    ensures steps { GivesAt (λ x. extension_seen (K.text_said (named_in m.now)) x) m.now result (step extensions.body_extension (drop p m.now)) }
+    ensures steps { GivesAt (λ x. extension_seen (K.text_said (named_in m.now)) x) m.now result
+        (step extensions.body_extension (drop p m.now)) }
     ensures ahead { Ahead m.now p result }
     ensures rests { RestsOn (λ n x. extension_seen (K.text_said n) x) result }
 {
@@ -308,7 +323,8 @@ pub fn body_extension<K: Keep>(
 #[inline(always)]
 fn maybe_nstring_text(m: &[u8], p: usize) -> Reached<Option<SpannedText>>
     requires { p ≤ length m.now }
-    ensures steps { ExactlyAt (λ x. maybe_text_in (named_in m.now) x) m.now result (step (maybe_spaced texts.nstring_utf8) (drop p m.now)) }
+    ensures steps { ExactlyAt (λ x. maybe_text_in (named_in m.now) x) m.now result
+        (step (maybe_spaced texts.nstring_utf8) (drop p m.now)) }
     ensures ahead { Ahead m.now p result }
     ensures rests { RestsOn maybe_text_in result }
 {
@@ -324,7 +340,8 @@ fn maybe_params<K: Keep>(
 ) -> Reached<BodyParams<K::Text>>
     requires start { p ≤ length m.now }
     requires serves { K.serves keep.now m.now }
-    ensures steps { GivesAt (λ x. params_seen (K.text_said (named_in m.now)) x) m.now result (step (maybe_spaced fields.body_fld_param) (drop p m.now)) }
+    ensures steps { GivesAt (λ x. params_seen (K.text_said (named_in m.now)) x) m.now result
+        (step (maybe_spaced fields.body_fld_param) (drop p m.now)) }
     ensures ahead { Ahead m.now p result }
     ensures rests { RestsOn (λ n x. params_seen (K.text_said n) x) result }
 {
@@ -340,7 +357,8 @@ fn spaced_disposition<K: Keep>(
 ) -> Reached<Option<ContentDisposition<K::Text>>>
     requires start { p ≤ length m.now }
     requires serves { K.serves keep.now m.now }
-    ensures steps { GivesAt (λ x. option_map (disposition_seen (K.text_said (named_in m.now))) x) m.now result (step (spaced extensions.body_fld_dsp) (drop p m.now)) }
+    ensures steps { GivesAt (λ x. option_map (disposition_seen (K.text_said (named_in m.now))) x)
+        m.now result (step (spaced extensions.body_fld_dsp) (drop p m.now)) }
     ensures ahead { Ahead m.now p result }
     ensures rests { RestsOn (λ n x. option_map (disposition_seen (K.text_said n)) x) result }
 {
@@ -357,7 +375,8 @@ fn maybe_disposition<K: Keep>(
 ) -> Reached<Option<ContentDisposition<K::Text>>>
     requires start { p ≤ length m.now }
     requires serves { K.serves keep.now m.now }
-    ensures steps { GivesAt (λ x. option_map (disposition_seen (K.text_said (named_in m.now))) x) m.now result (step (maybe_spaced extensions.body_fld_dsp) (drop p m.now)) }
+    ensures steps { GivesAt (λ x. option_map (disposition_seen (K.text_said (named_in m.now))) x)
+        m.now result (step (maybe_spaced extensions.body_fld_dsp) (drop p m.now)) }
     ensures ahead { Ahead m.now p result }
     ensures rests { RestsOn (λ n x. option_map (disposition_seen (K.text_said n)) x) result }
 {
@@ -373,7 +392,8 @@ fn spaced_languages<K: Keep>(
 ) -> Reached<Option<Vec<K::Text>>>
     requires start { p ≤ length m.now }
     requires serves { K.serves keep.now m.now }
-    ensures steps { GivesAt (λ x. languages_seen (K.text_said (named_in m.now)) x) m.now result (step (spaced extensions.body_fld_lang) (drop p m.now)) }
+    ensures steps { GivesAt (λ x. languages_seen (K.text_said (named_in m.now)) x) m.now result
+        (step (spaced extensions.body_fld_lang) (drop p m.now)) }
     ensures ahead { Ahead m.now p result }
     ensures rests { RestsOn (λ n x. languages_seen (K.text_said n) x) result }
 {
@@ -390,7 +410,8 @@ fn maybe_languages<K: Keep>(
 ) -> Reached<Option<Vec<K::Text>>>
     requires start { p ≤ length m.now }
     requires serves { K.serves keep.now m.now }
-    ensures steps { GivesAt (λ x. languages_seen (K.text_said (named_in m.now)) x) m.now result (step (maybe_spaced extensions.body_fld_lang) (drop p m.now)) }
+    ensures steps { GivesAt (λ x. languages_seen (K.text_said (named_in m.now)) x) m.now result
+        (step (maybe_spaced extensions.body_fld_lang) (drop p m.now)) }
     ensures ahead { Ahead m.now p result }
     ensures rests { RestsOn (λ n x. languages_seen (K.text_said n) x) result }
 {
@@ -408,7 +429,8 @@ fn last_extension<K: Keep>(
 ) -> Reached<Option<BodyExtension<K::Text>>>
     requires start { p ≤ length m.now }
     requires serves { K.serves keep.now m.now }
-    ensures steps { GivesAt (λ x. option_map (extension_seen (K.text_said (named_in m.now))) x) m.now result (step extensions.last_extension (drop p m.now)) }
+    ensures steps { GivesAt (λ x. option_map (extension_seen (K.text_said (named_in m.now))) x)
+        m.now result (step extensions.last_extension (drop p m.now)) }
     ensures ahead { Ahead m.now p result }
     ensures rests { RestsOn (λ n x. option_map (extension_seen (K.text_said n)) x) result }
 {
@@ -428,7 +450,8 @@ pub fn body_ext_1part<K: Keep>(
 ) -> Reached<BodyExt1Part<K::Text>>
     requires start { p ≤ length m.now }
     requires serves { K.serves keep.now m.now }
-    ensures steps { GivesAt (λ x. ext_1part_seen (K.text_said (named_in m.now)) x) m.now result (step extensions.body_ext_1part (drop p m.now)) }
+    ensures steps { GivesAt (λ x. ext_1part_seen (K.text_said (named_in m.now)) x) m.now result
+        (step extensions.body_ext_1part (drop p m.now)) }
     ensures ahead { Ahead m.now p result }
     ensures rests { RestsOn (λ n x. ext_1part_seen (K.text_said n) x) result }
 {
@@ -462,7 +485,8 @@ pub fn body_ext_mpart<K: Keep>(
 ) -> Reached<BodyExtMPart<K::Text>>
     requires start { p ≤ length m.now }
     requires serves { K.serves keep.now m.now }
-    ensures steps { GivesAt (λ x. ext_mpart_seen (K.text_said (named_in m.now)) x) m.now result (step extensions.body_ext_mpart (drop p m.now)) }
+    ensures steps { GivesAt (λ x. ext_mpart_seen (K.text_said (named_in m.now)) x) m.now result
+        (step extensions.body_ext_mpart (drop p m.now)) }
     ensures ahead { Ahead m.now p result }
     ensures rests { RestsOn (λ n x. ext_mpart_seen (K.text_said n) x) result }
 {

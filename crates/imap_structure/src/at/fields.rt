@@ -29,7 +29,8 @@ use std::alloc::Global;
 #[inline(always)]
 fn param(m: &[u8], p: usize) -> Reached<(SpannedText, SpannedText)>
     requires { p ≤ length m.now }
-    ensures steps { ExactlyAt (λ x. pair_in (named_in m.now) x) m.now result (step fields.body_param (drop p m.now)) }
+    ensures steps { ExactlyAt (λ x. pair_in (named_in m.now) x) m.now result
+        (step fields.body_param (drop p m.now)) }
     ensures ahead { Ahead m.now p result }
     ensures rests { RestsOn pair_in result }
 {
@@ -41,7 +42,8 @@ fn param(m: &[u8], p: usize) -> Reached<(SpannedText, SpannedText)>
 #[inline(always)]
 fn spaced_param(m: &[u8], p: usize) -> Reached<(SpannedText, SpannedText)>
     requires { p ≤ length m.now }
-    ensures steps { ExactlyAt (λ x. pair_in (named_in m.now) x) m.now result (step (spaced fields.body_param) (drop p m.now)) }
+    ensures steps { ExactlyAt (λ x. pair_in (named_in m.now) x) m.now result
+        (step (spaced fields.body_param) (drop p m.now)) }
     ensures ahead { Ahead m.now p result }
     ensures rests { RestsOn pair_in result }
 {
@@ -58,7 +60,8 @@ fn some_params<K: Keep>(
 ) -> Reached<Vec<(K::Text, K::Text)>>
     requires start { p ≤ length m.now }
     requires serves { K.serves keep.now m.now }
-    ensures steps { GivesAt (λ x. map (pair_seen (K.text_said (named_in m.now))) x.items) m.now result (step fields.some_params (drop p m.now)) }
+    ensures steps { GivesAt (λ x. map (pair_seen (K.text_said (named_in m.now))) x.items) m.now
+        result (step fields.some_params (drop p m.now)) }
     ensures ahead { Ahead m.now p result }
     ensures rests { RestsOn (λ n x. map (pair_seen (K.text_said n)) x.items) result }
 {
@@ -84,7 +87,8 @@ pub fn body_fld_param<K: Keep>(
 ) -> Reached<BodyParams<K::Text>>
     requires start { p ≤ length m.now }
     requires serves { K.serves keep.now m.now }
-    ensures steps { GivesAt (λ x. params_seen (K.text_said (named_in m.now)) x) m.now result (step fields.body_fld_param (drop p m.now)) }
+    ensures steps { GivesAt (λ x. params_seen (K.text_said (named_in m.now)) x) m.now result
+        (step fields.body_fld_param (drop p m.now)) }
     ensures ahead { Ahead m.now p result }
     ensures rests { RestsOn (λ n x. params_seen (K.text_said n) x) result }
 {
@@ -99,7 +103,8 @@ pub fn body_fld_param<K: Keep>(
 #[tactic(auto, unfolding(crate::specs::Fields::seven_bit))]
 fn seven_bit(m: &[u8], p: usize) -> Reached<ContentEncoding<SpannedText>>
     requires { p ≤ length m.now }
-    ensures steps { ExactlyAt (λ x. encoding_in (named_in m.now) x) m.now result (step fields.seven_bit (drop p m.now)) }
+    ensures steps { ExactlyAt (λ x. encoding_in (named_in m.now) x) m.now result
+        (step fields.seven_bit (drop p m.now)) }
     ensures ahead { Ahead m.now p result }
     ensures rests { RestsOn encoding_in result }
 {
@@ -110,7 +115,8 @@ fn seven_bit(m: &[u8], p: usize) -> Reached<ContentEncoding<SpannedText>>
 #[tactic(auto, unfolding(crate::specs::Fields::eight_bit))]
 fn eight_bit(m: &[u8], p: usize) -> Reached<ContentEncoding<SpannedText>>
     requires { p ≤ length m.now }
-    ensures steps { ExactlyAt (λ x. encoding_in (named_in m.now) x) m.now result (step fields.eight_bit (drop p m.now)) }
+    ensures steps { ExactlyAt (λ x. encoding_in (named_in m.now) x) m.now result
+        (step fields.eight_bit (drop p m.now)) }
     ensures ahead { Ahead m.now p result }
     ensures rests { RestsOn encoding_in result }
 {
@@ -121,7 +127,8 @@ fn eight_bit(m: &[u8], p: usize) -> Reached<ContentEncoding<SpannedText>>
 #[tactic(auto, unfolding(crate::specs::Fields::binary_or_base64))]
 fn binary_or_base64(m: &[u8], p: usize) -> Reached<ContentEncoding<SpannedText>>
     requires { p ≤ length m.now }
-    ensures steps { ExactlyAt (λ x. encoding_in (named_in m.now) x) m.now result (step fields.binary_or_base64 (drop p m.now)) }
+    ensures steps { ExactlyAt (λ x. encoding_in (named_in m.now) x) m.now result
+        (step fields.binary_or_base64 (drop p m.now)) }
     ensures ahead { Ahead m.now p result }
     ensures rests { RestsOn encoding_in result }
 {
@@ -133,7 +140,8 @@ fn binary_or_base64(m: &[u8], p: usize) -> Reached<ContentEncoding<SpannedText>>
 #[tactic(auto, unfolding(crate::specs::Fields::quoted_printable))]
 fn quoted_printable(m: &[u8], p: usize) -> Reached<ContentEncoding<SpannedText>>
     requires { p ≤ length m.now }
-    ensures steps { ExactlyAt (λ x. encoding_in (named_in m.now) x) m.now result (step fields.quoted_printable (drop p m.now)) }
+    ensures steps { ExactlyAt (λ x. encoding_in (named_in m.now) x) m.now result
+        (step fields.quoted_printable (drop p m.now)) }
     ensures ahead { Ahead m.now p result }
     ensures rests { RestsOn encoding_in result }
 {
@@ -144,7 +152,8 @@ fn quoted_printable(m: &[u8], p: usize) -> Reached<ContentEncoding<SpannedText>>
 #[tactic(auto, using(crate::proofs::FirstBytes::name_none, crate::proofs::FirstBytes::name_is_seven_bit, crate::proofs::FirstBytes::name_is_eight_bit, crate::proofs::FirstBytes::name_is_binary_or_base64, crate::proofs::FirstBytes::name_is_quoted_printable, crate::proofs::FirstBytes::name_other))]
 fn encoding_name(m: &[u8], p: usize) -> Reached<ContentEncoding<SpannedText>>
     requires { p ≤ length m.now }
-    ensures steps { ExactlyAt (λ x. encoding_in (named_in m.now) x) m.now result (step fields.encoding_name (drop p m.now)) }
+    ensures steps { ExactlyAt (λ x. encoding_in (named_in m.now) x) m.now result
+        (step fields.encoding_name (drop p m.now)) }
     ensures ahead { Ahead m.now p result }
     ensures rests { RestsOn encoding_in result }
 {
@@ -162,7 +171,8 @@ fn encoding_name(m: &[u8], p: usize) -> Reached<ContentEncoding<SpannedText>>
 #[tactic(auto, unfolding(crate::specs::Fields::quoted_encoding))]
 fn quoted_encoding(m: &[u8], p: usize) -> Reached<ContentEncoding<SpannedText>>
     requires { p ≤ length m.now }
-    ensures steps { ExactlyAt (λ x. encoding_in (named_in m.now) x) m.now result (step fields.quoted_encoding (drop p m.now)) }
+    ensures steps { ExactlyAt (λ x. encoding_in (named_in m.now) x) m.now result
+        (step fields.quoted_encoding (drop p m.now)) }
     ensures ahead { Ahead m.now p result }
     ensures rests { RestsOn encoding_in result }
 {
@@ -175,7 +185,8 @@ fn quoted_encoding(m: &[u8], p: usize) -> Reached<ContentEncoding<SpannedText>>
 #[tactic(auto, unfolding(crate::specs::Fields::nil_encoding))]
 fn nil_encoding(m: &[u8], p: usize) -> Reached<ContentEncoding<SpannedText>>
     requires { p ≤ length m.now }
-    ensures steps { ExactlyAt (λ x. encoding_in (named_in m.now) x) m.now result (step fields.nil_encoding (drop p m.now)) }
+    ensures steps { ExactlyAt (λ x. encoding_in (named_in m.now) x) m.now result
+        (step fields.nil_encoding (drop p m.now)) }
     ensures ahead { Ahead m.now p result }
     ensures rests { RestsOn encoding_in result }
 {
@@ -186,7 +197,8 @@ fn nil_encoding(m: &[u8], p: usize) -> Reached<ContentEncoding<SpannedText>>
 #[tactic(auto, unfolding(crate::specs::Fields::other_encoding))]
 fn other_encoding(m: &[u8], p: usize) -> Reached<ContentEncoding<SpannedText>>
     requires { p ≤ length m.now }
-    ensures steps { ExactlyAt (λ x. encoding_in (named_in m.now) x) m.now result (step fields.other_encoding (drop p m.now)) }
+    ensures steps { ExactlyAt (λ x. encoding_in (named_in m.now) x) m.now result
+        (step fields.other_encoding (drop p m.now)) }
     ensures ahead { Ahead m.now p result }
     ensures rests { RestsOn encoding_in result }
 {
@@ -197,7 +209,8 @@ fn other_encoding(m: &[u8], p: usize) -> Reached<ContentEncoding<SpannedText>>
 #[tactic(auto, unfolding(crate::specs::Fields::encoding_in_quotes))]
 fn encoding_in_quotes(m: &[u8], p: usize) -> Reached<ContentEncoding<SpannedText>>
     requires { p ≤ length m.now }
-    ensures steps { ExactlyAt (λ x. encoding_in (named_in m.now) x) m.now result (step fields.encoding_in_quotes (drop p m.now)) }
+    ensures steps { ExactlyAt (λ x. encoding_in (named_in m.now) x) m.now result
+        (step fields.encoding_in_quotes (drop p m.now)) }
     ensures ahead { Ahead m.now p result }
     ensures rests { RestsOn encoding_in result }
 {
@@ -209,7 +222,8 @@ fn encoding_in_quotes(m: &[u8], p: usize) -> Reached<ContentEncoding<SpannedText
 #[tactic(auto, using(imap_grammar::proofs::Memory::exactly_never_at, crate::proofs::FirstBytes::encoding_none, crate::proofs::FirstBytes::encoding_is_in_quotes, crate::proofs::FirstBytes::encoding_is_literal, crate::proofs::FirstBytes::encoding_is_nil, crate::proofs::FirstBytes::encoding_other))]
 pub fn body_fld_enc(m: &[u8], p: usize) -> Reached<ContentEncoding<SpannedText>>
     requires { p ≤ length m.now }
-    ensures steps { ExactlyAt (λ x. encoding_in (named_in m.now) x) m.now result (step fields.body_fld_enc (drop p m.now)) }
+    ensures steps { ExactlyAt (λ x. encoding_in (named_in m.now) x) m.now result
+        (step fields.body_fld_enc (drop p m.now)) }
     ensures ahead { Ahead m.now p result }
     ensures rests { RestsOn encoding_in result }
     ensures no_failure { NeverFails result }
@@ -226,7 +240,8 @@ pub fn body_fld_enc(m: &[u8], p: usize) -> Reached<ContentEncoding<SpannedText>>
 
 fn spaced_encoding(m: &[u8], p: usize) -> Reached<ContentEncoding<SpannedText>>
     requires { p ≤ length m.now }
-    ensures steps { ExactlyAt (λ x. encoding_in (named_in m.now) x) m.now result (step (spaced fields.body_fld_enc) (drop p m.now)) }
+    ensures steps { ExactlyAt (λ x. encoding_in (named_in m.now) x) m.now result
+        (step (spaced fields.body_fld_enc) (drop p m.now)) }
     ensures ahead { Ahead m.now p result }
     ensures rests { RestsOn encoding_in result }
 {
@@ -246,7 +261,8 @@ pub fn body_fields<K: Keep>(
 ) -> Reached<BodyFields<K::Text>>
     requires start { p ≤ length m.now }
     requires serves { K.serves keep.now m.now }
-    ensures steps { GivesAt (λ x. fields_seen (K.text_said (named_in m.now)) x) m.now result (step fields.body_fields (drop p m.now)) }
+    ensures steps { GivesAt (λ x. fields_seen (K.text_said (named_in m.now)) x) m.now result
+        (step fields.body_fields (drop p m.now)) }
     ensures ahead { Ahead m.now p result }
     ensures rests { RestsOn (λ n x. fields_seen (K.text_said n) x) result }
 {
@@ -278,7 +294,8 @@ pub fn spaced_fields<K: Keep>(
 ) -> Reached<BodyFields<K::Text>>
     requires start { p ≤ length m.now }
     requires serves { K.serves keep.now m.now }
-    ensures steps { GivesAt (λ x. fields_seen (K.text_said (named_in m.now)) x) m.now result (step (spaced fields.body_fields) (drop p m.now)) }
+    ensures steps { GivesAt (λ x. fields_seen (K.text_said (named_in m.now)) x) m.now result
+        (step (spaced fields.body_fields) (drop p m.now)) }
     ensures ahead { Ahead m.now p result }
     ensures rests { RestsOn (λ n x. fields_seen (K.text_said n) x) result }
 {

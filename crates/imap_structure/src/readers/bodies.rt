@@ -19,8 +19,10 @@ use std::alloc::Global;
 /// A body inside `MAX_BODY_DEPTH` others is `Error`. It takes memory for the tree, and for texts that are not UTF-8.
 #[tactic(auto, using(imap_grammar::proofs::Agreement::answered))]
 pub fn body_structure(alloc: Global, i: &[u8]) -> IResult<&[u8], BodyStructure<'_>>
-    ensures steps { Gives (λ x. body_seen text_of bytes_of x) result (step bodies.body_structure i.now) }
-    ensures answer { Answers bodies.body_structure (λ x. body_seen text_of bytes_of x) i.now result }
+    ensures steps { Gives (λ x. body_seen text_of bytes_of x) result
+        (step bodies.body_structure i.now) }
+    ensures answer { Answers bodies.body_structure (λ x. body_seen text_of bytes_of x) i.now
+        result }
 {
     let (q, body) = at::bodies::body_structure(&Named { alloc, m: i }, alloc, i, 0)?;
     Ok((rest(i, q), Box::into_inner(body)))

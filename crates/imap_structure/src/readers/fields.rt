@@ -15,7 +15,8 @@ use std::alloc::Global;
 
 /// The fields of a single part: parameters, id, description, encoding and octets (RFC 3501, section 9: body-fields).
 ///
-/// It takes memory for the parameters, and for texts that are not UTF-8.
+/// A field that is missing, or that its rule denies, is `Error`. It takes memory for the parameters, and for texts that
+/// are not UTF-8.
 #[tactic(auto, using(imap_grammar::proofs::Agreement::answered))]
 pub fn body_fields(alloc: Global, i: &[u8]) -> IResult<&[u8], BodyFields<'_>>
     ensures steps { Gives (λ x. fields_seen text_of x) result (step fields.body_fields i.now) }

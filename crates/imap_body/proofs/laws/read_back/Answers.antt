@@ -1,9 +1,121 @@
-use Rattle.imap_structure.proofs.ExtensionTexts.{keeps_extension}
-use Rattle.imap_structure.proofs.BodyTexts.{keeps_body}
+use Rattle.imap_sections.proofs.SectionTexts.{keeps_section_msgtext, keeps_section_text, keeps_section_part, keeps_section_spec, keeps_section}
+use Rattle.imap_envelopes.proofs.EnvelopeTexts.{keeps_address, keeps_addresses, keeps_envelope}
+use Rattle.imap_structure.proofs.FieldTexts.{keeps_params, keeps_encoding, keeps_fields}
+use Rattle.imap_structure.proofs.ExtensionTexts.{keeps_disposition, keeps_language, keeps_extension, keeps_body_extension, keeps_ext_1part, keeps_ext_mpart}
+use Rattle.imap_structure.proofs.BodyTexts.{keeps_body, keeps_body_structure}
+use Rattle.imap_body.proofs.AttributeTexts as attribute_texts
 use Rattle.imap_body.proofs.laws.read_back.Goals as goal
+
+pub returns-clause-section_msgtext : goal.returns-clause-section_msgtext
+returns-clause-section_msgtext c = keeps_section_msgtext
+
+pub returns-clause-section_text : goal.returns-clause-section_text
+returns-clause-section_text c = keeps_section_text
+
+pub returns-clause-section_part : goal.returns-clause-section_part
+returns-clause-section_part c = keeps_section_part
+
+pub returns-clause-section_spec : goal.returns-clause-section_spec
+returns-clause-section_spec c = keeps_section_spec
+
+pub returns-clause-section : goal.returns-clause-section
+returns-clause-section c = keeps_section
+
+pub returns-clause-address : goal.returns-clause-address
+returns-clause-address c = keeps_address
+
+pub returns-clause-addresses : goal.returns-clause-addresses
+returns-clause-addresses c = keeps_addresses
+
+pub returns-clause-envelope : goal.returns-clause-envelope
+returns-clause-envelope c = keeps_envelope
+
+pub returns-clause-body_fld_param : goal.returns-clause-body_fld_param
+returns-clause-body_fld_param c = keeps_params
+
+pub returns-clause-body_fld_enc : goal.returns-clause-body_fld_enc
+returns-clause-body_fld_enc c = keeps_encoding
+
+pub returns-clause-body_fields : goal.returns-clause-body_fields
+returns-clause-body_fields c = keeps_fields
+
+pub returns-clause-body_fld_dsp : goal.returns-clause-body_fld_dsp
+returns-clause-body_fld_dsp c = keeps_disposition
+
+pub returns-clause-body_fld_lang : goal.returns-clause-body_fld_lang
+returns-clause-body_fld_lang c = keeps_language
 
 pub returns-clause-extension : goal.returns-clause-extension
 returns-clause-extension c = keeps_extension
 
+pub returns-clause-body_extension : goal.returns-clause-body_extension
+returns-clause-body_extension c = keeps_body_extension
+
+pub returns-clause-body_ext_1part : goal.returns-clause-body_ext_1part
+returns-clause-body_ext_1part c = keeps_ext_1part
+
+pub returns-clause-body_ext_mpart : goal.returns-clause-body_ext_mpart
+returns-clause-body_ext_mpart c = keeps_ext_mpart
+
 pub returns-clause-body : goal.returns-clause-body
 returns-clause-body c = keeps_body
+
+pub returns-clause-body_structure : goal.returns-clause-body_structure
+returns-clause-body_structure c = keeps_body_structure
+
+pub returns-clause-msg_att_body_section : goal.returns-clause-msg_att_body_section
+returns-clause-msg_att_body_section c = attribute_texts.keeps_body_section
+
+pub returns-clause-msg_att_body_structure : goal.returns-clause-msg_att_body_structure
+returns-clause-msg_att_body_structure c = attribute_texts.keeps_body_structure
+
+pub returns-clause-msg_att_envelope : goal.returns-clause-msg_att_envelope
+returns-clause-msg_att_envelope c = attribute_texts.keeps_envelope
+
+pub returns-clause-msg_att_internal_date : goal.returns-clause-msg_att_internal_date
+returns-clause-msg_att_internal_date c = attribute_texts.keeps_internal_date
+
+pub returns-clause-msg_att_flags : goal.returns-clause-msg_att_flags
+returns-clause-msg_att_flags c = attribute_texts.keeps_flags
+
+pub returns-clause-msg_att_mod_seq : goal.returns-clause-msg_att_mod_seq
+returns-clause-msg_att_mod_seq c = attribute_texts.keeps_mod_seq
+
+pub returns-clause-msg_att_rfc822 : goal.returns-clause-msg_att_rfc822
+returns-clause-msg_att_rfc822 c = attribute_texts.keeps_rfc822
+
+pub returns-clause-msg_att_rfc822_header : goal.returns-clause-msg_att_rfc822_header
+returns-clause-msg_att_rfc822_header c = attribute_texts.keeps_rfc822_header
+
+pub returns-clause-msg_att_rfc822_size : goal.returns-clause-msg_att_rfc822_size
+returns-clause-msg_att_rfc822_size c = attribute_texts.keeps_rfc822_size
+
+pub returns-clause-msg_att_rfc822_text : goal.returns-clause-msg_att_rfc822_text
+returns-clause-msg_att_rfc822_text c = attribute_texts.keeps_rfc822_text
+
+pub returns-clause-msg_att_uid : goal.returns-clause-msg_att_uid
+returns-clause-msg_att_uid c = attribute_texts.keeps_uid
+
+pub returns-clause-msg_att_gmail_labels : goal.returns-clause-msg_att_gmail_labels
+returns-clause-msg_att_gmail_labels c = attribute_texts.keeps_gmail_labels
+
+pub returns-clause-msg_att_gmail_msgid : goal.returns-clause-msg_att_gmail_msgid
+returns-clause-msg_att_gmail_msgid c = attribute_texts.keeps_gmail_msgid
+
+pub returns-clause-msg_att_gmail_thrid : goal.returns-clause-msg_att_gmail_thrid
+returns-clause-msg_att_gmail_thrid c = attribute_texts.keeps_gmail_thrid
+
+pub returns-clause-msg_att_email_id : goal.returns-clause-msg_att_email_id
+returns-clause-msg_att_email_id c = attribute_texts.keeps_email_id
+
+pub returns-clause-msg_att_thread_id : goal.returns-clause-msg_att_thread_id
+returns-clause-msg_att_thread_id c = attribute_texts.keeps_thread_id
+
+pub returns-clause-msg_att_unknown : goal.returns-clause-msg_att_unknown
+returns-clause-msg_att_unknown c = attribute_texts.keeps_unknown
+
+pub returns-clause-attribute : goal.returns-clause-attribute
+returns-clause-attribute c = attribute_texts.keeps_attribute
+
+pub returns-clause-attribute_list : goal.returns-clause-attribute_list
+returns-clause-attribute_list c = attribute_texts.keeps_attribute_list

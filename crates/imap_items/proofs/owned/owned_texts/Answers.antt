@@ -1,7 +1,6 @@
 use Rattle.std.proofs.Common.{[], ◌∷◌, map, append_assoc}
 use Rattle.std.proofs.lemmas.List.{map-append}
-use Rattle.imap_grammar.specs.Text.{text_of}
-use Rattle.imap_items.specs.Owned.{owned_text}
+use Rattle.imap_grammar.specs.Text.{text_of, owned_text}
 use Rattle.imap_items.proofs.owned.owned_texts.Goals as goal
 
 pub loop-text-preserved : goal.loop-text-preserved

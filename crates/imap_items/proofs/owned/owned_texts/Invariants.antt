@@ -1,6 +1,5 @@
 use Rattle.std.proofs.Common.{◌≡◌, ◌++◌, map}
-use Rattle.imap_grammar.specs.Text.{text_of}
-use Rattle.imap_items.specs.Owned.{owned_text}
+use Rattle.imap_grammar.specs.Text.{text_of, owned_text}
 use Rattle.imap_items.proofs.owned.owned_texts.Given as goal
 
 abbrev pub invariant-loop-text : goal.invariant-loop-text

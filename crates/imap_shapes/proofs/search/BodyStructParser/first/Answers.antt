@@ -1,17 +1,24 @@
-use Rattle.std.proofs.Common.{refl, subst}
+use Rattle.std.proofs.Common.{false, subst, refl, All, Some, ◌∙◌}
+use Rattle.std.proofs.lemmas.List.{take_all}
 use Rattle.std.specs.Fn.{FnReturnsAt}
+use Rattle.imap_shapes.specs.Search.{FindsFirst}
 use Rattle.imap_shapes.specs.declared.search.Part.{Part}
-use Rattle.imap_shapes.proofs.Visits.{found_here, found_later}
+use Rattle.imap_shapes.proofs.Visits.{found_here, not_here}
 use Rattle.imap_shapes.proofs.search.BodyStructParser.first.Goals as goal
 
 pub returns-then-f : goal.returns-then-f
 returns-then-f g c =
     let says : FnReturnsAt g.F.Fn c.args.f c.part-item.result.body.now c.f.result = record { shown = c.part-item.result.body; shows = refl; says = record { met = c.f.ensures } } in
-    found_here (λ (p : Part). FnReturnsAt g.F.Fn c.args.f p.body.now) (λ p. p.path.items) c.args.self.now.parts.items c.deref-part-items.result.now c.loop-part.part-index c.loop-part-test.true c.part-item.result c.part-item.is c.loop-part.invariant _
-    (subst (λ b. FnReturnsAt g.F.Fn c.args.f c.part-item.result.body.now b) c.if-f.true says) refl
+    subst (λ xs. FindsFirst (λ (p : Part). FnReturnsAt g.F.Fn c.args.f p.body.now) (λ p. p.path.items) xs (Some c.part-item.result.path.items)) c.deref-part-items.ensures.value
+    (found_here (λ (p : Part). FnReturnsAt g.F.Fn c.args.f p.body.now) c.deref-part-items.result.now c.loop-part.part-index c.loop-part-test.true c.part-item.result c.part-item.is c.loop-part.invariant (λ p. p.path.items)
+    (subst (λ b. FnReturnsAt g.F.Fn c.args.f c.part-item.result.body.now b) c.if-f.true says))
 
 pub loop-part-preserved : goal.loop-part-preserved
 loop-part-preserved g c =
     let says : FnReturnsAt g.F.Fn c.args.f c.part-item.result.body.now c.f.result = record { shown = c.part-item.result.body; shows = refl; says = record { met = c.f.ensures } } in
-    found_later (λ (p : Part). FnReturnsAt g.F.Fn c.args.f p.body.now) (λ p. p.path.items) c.args.self.now.parts.items c.deref-part-items.result.now c.loop-part.part-index c.loop-part-test.true c.part-item.result c.part-item.is c.loop-part.invariant
+    not_here (λ (p : Part). FnReturnsAt g.F.Fn c.args.f p.body.now) c.deref-part-items.result.now c.loop-part.part-index c.loop-part-test.true c.part-item.result c.part-item.is c.loop-part.invariant
     (subst (λ b. FnReturnsAt g.F.Fn c.args.f c.part-item.result.body.now b) c.if-f.false says)
+
+pub returns : goal.returns
+returns g c =
+    subst (All (λ (p : Part). FnReturnsAt g.F.Fn c.args.f p.body.now false)) (take_all c.loop-part.part-index c.deref-part-items.result.now c.loop-part-test.false ∙ c.deref-part-items.ensures.value) c.loop-part.invariant

@@ -5,6 +5,6 @@ use Rattle.imap_command.proofs.fetching.attributes.FetchCommand+Attributes.into_
 pub returns : goal.returns
 returns c calls at was =
     record {
-      text = rw (c.in_ok-closed.ensures, at, was) refl;
+      text = rw (c.in_ok-args.ensures, at, was) refl;
       next_state = rw (fetches_attributes calls at) refl;
     }
