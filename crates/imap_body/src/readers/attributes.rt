@@ -64,7 +64,7 @@ pub fn attribute(alloc: Global, i: &[u8]) -> IResult<&[u8], AttributeValue<'_>>
 
 /// The attributes of a message in parentheses, one or more, by one space (RFC 3501, section 9: msg-att).
 ///
-/// An empty list, or neither a space nor `)` behind an attribute, is `Error`. It takes memory for the list, for the
+/// An empty list, or one that has no `)` where its attributes end, is `Error`. It takes memory for the list, for the
 /// lists, envelopes and body structures in it, and for texts that are not UTF-8.
 #[tactic(auto, using(imap_grammar::proofs::Agreement::answered))]
 pub fn attribute_list(alloc: Global, i: &[u8]) -> IResult<&[u8], Vec<AttributeValue<'_>>>
