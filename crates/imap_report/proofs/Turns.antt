@@ -13,11 +13,11 @@ use Rattle.imap_proto.specs.Owned.{owned_response}
 use Rattle.imap_proto.specs.Lines.{response}
 use Rattle.imap_proto.specs.Streams.{EndsAs, Waiting as Waits}
 use Rattle.imap_proto.specs.Feeds.{Gave}
-use Rattle.imap_proto.proofs.Streams.{stable, shorter, some_split}
+use Rattle.imap_proto.proofs.Streams.{stable, shorter, some_split, nothing_waits}
 use Rattle.imap_report.specs.declared.outcome.Finish.{Finish}
 use Rattle.imap_report.specs.declared.outcome.Finish.TheVariants.{End, Waiting, Denied}
 use Rattle.imap_report.specs.Devices.{AppendsFront}
-use Rattle.imap_report.specs.Report.{name_of, line, IsReport, next, ends, waits, denied, Told, Writes, Begins}
+use Rattle.imap_report.specs.Report.{name_of, line, IsReport, next, ends, waits, denied, Told, Writes, Begins, SomeReport, OneReport}
 use Rattle.imap_report.proofs.Bytes.{appends_both, appends_nothing}
 
 -- ---- last lines
@@ -32,7 +32,7 @@ pub end_report : (m text : List ℕ) → length m ≡ 0 → text ≡ codes "end\
 end_report [] text n t = subst (λ x. IsReport [] x End) (sym t) ends
 end_report (b ∷ m) text n t = absurd (omega arith)
 
--- ---- there is always a report
+-- ---- there is always a report, and one only
 
 abbrev Reported : List ℕ → Type 0
 Reported m = (text : List ℕ) × (f : Finish) × IsReport m text f
@@ -46,8 +46,29 @@ report_of_split : (vs : List ResponseValue) (m left : List ℕ) (end : Stop) →
 report_of_split [] m left end c e = subst Reported (sym c) (last_report left end e)
 report_of_split (v ∷ vs) m left end c e = let rest = report_of_split vs c.0 left end c.2 e in (_, rest.1, next m v c.0 rest.0 rest.1 c.1 rest.2)
 
-pub some_report : (m : List ℕ) → Reported m
+pub some_report : SomeReport
 some_report m = let s = some_split m in report_of_split s.0 m s.1 s.2 s.3.responses s.3.ends
+
+pub one_report : OneReport
+one_report m a b f g (next k r rest text h y p) (next l s other more i z q) =
+    let same = stable.one_yield k r s rest other y z in
+    let then = one_report rest text more h i p (subst (λ x. IsReport x more i) (sym same.1) q) in
+    (rw (same.0, same.1, then.0) refl, then.1)
+one_report m a b f g (next k r rest text h y p) ends = absurd (nothing_waits.0 r rest y)
+one_report m a b f g (next k r rest text h y p) (waits l some w) = absurd (w.0 r rest y)
+one_report m a b f g (next k r rest text h y p) (denied l d) = absurd (stable.yields_not_denies k r rest y d)
+one_report m a b f g ends (next l s other more i z q) = absurd (nothing_waits.0 s other z)
+one_report m a b f g ends ends = (refl, refl)
+one_report m a b f g ends (waits l some w) = absurd (some refl)
+one_report m a b f g ends (denied l d) = absurd (nothing_waits.1 d)
+one_report m a b f g (waits k some w) (next l s other more i z q) = absurd (w.0 s other z)
+one_report m a b f g (waits k some w) ends = absurd (some refl)
+one_report m a b f g (waits k some w) (waits l any v) = (refl, refl)
+one_report m a b f g (waits k some w) (denied l d) = absurd (w.1 d)
+one_report m a b f g (denied k d) (next l s other more i z q) = absurd (stable.yields_not_denies k s other z d)
+one_report m a b f g (denied k d) ends = absurd (nothing_waits.1 d)
+one_report m a b f g (denied k d) (waits l some w) = absurd (w.1 d)
+one_report m a b f g (denied k d) (denied l e) = (refl, refl)
 
 -- ---- what was told so far
 

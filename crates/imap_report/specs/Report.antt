@@ -105,3 +105,14 @@ TellsResponses remaining left old new end n =
     × Told input rest old new
     × EndsAs rest end
     × (length rest ≡ n)
+
+-- ---- laws
+
+-- all bytes have a report
+abbrev pub SomeReport : Type 0
+SomeReport = (m : List ℕ) → (text : List ℕ) × (f : Finish) × IsReport m text f
+
+-- and one only
+abbrev pub OneReport : Type 0
+OneReport =
+    (m a b : List ℕ) (f g : Finish) → IsReport m a f → IsReport m b g → (a ≡ b) × (f ≡ g)

@@ -2,7 +2,7 @@
 
 ghost use Rattle.std.specs.Prelude.{◌≡◌, ℕ, ◌≤◌, ◌<◌, Bool, true, false, List, Option, length, IfOk, OnOk, OnErr, MatchResult, IsErrOf};
 ghost use Rattle.std.specs.Io.KnownBytes.{Appends, ReadConsumes, WriteAppends};
-ghost use Rattle.imap_report.specs.Devices.{AppendsFront};
+ghost use Rattle.imap_report.specs.Devices.{AppendsFront, FailsAs};
 
 use crate::outcome::Fault;
 use std::io;
@@ -53,14 +53,13 @@ pub trait Sink {
         ensures { result ≡ has_failed self.now };
 }
 
-/// Writes all of the bytes.
+/// Writes all of the bytes. `Write`, the only fault: the writer failed.
 pub(crate) fn write_all<W: Sink>(writer: &mut W, bytes: &[u8]) -> Result<(), Fault>
     requires { W.has_failed writer.old ≡ false }
     ensures ok { OnOk result (Appends (W.contents writer.old) (W.contents writer.new) bytes.now) }
-    ensures on { OnOk result (W.has_failed writer.new ≡ false) }
     ensures front { OnErr result
         (AppendsFront (W.contents writer.old) (W.contents writer.new) bytes.now) }
-    ensures failed { OnErr result (W.has_failed writer.new ≡ true) }
+    ensures failed { FailsAs Fault.Write (W.has_failed writer.new) result }
     ensures fault { OnErr result (IsErrOf result Fault.Write) }
 {
     let mut rest = bytes;

@@ -1,6 +1,6 @@
 //! The whole program, and the exit status that it ends with.
 
-ghost use Rattle.std.specs.Prelude.{◌≡◌, ◌<◌, false};
+ghost use Rattle.std.specs.Prelude.{◌≡◌, ◌<◌, ◌⊎◌, false, true};
 ghost use Rattle.std.specs.Process.{exit_status};
 ghost use Rattle.imap_report.specs.Ending.{status_of};
 ghost use Rattle.imap_report.specs.Report.{ReportsAll, ReportsSome};
@@ -25,7 +25,7 @@ pub fn exit_of(outcome: Result<Finish, Fault>) -> ExitCode
 }
 
 /// Reads the source to its end, writes the report of its bytes as they come, and tells by the exit status how
-/// that ended. After a fault it prints `fault` on standard error. It takes memory.
+/// that ended: it is 1 where a device failed. After a fault it prints `fault` on standard error. It takes memory.
 pub fn cat<E: Eprint, R: Source, W: Sink>(
     alloc: Global,
     rt: &E,
@@ -41,6 +41,8 @@ pub fn cat<E: Eprint, R: Source, W: Sink>(
     ensures broken_off { exit_status result ≡ 1 →
         ReportsSome (R.remaining reader.old) (R.remaining reader.new) (W.contents writer.old)
         (W.contents writer.new) }
+    ensures failed { (R.has_failed reader.new ≡ true) ⊎ (W.has_failed writer.new ≡ true) →
+        exit_status result ≡ 1 }
     ensures known { exit_status result < 4 }
 {
     let outcome = run(alloc, reader, writer);

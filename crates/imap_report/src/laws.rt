@@ -2,6 +2,7 @@
 
 ghost use Rattle.imap_grammar.specs.Equality.{Tells};
 ghost use Rattle.imap_grammar.specs.Copying.{CopiesFreely};
+ghost use Rattle.imap_report.specs.Report.{SomeReport, OneReport};
 
 use crate::outcome::{Fault, Finish};
 
@@ -15,4 +16,11 @@ pub fn equality()
 pub fn cloning()
     ensures finish { CopiesFreely ⟦<Finish as Clone>⟧.is_infallible ⟦<Finish as Clone>⟧.is_clone }
     ensures fault { CopiesFreely ⟦<Fault as Clone>⟧.is_infallible ⟦<Fault as Clone>⟧.is_clone }
+{}
+
+/// All bytes have a report, and one only.
+#[tactic(auto, using(crate::proofs::Turns::some_report, crate::proofs::Turns::one_report))]
+pub fn reports()
+    ensures some { SomeReport }
+    ensures one { OneReport }
 {}

@@ -1,7 +1,8 @@
 //! Runs: input is read piece by piece, and its report is written as its bytes come.
 
-ghost use Rattle.std.specs.Prelude.{◌≡◌, ℕ, ◌+◌, ◌-◌, ◌^◌, ◌≤◌, ◌⊎◌, ◌++◌, List, length, false, true, IfOk, OnOk, OnErr, IfErr};
+ghost use Rattle.std.specs.Prelude.{◌≡◌, ℕ, ◌+◌, ◌-◌, ◌^◌, ◌≤◌, ◌⊎◌, ◌++◌, List, length, false, IfOk, OnOk, OnErr, IfErr};
 ghost use Rattle.std.specs.Io.KnownBytes.{Consumes, IsAtEnd};
+ghost use Rattle.imap_report.specs.Devices.{FailsAs};
 ghost use Rattle.imap_report.specs.Report.{IsReport, ReportsAll, ReportsSome, ReadsAtLeast, TellsResponses};
 
 use crate::devices::{Sink, Source};
@@ -12,7 +13,8 @@ use crate::writers::Writing;
 use imap_proto::stream::{End, Feed};
 use std::alloc::Global;
 
-// Reads a piece and feeds it, and tells how many bytes it has: none only at the end.
+// Reads a piece and feeds it, and tells how many bytes it has: none only at the end. The reader failed exactly where
+// the fault is `Read`.
 fn take_piece<R: Source>(reader: &mut R, feed: &mut Feed) -> Result<usize, Fault>
     requires { R.has_failed reader.old ≡ false }
     ensures taken { IfOk result (λ n.
@@ -21,9 +23,8 @@ fn take_piece<R: Source>(reader: &mut R, feed: &mut Feed) -> Result<usize, Fault
         × (feed.new ≡ feed.old ++ piece)
         × (length piece ≡ n)) }
     ensures end { IfOk result (λ n. n ≡ 0 → IsAtEnd (R.remaining reader.new)) }
-    ensures on { OnOk result (R.has_failed reader.new ≡ false) }
     ensures some { OnErr result (ReadsAtLeast 0 (R.remaining reader.old) (R.remaining reader.new)) }
-    ensures failed { IfErr result (λ e. e ≡ Fault.Read → R.has_failed reader.new ≡ true) }
+    ensures failed { FailsAs Fault.Read (R.has_failed reader.new) result }
     ensures kinds { IfErr result (λ e. (¬ (e ≡ Fault.Write)) × (¬ (e ≡ Fault.TooLong))) }
 {
     let mut buffer = [0; 4096];
@@ -37,7 +38,8 @@ fn take_piece<R: Source>(reader: &mut R, feed: &mut Feed) -> Result<usize, Fault
     }
 }
 
-// Reads to the end, and tells how many bytes there were with those that were counted before.
+// Reads to the end, and tells how many bytes there were with those that were counted before. The reader failed exactly
+// where the fault is `Read`.
 fn count_on<R: Source>(reader: &mut R, counted: usize) -> Result<usize, Fault>
     requires { R.has_failed reader.old ≡ false }
     ensures read { IfOk result (λ n.
@@ -49,7 +51,7 @@ fn count_on<R: Source>(reader: &mut R, counted: usize) -> Result<usize, Fault>
     ensures long { IfErr result (λ e.
         e ≡ Fault.TooLong →
         ReadsAtLeast (2 ^ 64 - 1 - counted) (R.remaining reader.old) (R.remaining reader.new)) }
-    ensures failed { IfErr result (λ e. e ≡ Fault.Read → R.has_failed reader.new ≡ true) }
+    ensures failed { FailsAs Fault.Read (R.has_failed reader.new) result }
     ensures kinds { IfErr result (λ e. ¬ (e ≡ Fault.Write)) }
 {
     let mut total = counted;
@@ -71,7 +73,8 @@ fn count_on<R: Source>(reader: &mut R, counted: usize) -> Result<usize, Fault>
 }
 
 // Reads all input piece by piece, and writes a line for each response as soon as the bytes read tell it. It tells how
-// many bytes are left behind them, and why these give no more; and holds only what waits.
+// many bytes are left behind them, and why these give no more; and holds only what waits. The reader failed exactly
+// where the fault is `Read`, and the writer exactly where it is `Write`.
 fn tell_responses<R: Source, W: Sink>(
     alloc: Global,
     reader: &mut R,
@@ -82,12 +85,11 @@ fn tell_responses<R: Source, W: Sink>(
     ensures told { IfOk result (λ x.
         TellsResponses (R.remaining reader.old) (R.remaining reader.new) (W.contents writer.old)
         (W.contents writer.new) x.0 x.1) }
-    ensures on { OnOk result (W.has_failed writer.new ≡ false) }
     ensures begun { OnErr result
         (ReportsSome (R.remaining reader.old) (R.remaining reader.new) (W.contents writer.old)
         (W.contents writer.new)) }
-    ensures read { IfErr result (λ e. e ≡ Fault.Read → R.has_failed reader.new ≡ true) }
-    ensures write { IfErr result (λ e. e ≡ Fault.Write → W.has_failed writer.new ≡ true) }
+    ensures read { FailsAs Fault.Read (R.has_failed reader.new) result }
+    ensures write { FailsAs Fault.Write (W.has_failed writer.new) result }
     ensures long { IfErr result (λ e.
         e ≡ Fault.TooLong →
         ReadsAtLeast (2 ^ 64 - 1) (R.remaining reader.old) (R.remaining reader.new)) }
@@ -115,7 +117,7 @@ fn tell_responses<R: Source, W: Sink>(
 /// `Fault` what was written is a beginning of the report of what was read.
 ///
 /// `Read`: the reader failed. `Write`: the writer failed. `TooLong`: at least 2^64 - 1 bytes were read.
-/// `OutOfMemory`: memory ran out.
+/// `OutOfMemory`: memory ran out. Where a device failed no other answer comes than its fault.
 pub fn run<R: Source, W: Sink>(
     alloc: Global,
     reader: &mut R,
@@ -129,8 +131,8 @@ pub fn run<R: Source, W: Sink>(
     ensures begun { OnErr result
         (ReportsSome (R.remaining reader.old) (R.remaining reader.new) (W.contents writer.old)
         (W.contents writer.new)) }
-    ensures read { IfErr result (λ e. e ≡ Fault.Read → R.has_failed reader.new ≡ true) }
-    ensures write { IfErr result (λ e. e ≡ Fault.Write → W.has_failed writer.new ≡ true) }
+    ensures read { FailsAs Fault.Read (R.has_failed reader.new) result }
+    ensures write { FailsAs Fault.Write (W.has_failed writer.new) result }
     ensures long { IfErr result (λ e.
         e ≡ Fault.TooLong →
         ReadsAtLeast (2 ^ 64 - 1) (R.remaining reader.old) (R.remaining reader.new)) }

@@ -1,8 +1,9 @@
 //! Reports: the line of each response, and the last line.
 
-ghost use Rattle.std.specs.Prelude.{◌≡◌, ℕ, List, length, false, true, IfOk, OnOk, OnErr, IfErr, string_bytes};
+ghost use Rattle.std.specs.Prelude.{◌≡◌, ℕ, List, length, false, IfOk, OnOk, OnErr, IfErr, string_bytes};
 ghost use Rattle.imap_proto.specs.Responses.{response_value};
 ghost use Rattle.imap_proto.specs.Streams.{EndsAs};
+ghost use Rattle.imap_report.specs.Devices.{FailsAs};
 ghost use Rattle.imap_report.specs.Report.{name_of, line, IsReport, IsTurn, Told, Writes, Begins};
 
 use crate::devices::{Sink, write_all};
@@ -67,15 +68,15 @@ fn next_turn(alloc: Global, feed: &mut Feed) -> Result<Turn, AllocError>
     }
 }
 
-/// Writes a line for each response that the feed has, and tells why it gives no more.
+/// Writes a line for each response that the feed has, and tells why it gives no more. The writer failed exactly where
+/// the fault is `Write`.
 pub(crate) fn tell<W: Sink>(alloc: Global, feed: &mut Feed, writer: &mut W) -> Result<End, Fault>
     requires { W.has_failed writer.old ≡ false }
     ensures told { OnOk result
         (Told feed.old feed.new (W.contents writer.old) (W.contents writer.new)) }
     ensures ends { IfOk result (EndsAs feed.new) }
-    ensures on { OnOk result (W.has_failed writer.new ≡ false) }
     ensures begun { OnErr result (Begins (W.contents writer.old) (W.contents writer.new) feed.old) }
-    ensures fault { IfErr result (λ e. e ≡ Fault.Write → W.has_failed writer.new ≡ true) }
+    ensures failed { FailsAs Fault.Write (W.has_failed writer.new) result }
     ensures kinds { IfErr result (λ e. (¬ (e ≡ Fault.Read)) × (¬ (e ≡ Fault.TooLong))) }
 {
     'turns: loop {
@@ -102,7 +103,8 @@ fn last_line(alloc: Global, end: End, n: usize) -> Result<(Finish, String), Allo
     }
 }
 
-/// Writes the last line, where so many bytes are left and no response stands at their front.
+/// Writes the last line, where so many bytes are left and no response stands at their front. The writer failed exactly
+/// where the fault is `Write`.
 pub(crate) fn tell_last<W: Sink>(
     alloc: Global,
     end: End,
@@ -120,7 +122,7 @@ pub(crate) fn tell_last<W: Sink>(
         EndsAs m end →
         length m ≡ n →
         Begins (W.contents writer.old) (W.contents writer.new) m) }
-    ensures fault { IfErr result (λ e. e ≡ Fault.Write → W.has_failed writer.new ≡ true) }
+    ensures failed { FailsAs Fault.Write (W.has_failed writer.new) result }
     ensures kinds { IfErr result (λ e. (¬ (e ≡ Fault.Read)) × (¬ (e ≡ Fault.TooLong))) }
 {
     let (finish, text) = last_line(alloc, end, n)?;

@@ -29,8 +29,8 @@ pieces-preserved g c =
     record {
       so_far = lines_told _ _ _ _ _ _ _ _ so_far c.in_ok-tell.ensures.told;
       waits = subst (EndsAs c.tell.new.feed) c.in-Waits.is c.in_ok-tell.ensures.ends;
-      reads = c.in_ok-n.ensures.on;
-      writes = c.in_ok-tell.ensures.on;
+      reads = c.in_ok-n.ensures.failed;
+      writes = c.in_ok-tell.ensures.failed;
     }
 
 pub returns-in_err-n-in-Denied-clause-begun : goal.returns-in_err-n-in-Denied-clause-begun

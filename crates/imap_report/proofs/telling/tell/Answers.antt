@@ -11,7 +11,7 @@ turns-preserved g c =
     let h = rw c.in-Line.is at c.in_ok-text.ensures in
     record {
       told = told_on _ _ _ _ _ _ c.turns.invariant.told (told_line _ _ _ h.0 _ _ h.1 (c.as_bytes.ensures.value ∙ h.2) c.in_ok-write_all-in-Line.ensures.ok);
-      on = c.in_ok-write_all-in-Line.ensures.on;
+      on = c.in_ok-write_all-in-Line.ensures.failed;
     }
 
 pub turns-smaller : goal.turns-smaller
