@@ -3,3 +3,4 @@ pub mod Runs
 pub mod Reader
 pub mod ReadBack
 pub mod ToldApart
+pub mod OneLine

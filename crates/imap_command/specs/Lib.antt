@@ -3,3 +3,4 @@ pub mod Words
 pub mod Arguments
 pub mod Calls
 pub mod Apart
+pub mod OneLine

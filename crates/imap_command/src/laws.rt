@@ -2,6 +2,7 @@
 
 ghost use Rattle.std.specs.Prelude.{◌≡◌, ◌↔◌, IsTrue};
 ghost use Rattle.imap_command.specs.Apart.{CallsToldApart};
+ghost use Rattle.imap_command.specs.OneLine.{OneLine};
 
 use crate::command::State;
 use crate::errors::BuildError;
@@ -11,6 +12,12 @@ use crate::words::{AttrMacro, Attribute};
 /// ends.
 pub fn calls_told_apart()
     ensures { CallsToldApart }
+{}
+
+/// Where no argument is refused, what the calls tell has no carriage return, line feed or zero byte: so a finished
+/// command is one line, and no argument brings in another (RFC 3501, section 9: command, quoted).
+pub fn one_line()
+    ensures { OneLine }
 {}
 
 /// `==` tells whether two values are the same.

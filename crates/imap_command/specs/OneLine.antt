@@ -1,0 +1,17 @@
+-- Finished commands are one line each.
+use Rattle.std.specs.Prelude.{◌≡◌, List, All, None}
+use Rattle.imap_command.specs.Arguments.{refusal}
+use Rattle.imap_command.specs.Calls.{Call, told, list, login, select, examine}
+
+-- none of the call's arguments is refused
+abbrev pub Unrefused : Call → Type 0
+Unrefused (list reference glob) = (refusal reference ≡ None) × (refusal glob ≡ None)
+Unrefused (login user_name password) = (refusal user_name ≡ None) × (refusal password ≡ None)
+Unrefused (select mailbox) = refusal mailbox ≡ None
+Unrefused (examine mailbox) = refusal mailbox ≡ None
+Unrefused call = Unit {0}
+
+-- Where no argument is refused, what the calls tell has no byte that an argument is refused for: no carriage return,
+-- line feed or NUL. So a finished command is one line.
+abbrev pub OneLine : Type 0
+OneLine = (calls : List Call) → All Unrefused calls → refusal (told calls).text ≡ None
