@@ -14,7 +14,7 @@ use Rattle.imap_items.specs.declared.types.statuses.Status.TheVariants as status
 use Rattle.imap_items.specs.declared.types.rights.AclRight.TheVariants as right
 use Rattle.imap_data.specs.Codes as code
 use Rattle.imap_data.specs.Names as name
-use Rattle.imap_data.specs.MailboxValues as datum
+use Rattle.imap_data.specs.DatumValues as datum
 use Rattle.imap_data.specs.declared.types.counts.StatusAttribute.TheVariants as item
 use Rattle.imap_extensions.specs.Quotas as resource
 use Rattle.imap_shapes.specs.ExtensionValues as extension

@@ -34,7 +34,7 @@ use Rattle.imap_sections.specs.Sections.{section}
 use Rattle.imap_attributes.specs.AttributeValues.{BodyStructure, Envelope, Flags, InternalDate, ModSeq, Rfc822, Rfc822Header, Rfc822Size, Rfc822Text, Uid, GmailLabels, GmailMsgId, GmailThrId, EmailId, ThreadId, Unknown}
 use Rattle.imap_attributes.specs.Changed.{lent_attribute}
 use Rattle.imap_body.specs.Attributes.{origin, section_of, section_contents, msg_att_body_section, msg_att_body_structure, msg_att_envelope, date, msg_att_internal_date, msg_att_flags, msg_att_mod_seq, msg_att_rfc822, msg_att_rfc822_header, msg_att_rfc822_size, msg_att_rfc822_text, msg_att_uid, msg_att_gmail_labels, msg_att_gmail_msgid, msg_att_gmail_thrid, id_bytes, object_id, bracketed_id, msg_att_email_id, msg_att_thread_id, is_inside, is_bare, skipped_brackets, skipped_nstring, skipped_bare, skipped_value, msg_att_unknown, attribute, attribute_list}
-use Rattle.imap_body.specs.AttributeTexts.{canonical_origin, canonical_id, canonical_nid, canonical_attribute, canonical_attributes, spells_origin, spells_id, is_name, is_any_value, spells_attribute, spells_attributes, AttributeReadsBack}
+use Rattle.imap_body.specs.AttributeTexts.{canonical_origin, canonical_id, canonical_nid, canonical_attribute, canonical_attributes, spells_origin, spells_id, any_name, any_value, spells_attribute, spells_attributes, AttributeReadsBack}
 
 -- what ends an item ends a number
 ends_number : (t : Bytes) → EndsItem t → BeginsWith not_digit t
@@ -252,11 +252,11 @@ id_spells : Spells bracketed_id spells_id
 unfolding bracketed_id object_id id_bytes
 id_spells = spells-tag "(" ▹ˢ spells-gives as_text (spells-utf8 is_astring_char) ◃ˢ spells-tag ")"
 
-name_spells : Spells atom (λ _. is_name)
+name_spells : Spells atom (λ _. any_name)
 unfolding atom
-name_spells = spells-wider (spells-utf8 is_atom_char) (λ v c h. subst is_name (sym h.0) h.1)
+name_spells = spells-wider (spells-utf8 is_atom_char) (λ v c h. subst any_name (sym h.0) h.1)
 
-value_spells : Spells skipped_value (λ _. is_any_value)
+value_spells : Spells skipped_value (λ _. any_value)
 unfolding skipped_value skipped_brackets skipped_nstring skipped_bare
 value_spells =
     spells-gives _ (spells-wider (spells-tag "(" ▹ˢ spells-wider (spells-run0 is_inside) (λ v c h. subst (all_of is_inside) (sym h.0) h.1) ◃ˢ spells-tag ")") (λ v c h. inl h))
@@ -265,7 +265,7 @@ value_spells =
 
 unknown_spells : Spells msg_att_unknown spells_attribute
 unfolding msg_att_unknown
-unknown_spells = spells-where unknown_yields (name_spells ▹ˢ spells-tag " " ▹ˢ spells-names {T = λ _. is_any_value} Unknown value_spells) (λ v c e h. subst (λ w. spells_attribute w c) (sym e) h)
+unknown_spells = spells-where unknown_yields (name_spells ▹ˢ spells-tag " " ▹ˢ spells-names {T = λ _. any_value} Unknown value_spells) (λ v c e h. subst (λ w. spells_attribute w c) (sym e) h)
 
 header_spells : Spells msg_att_rfc822_header spells_attribute
 header_spells = spells-alike header_alike (spells-gives Rfc822Header (spells-word "RFC822.HEADER " ▹ˢ spells-maybe_space ▹ˢ byte_string_spells))

@@ -68,12 +68,12 @@ abbrev pub spells_id : Text → Texts
 spells_id id = exactly "(" and as_it_is (utf8_of is_astring_char) id.bytes and exactly ")"
 
 -- any name: atom-chars that are UTF-8
-abbrev pub is_name : Texts
-is_name = utf8_of is_atom_char
+abbrev pub any_name : Texts
+any_name = utf8_of is_atom_char
 
 -- any value: in brackets up to the first `)`, an nstring, or bytes other than SP and `)`; line ends may be among them
-abbrev pub is_any_value : Texts
-is_any_value c =
+abbrev pub any_value : Texts
+any_value c =
     (exactly "(" and all_of is_inside and exactly ")") c
     ⊎ (((v : Option Bytes) × spells_nstring v c) ⊎ some_of is_bare c)
 
@@ -100,7 +100,7 @@ spells_attribute (GmailMsgId n) = spells_msgid n
 spells_attribute (GmailThrId n) = spells_thrid n
 spells_attribute (EmailId id) = in_any_case "EMAILID " and spells_id id
 spells_attribute (ThreadId id) = in_any_case "THREADID " and nil_or spells_id id
-spells_attribute Unknown = is_name and exactly " " and is_any_value
+spells_attribute Unknown = any_name and exactly " " and any_value
 
 abbrev pub spells_attributes : List AttributeValue → Texts
 spells_attributes = spells_some_list spells_attribute
@@ -109,4 +109,5 @@ spells_attributes = spells_some_list spells_attribute
 
 -- What it takes spells the attribute, and the attribute's canonical text reads back, also before a space.
 abbrev pub AttributeReadsBack : Rule AttributeValue → Type 0
-AttributeReadsBack r = SpellsAndReadsBack r lent_attribute canonical_attribute spells_attribute EndsItem
+AttributeReadsBack r =
+    SpellsAndReadsBack r lent_attribute canonical_attribute spells_attribute EndsItem

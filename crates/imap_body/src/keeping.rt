@@ -1,7 +1,7 @@
 //! Lists of attributes at a position, whatever is kept of each: one reader for positions and for what these name.
 
 ghost use Rattle.std.specs.Prelude.{◌≡◌, ◌≤◌, ◌+◌, ◌++◌, ◌∷◌, [], List, length, drop, map, IfOk, OnOk};
-ghost use Rattle.imap_grammar.specs.Positions.{GivesAt, Ahead, named_in};
+ghost use Rattle.imap_grammar.specs.Positions.{Ahead, named_in, StepsAt};
 ghost use Rattle.imap_grammar.specs.Rule.{list1, ◌▹◌};
 ghost use Rattle.imap_grammar.specs.Step.{step};
 ghost use Rattle.imap_grammar.specs.Tags.{sp};
@@ -52,8 +52,8 @@ pub(crate) trait KeepAttribute: Keep + Drop {
     fn flags(&self, alloc: Global, m: &[u8], p: usize) -> Reached<Vec<Self::Text>>
         requires start { p ≤ length m.now }
         requires serves { Self.serves self.now m.now }
-        ensures steps { GivesAt (λ x. map (Self.text_said (named_in m.now)) x.items) m.now result
-            (step flags.flag_list (drop p m.now)) }
+        ensures steps { StepsAt flags.flag_list (λ x. map (Self.text_said (named_in m.now)) x.items)
+            m.now p result }
         ensures ahead { Ahead m.now p result }
         ensures rests { RestsOn (λ n x. map (Self.text_said n) x.items) result };
 
@@ -62,8 +62,8 @@ pub(crate) trait KeepAttribute: Keep + Drop {
     fn labels(&self, alloc: Global, m: &[u8], p: usize) -> Reached<Vec<Self::Text>>
         requires start { p ≤ length m.now }
         requires serves { Self.serves self.now m.now }
-        ensures steps { GivesAt (λ x. map (Self.text_said (named_in m.now)) x.items) m.now result
-            (step gmail.gmail_label_list (drop p m.now)) }
+        ensures steps { StepsAt gmail.gmail_label_list
+            (λ x. map (Self.text_said (named_in m.now)) x.items) m.now p result }
         ensures ahead { Ahead m.now p result }
         ensures rests { RestsOn (λ n x. map (Self.text_said n) x.items) result };
 
@@ -93,8 +93,8 @@ impl KeepAttribute for Positions {
 
     fn flags(&self, alloc: Global, m: &[u8], p: usize) -> Reached<Vec<SpannedText>>
         requires start { p ≤ length m.now }
-        ensures steps { GivesAt (λ x. map (text_in (named_in m.now)) x.items) m.now result
-            (step flags.flag_list (drop p m.now)) }
+        ensures steps { StepsAt flags.flag_list (λ x. map (text_in (named_in m.now)) x.items) m.now
+            p result }
         ensures ahead { Ahead m.now p result }
         ensures rests { RestsOn (λ n x. map (text_in n) x.items) result }
     {
@@ -104,8 +104,8 @@ impl KeepAttribute for Positions {
 
     fn labels(&self, alloc: Global, m: &[u8], p: usize) -> Reached<Vec<SpannedText>>
         requires start { p ≤ length m.now }
-        ensures steps { GivesAt (λ x. map (text_in (named_in m.now)) x.items) m.now result
-            (step gmail.gmail_label_list (drop p m.now)) }
+        ensures steps { StepsAt gmail.gmail_label_list (λ x. map (text_in (named_in m.now)) x.items)
+            m.now p result }
         ensures ahead { Ahead m.now p result }
         ensures rests { RestsOn (λ n x. map (text_in n) x.items) result }
     {
@@ -137,7 +137,7 @@ impl<'a> KeepAttribute for Named<'a> {
 
     ghost keeps = { λ k read kept.
         map attribute_value kept
-        ≡ map (attribute_said (λ n t. text_of t) (λ n t. bytes_of t) k.m.now) read };
+        ≡ map (attribute_said (λ n. text_of) (λ n. bytes_of) k.m.now) read };
 
     fn behind(&self, _m: &[u8], p: usize) -> Named<'a> {
         let (_, m) = self.m.split_at(p);
@@ -150,8 +150,7 @@ impl<'a> KeepAttribute for Named<'a> {
     fn flags(&self, alloc: Global, m: &[u8], p: usize) -> Reached<Vec<CowStr<'a>>>
         requires start { p ≤ length m.now }
         requires serves { self.now.m.now ≡ m.now }
-        ensures steps { GivesAt (λ x. map text_of x.items) m.now result
-            (step flags.flag_list (drop p m.now)) }
+        ensures steps { StepsAt flags.flag_list (λ x. map text_of x.items) m.now p result }
         ensures ahead { Ahead m.now p result }
         ensures rests { RestsOn (λ n x. map text_of x.items) result }
     {
@@ -163,8 +162,7 @@ impl<'a> KeepAttribute for Named<'a> {
     fn labels(&self, alloc: Global, m: &[u8], p: usize) -> Reached<Vec<CowStr<'a>>>
         requires start { p ≤ length m.now }
         requires serves { self.now.m.now ≡ m.now }
-        ensures steps { GivesAt (λ x. map text_of x.items) m.now result
-            (step gmail.gmail_label_list (drop p m.now)) }
+        ensures steps { StepsAt gmail.gmail_label_list (λ x. map text_of x.items) m.now p result }
         ensures ahead { Ahead m.now p result }
         ensures rests { RestsOn (λ n x. map text_of x.items) result }
     {
@@ -185,10 +183,10 @@ impl<'a> KeepAttribute for Named<'a> {
     ) -> Result<(), AllocError>
         ensures { (read : List (SpannedAttribute _ _)) →
             map attribute_value kept.old.items
-            ≡ map (attribute_said (λ n t. text_of t) (λ n t. bytes_of t) self.now.m.now) read →
+            ≡ map (attribute_said (λ n. text_of) (λ n. bytes_of) self.now.m.now) read →
             OnOk result
             (map attribute_value kept.new.items
-            ≡ map (attribute_said (λ n t. text_of t) (λ n t. bytes_of t) self.now.m.now)
+            ≡ map (attribute_said (λ n. text_of) (λ n. bytes_of) self.now.m.now)
             (read ++ attribute.entry ∷ [])) }
     {
         attribute.push_value(self.m, kept)
@@ -197,7 +195,7 @@ impl<'a> KeepAttribute for Named<'a> {
 
 // The texts that spans are.
 fn texts_of(alloc: Global, spans: &Vec<Span>) -> Result<Vec<SpannedText>, AllocError>
-    ensures { IfOk result (λ v. v.items ≡ map (λ s. Part s) spans.now.items) }
+    ensures { IfOk result (λ v. v.items ≡ map Part spans.now.items) }
 {
     let mut texts = Vec::with_capacity(alloc, spans.len())?;
     for span in spans {
@@ -214,8 +212,8 @@ fn spaced_attribute<K: KeepAttribute>(
 ) -> Reached<SpannedAttribute<K::Text, K::Bytes>>
     requires start { p ≤ length m.now }
     requires serves { K.serves keep.now m.now }
-    ensures steps { GivesAt (λ x. attribute_said K.text_said K.bytes_said m.now x) m.now result
-        (step (sp ▹ rules.attribute) (drop p m.now)) }
+    ensures steps { StepsAt (sp ▹ rules.attribute) (attribute_said K.text_said K.bytes_said m.now)
+        m.now p result }
     ensures ahead { Ahead m.now p result }
     ensures stands { IfOk result (λ x. EndsAt K.text_said K.bytes_said m.now (p + 1) x.0 x.1) }
 {

@@ -53,9 +53,11 @@ pub fn stable()
     ensures section_part { Stable sections.section_part }
     ensures section_spec { Stable sections.section_spec }
     ensures section { Stable sections.section }
+    ensures byte_string { Stable envelopes.byte_string }
     ensures address { Stable envelopes.address }
     ensures addresses { Stable envelopes.addresses }
     ensures envelope { Stable envelopes.envelope }
+    ensures body_param { Stable fields.body_param }
     ensures body_fld_param { Stable fields.body_fld_param }
     ensures body_fld_enc { Stable fields.body_fld_enc }
     ensures body_fields { Stable fields.body_fields }
@@ -72,6 +74,7 @@ pub fn stable()
     ensures body_type_mpart { (level : ℕ) → Stable (bodies.body_type_mpart (bodies.body level)) }
     ensures body { (level : ℕ) → Stable (bodies.body level) }
     ensures body_structure { Stable bodies.body_structure }
+    ensures section_contents { Stable attributes.section_contents }
     ensures msg_att_body_section { Stable attributes.msg_att_body_section }
     ensures msg_att_body_structure { Stable attributes.msg_att_body_structure }
     ensures msg_att_envelope { Stable attributes.msg_att_envelope }

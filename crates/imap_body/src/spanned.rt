@@ -1,9 +1,8 @@
 //! Attributes of a message as positions in it: they keep no bytes, and tell their values of any message that has
 //! bytes in these places.
 
-ghost use Rattle.std.specs.Prelude.{◌≡◌, ◌≤◌, ◌+◌, ◌++◌, ◌∷◌, [], length, drop, map, All, IfOk, OnOk};
-ghost use Rattle.imap_grammar.specs.Positions.{AnswersAt, GivesAt, Ahead};
-ghost use Rattle.imap_grammar.specs.Step.{step};
+ghost use Rattle.std.specs.Prelude.{◌≡◌, ◌≤◌, ◌+◌, ◌++◌, ◌∷◌, [], length, map, All, IfOk, OnOk};
+ghost use Rattle.imap_grammar.specs.Positions.{AnswersAt, Ahead, StepsAt};
 ghost use Rattle.imap_attributes.specs.AttributeValues.{attribute_value, kept_value};
 ghost use Rattle.imap_body.specs.SpannedAttributes.{span_of, attribute_in, attribute_said, EndsAt, InFront, InTurn, WithinItsSpan};
 ghost use Rattle.imap_body.specs.Attributes as rules;
@@ -94,8 +93,8 @@ pub(crate) fn spanned_attribute<K: KeepAttribute>(
 ) -> Reached<SpannedAttribute<K::Text, K::Bytes>>
     requires start { p ≤ length m.now }
     requires serves { K.serves keep.now m.now }
-    ensures steps { GivesAt (λ x. attribute_said K.text_said K.bytes_said m.now x) m.now result
-        (step rules.attribute (drop p m.now)) }
+    ensures steps { StepsAt rules.attribute (attribute_said K.text_said K.bytes_said m.now) m.now p
+        result }
     ensures ahead { Ahead m.now p result }
     ensures stands { IfOk result (λ x. EndsAt K.text_said K.bytes_said m.now p x.0 x.1) }
 {
@@ -113,8 +112,8 @@ pub(crate) fn spanned_attribute<K: KeepAttribute>(
 /// It takes memory for the list, and for the lists, envelopes and body structures in it; for no text.
 pub fn attribute_list_at(alloc: Global, m: &[u8], p: usize) -> Reached<Vec<SpannedAttribute>>
     requires { p ≤ length m.now }
-    ensures steps { GivesAt (λ x. map (attribute_in m.now) x.items) m.now result
-        (step rules.attribute_list (drop p m.now)) }
+    ensures steps { StepsAt rules.attribute_list (λ x. map (attribute_in m.now) x.items) m.now p
+        result }
     ensures answer { AnswersAt rules.attribute_list (λ x. map (attribute_in m.now) x.items) m.now p
         result }
     ensures ahead { Ahead m.now p result }

@@ -2,15 +2,10 @@
 use Rattle.std.proofs.Common.{◌≡◌, ◌≢◌, ℕ, List, Ok, Err, refl}
 use Rattle.imap_grammar.specs.declared.answer.Err.{Err as Fault}
 use Rattle.imap_grammar.specs.declared.answer.Err.TheVariants.{Incomplete, Error, Failure}
-use Rattle.imap_grammar.specs.Rule.{Rule, ◌▹◌}
 use Rattle.imap_grammar.specs.Ranges.{fresh}
 use Rattle.imap_grammar.specs.Step.{step}
-use Rattle.imap_grammar.specs.Tags.{tag}
 use Rattle.imap_bytes.specs.Numbers.{number}
-use Rattle.imap_bytes.specs.Sets.{sequence_range, sequence_item}
-
-abbrev range_end : Rule ℕ
-range_end = tag ":" ▹ number
+use Rattle.imap_bytes.specs.Sets.{range_end, sequence_range, sequence_item}
 
 pub item_fault : (m : List ℕ) (d : Fault) → step number m ≡ Err d → step sequence_item m ≡ Err d
 unfolding sequence_item sequence_range

@@ -18,7 +18,7 @@ use Rattle.imap_grammar.proofs.Reading.{test-has, reads-gives, reads-same, reads
 use Rattle.imap_grammar.proofs.ReadingWords.{first-apart}
 use Rattle.imap_grammar.proofs.ReadingLists.{takes-text, takes-blanks}
 use Rattle.imap_bytes.specs.Numbers.{digits, number, number_64}
-use Rattle.imap_bytes.specs.Sets.{single, sequence_item, sequence_set}
+use Rattle.imap_bytes.specs.Sets.{range_of_one, sequence_item, sequence_set}
 use Rattle.imap_bytes.proofs.ReadingTexts.{not_digit, number_on, number_first, reads-number}
 use Rattle.imap_bytes.proofs.ReadingSets.{number_bound, range_bounds}
 use Rattle.std.proofs.lemmas.Bool.{ltb-true}
@@ -116,7 +116,7 @@ items_yield : Yields (λ r. r.start < 2 ^ 64) sequence_item
 unfolding sequence_item
 items_yield = either_yields
     (record { each = λ m r rest y. let short = (range_bounds m r rest y).1 in omega (arith, short) })
-    (given_yields single numbers_yield (λ n h. h))
+    (given_yields range_of_one numbers_yield (λ n h. h))
 
 pub sets_yield : Yields StartsWithDigit sequence_set
 unfolding sequence_set

@@ -15,7 +15,7 @@ use Rattle.imap_bytes.specs.Numbers.{number}
 use Rattle.imap_bytes.specs.Strings.{atom}
 use Rattle.std.specs.Str.{is_utf8}
 use Rattle.std.proofs.lemmas.List.{map-id}
-use Rattle.imap_bytes.specs.Sets.{sequence_range, single, sequence_item, sequence_set}
+use Rattle.imap_bytes.specs.Sets.{sequence_range, range_of_one, sequence_item, sequence_set}
 use Rattle.imap_bytes.proofs.ReadingTexts.{not_digit, number_on}
 
 pub number_bound : (m : Bytes) (n : ℕ) (rest : Bytes) → (meaning number).yields m n rest → n < 2 ^ 32
@@ -55,7 +55,7 @@ reads-sequence_range = record {
 -- a number alone is written as a range
 pub reads-sequence_item : ReadsBack sequence_item as_is range_text (BeginsWith not_digit)
 unfolding meaning sequence_item
-reads-sequence_item = reads-instead (gives single number) reads-sequence_range
+reads-sequence_item = reads-instead (gives range_of_one number) reads-sequence_range
     (λ m v rest y f t g. let n = number_bound m y.0 rest y.1 in subst (λ w. (meaning sequence_range).yields (written (range_text w) ++ t) w t) y.2 (range_on y.0 y.0 n n t g))
 
 -- what a range goes on with: a digit or `:`; what a set does: also `,`

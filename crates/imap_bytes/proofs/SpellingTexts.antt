@@ -7,13 +7,13 @@ use Rattle.imap_grammar.specs.Classes.{is_quoted_char, is_astring_char, is_text_
 use Rattle.imap_grammar.specs.Ranges.{Range}
 use Rattle.imap_grammar.specs.Tags.{tag}
 use Rattle.imap_grammar.specs.ReadBack.{Texts, Spells}
-use Rattle.imap_grammar.specs.Spelling.{◌and◌, as_it_is, lossily, nil_or, spells_number, spells_literal, is_content_part, is_content, spells_quoted, spells_string, spells_astring, spells_nstring, spells_string_text, spells_quoted_text, spells_astring_text, spells_ntext, spells_line_text, spells_ends, spells_range, spells_ranges}
+use Rattle.imap_grammar.specs.Spelling.{◌and◌, as_it_is, lossily, nil_or, spells_number, spells_literal, content_part, content_text, spells_quoted, spells_string, spells_astring, spells_nstring, spells_string_text, spells_quoted_text, spells_astring_text, spells_ntext, spells_line_text, spells_ends, spells_range, spells_ranges}
 use Rattle.imap_grammar.proofs.ReadingWords.{exact}
 use Rattle.imap_grammar.proofs.Spelling.{◌⨾ˢ◌, ◌▹ˢ◌, ◌◃ˢ◌, spells-gives, spells-wider, spells-test, ◌orˢ◌, ◌⊎ˢ◌, spells-names, spells-word, spells-tag, spells-crlf, spells-run0, spells-run1, spells-raw, spells-counted, spells-many, spells-list1}
 use Rattle.imap_bytes.specs.Numbers.{digits, number_below, number, number_64}
 use Rattle.imap_bytes.specs.Strings.{quoted_part, quoted_content, quoted, literal_header, literal, string, astring, nil, nil_or as nil_or_rule, nstring}
 use Rattle.imap_bytes.specs.Texts.{utf8, string_utf8, quoted_utf8, astring_utf8, nstring_utf8, text}
-use Rattle.imap_bytes.specs.Sets.{from_to, sequence_range, single, sequence_item, sequence_set}
+use Rattle.imap_bytes.specs.Sets.{from_to, sequence_range, range_of_one, sequence_item, sequence_set}
 
 -- ---- numbers and strings
 
@@ -54,11 +54,11 @@ spells-literal = spells-wider (spells-counted (spells-tag "{" ▹ˢ spells-numbe
           (y1, z1 ++ (z2 ++ t), refl, q1, (z1, z2 ++ t, refl, r1, (z2, t, refl, s1, ht))),
         )
 
-is_part : (k : String) → ((c : Bytes) → c ≡ codes k → is_content_part c) → Spells (tag k) (as_it_is is_content_part)
+is_part : (k : String) → ((c : Bytes) → c ≡ codes k → content_part c) → Spells (tag k) (as_it_is content_part)
 unfolding meaning
 is_part k h = record { consumed = λ m v rest y. (v, y.0, (refl, h v (sym (exact (codes k) v y.1)))) }
 
-spells-quoted_content : Spells quoted_content (as_it_is is_content)
+spells-quoted_content : Spells quoted_content (as_it_is content_text)
 unfolding quoted_content quoted_part
 spells-quoted_content =
     spells-raw (spells-many
@@ -119,7 +119,7 @@ spells-sequence_range = spells-gives from_to (spells-wider (spells-number ⨾ˢ 
 
 pub spells-sequence_item : Spells sequence_item spells_range
 unfolding sequence_item
-spells-sequence_item = spells-wider spells-sequence_range (λ r c h. (h.0, inl h.1)) orˢ spells-gives single (spells-wider spells-number (λ n c h. (refl, inr (refl, h))))
+spells-sequence_item = spells-wider spells-sequence_range (λ r c h. (h.0, inl h.1)) orˢ spells-gives range_of_one (spells-wider spells-number (λ n c h. (refl, inr (refl, h))))
 
 pub spells-sequence_set : Spells sequence_set spells_ranges
 unfolding sequence_set

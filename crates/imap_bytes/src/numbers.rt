@@ -1,8 +1,7 @@
 //! Numbers. None takes memory.
 
-ghost use Rattle.imap_grammar.specs.Answer.{Answers, Exactly};
+ghost use Rattle.imap_grammar.specs.Answer.{Answers, StepsExactly};
 ghost use Rattle.imap_grammar.specs.Memory.{NeverFails};
-ghost use Rattle.imap_grammar.specs.Step.{step};
 ghost use Rattle.imap_bytes.specs.Numbers as numbers;
 
 use crate::at;
@@ -15,7 +14,7 @@ use imap_grammar::at::span::rest;
 #[tactic(auto, using(imap_grammar::proofs::Agreement::exact_answered), unfolding(crate::specs::Numbers::number))]
 #[inline(always)]
 pub fn number(i: &[u8]) -> IResult<&[u8], u32>
-    ensures steps { Exactly (λ x. x) result (step numbers.number i.now) }
+    ensures steps { StepsExactly numbers.number (λ x. x) i.now result }
     ensures answer { Answers numbers.number (λ x. x) i.now result }
     ensures no_failure { NeverFails result }
 {
@@ -28,7 +27,7 @@ pub fn number(i: &[u8]) -> IResult<&[u8], u32>
 /// It is judged as `number` is.
 #[tactic(auto, using(imap_grammar::proofs::Agreement::exact_answered), unfolding(crate::specs::Numbers::number_64))]
 pub fn number_64(i: &[u8]) -> IResult<&[u8], u64>
-    ensures steps { Exactly (λ x. x) result (step numbers.number_64 i.now) }
+    ensures steps { StepsExactly numbers.number_64 (λ x. x) i.now result }
     ensures answer { Answers numbers.number_64 (λ x. x) i.now result }
     ensures no_failure { NeverFails result }
 {

@@ -3,9 +3,8 @@
 ghost use Rattle.std.specs.Prelude.{◌≡◌};
 ghost use Rattle.std.specs.Option.{option_map};
 ghost use Rattle.std.specs.Str.{is_utf8};
-ghost use Rattle.imap_grammar.specs.Answer.{Answers, Exactly};
+ghost use Rattle.imap_grammar.specs.Answer.{Answers, StepsExactly};
 ghost use Rattle.imap_grammar.specs.Memory.{NeverFails};
-ghost use Rattle.imap_grammar.specs.Step.{step};
 ghost use Rattle.imap_grammar.specs.Rule.{only};
 ghost use Rattle.imap_bytes.specs.Strings as strings;
 
@@ -19,7 +18,7 @@ use std::str;
 /// NUL, CR, LF, or a backslash before another byte than `"` and `\` is `Error`.
 #[tactic(auto, using(imap_grammar::proofs::Agreement::exact_answered), unfolding(crate::specs::Strings::quoted))]
 pub fn quoted(i: &[u8]) -> IResult<&[u8], &[u8]>
-    ensures steps { Exactly (λ x. x.now) result (step strings.quoted i.now) }
+    ensures steps { StepsExactly strings.quoted (λ x. x.now) i.now result }
     ensures answer { Answers strings.quoted (λ x. x.now) i.now result }
     ensures no_failure { NeverFails result }
 {
@@ -31,7 +30,7 @@ pub fn quoted(i: &[u8]) -> IResult<&[u8], &[u8]>
 /// Where fewer follow, `Needed::Size` is how many are missing. A count above 4,294,967,295 is `Error`.
 #[tactic(auto, using(imap_grammar::proofs::Agreement::exact_answered), unfolding(crate::specs::Strings::literal))]
 pub fn literal(i: &[u8]) -> IResult<&[u8], &[u8]>
-    ensures steps { Exactly (λ x. x.now) result (step strings.literal i.now) }
+    ensures steps { StepsExactly strings.literal (λ x. x.now) i.now result }
     ensures answer { Answers strings.literal (λ x. x.now) i.now result }
     ensures no_failure { NeverFails result }
 {
@@ -44,7 +43,7 @@ pub fn literal(i: &[u8]) -> IResult<&[u8], &[u8]>
 #[tactic(auto, using(imap_grammar::proofs::Agreement::exact_answered), unfolding(crate::specs::Strings::string))]
 #[inline(always)]
 pub fn string(i: &[u8]) -> IResult<&[u8], &[u8]>
-    ensures steps { Exactly (λ x. x.now) result (step strings.string i.now) }
+    ensures steps { StepsExactly strings.string (λ x. x.now) i.now result }
     ensures answer { Answers strings.string (λ x. x.now) i.now result }
     ensures no_failure { NeverFails result }
 {
@@ -56,7 +55,7 @@ pub fn string(i: &[u8]) -> IResult<&[u8], &[u8]>
 /// What begins with neither an astring-char nor a quote nor a brace is `Error`.
 #[tactic(auto, using(imap_grammar::proofs::Agreement::exact_answered), unfolding(crate::specs::Strings::astring))]
 pub fn astring(i: &[u8]) -> IResult<&[u8], &[u8]>
-    ensures steps { Exactly (λ x. x.now) result (step strings.astring i.now) }
+    ensures steps { StepsExactly strings.astring (λ x. x.now) i.now result }
     ensures answer { Answers strings.astring (λ x. x.now) i.now result }
     ensures no_failure { NeverFails result }
 {
@@ -68,7 +67,7 @@ pub fn astring(i: &[u8]) -> IResult<&[u8], &[u8]>
 /// Any other bytes are `Error`.
 #[tactic(auto, using(imap_grammar::proofs::Agreement::exact_answered), unfolding(crate::specs::Strings::nil))]
 pub fn nil(i: &[u8]) -> IResult<&[u8], &[u8]>
-    ensures steps { Exactly (λ x. x.now) result (step strings.nil i.now) }
+    ensures steps { StepsExactly strings.nil (λ x. x.now) i.now result }
     ensures answer { Answers strings.nil (λ x. x.now) i.now result }
     ensures no_failure { NeverFails result }
 {
@@ -80,8 +79,8 @@ pub fn nil(i: &[u8]) -> IResult<&[u8], &[u8]>
 /// What is neither is `Error`.
 #[tactic(auto, using(imap_grammar::proofs::Agreement::exact_answered), unfolding(crate::specs::Strings::nstring))]
 pub fn nstring(i: &[u8]) -> IResult<&[u8], Option<&[u8]>>
-    ensures steps { Exactly (λ x. option_map (λ y. y.now) x) result (step strings.nstring i.now) }
-    ensures answer { Answers strings.nstring (λ x. option_map (λ y. y.now) x) i.now result }
+    ensures steps { StepsExactly strings.nstring (option_map (λ y. y.now)) i.now result }
+    ensures answer { Answers strings.nstring (option_map (λ y. y.now)) i.now result }
     ensures no_failure { NeverFails result }
 {
     let (q, content) = at::strings::nstring(i, 0)?;
@@ -103,7 +102,7 @@ pub fn as_utf8(bytes: &[u8]) -> Option<&str>
 /// Bytes that are not UTF-8 are `Error`.
 #[tactic(auto, using(imap_grammar::proofs::Agreement::exact_answered), unfolding(crate::specs::Strings::atom))]
 pub fn atom(i: &[u8]) -> IResult<&[u8], &str>
-    ensures steps { Exactly (λ x. x.now) result (step strings.atom i.now) }
+    ensures steps { StepsExactly strings.atom (λ x. x.now) i.now result }
     ensures answer { Answers strings.atom (λ x. x.now) i.now result }
     ensures no_failure { NeverFails result }
 {

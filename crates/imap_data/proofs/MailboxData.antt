@@ -6,8 +6,7 @@ use Rattle.imap_grammar.specs.Equality.{Tells}
 use Rattle.imap_grammar.proofs.Seen.{unequal, kinds_apart, texts_tell, text_tells, numbers_tell, items_tell, text_lists_tell, plain_lists_tell}
 use Rattle.imap_extensions.specs.Annotations.{metadata_value}
 use Rattle.imap_extensions.proofs.Annotations.{metadata_tell}
-use Rattle.imap_data.specs.Counts.{item_content}
-use Rattle.imap_data.specs.MailboxValues.{MailboxValue, Exists, Flags, Listed, Search, Sort, Status, Recent, MetadataSolicited, MetadataUnsolicited, GmailLabels, GmailMsgId, GmailThrId, mailbox_content}
+use Rattle.imap_data.specs.DatumValues.{DatumValue, Exists, Flags, Listed, Search, Sort, Status, Recent, MetadataSolicited, MetadataUnsolicited, GmailLabels, GmailMsgId, GmailThrId, datum_content}
 use Rattle.imap_data.specs.declared.types.mailbox_data.MailboxDatum.{MailboxDatum}
 use Rattle.imap_data.specs.declared.types.mailbox_data.MailboxDatum.TheVariants as datum
 use Rattle.imap_data.specs.contracts.types.counts.StatusAttributePartialEq.TheImpl as item_eq
@@ -15,7 +14,7 @@ use Rattle.imap_extensions.specs.contracts.types.annotations.MetadataPartialEq.T
 use Rattle.imap_data.specs.contracts.types.mailbox_data.MailboxDatumPartialEq.TheImpl as datum_eq
 use Rattle.imap_data.proofs.Names.{list_tells}
 
-items_are_told : Tells (item_eq.eq-value).it item_content
+items_are_told : Tells (item_eq.eq-value).it (λ x. x)
 items_are_told = search rules
 
 annotations_tell : Tells (pointwise (metadata_eq.eq-value).it) (map metadata_value)
@@ -25,7 +24,7 @@ counts_tell : Tells (pointwise (item_eq.eq-value).it) (λ xs. xs)
 counts_tell = plain_lists_tell _ items_are_told
 
 -- the number of its kind
-abbrev kind_of : MailboxValue → ℕ
+abbrev kind_of : DatumValue → ℕ
 kind_of (Exists _) = 0
 kind_of (Flags _) = 1
 kind_of (Listed _) = 2
@@ -39,7 +38,7 @@ kind_of (GmailLabels _) = 9
 kind_of (GmailMsgId _) = 10
 kind_of (GmailThrId _) = 11
 
-datum_same : (x y : MailboxDatum) → (datum_eq.eq-value).it x y ≡ true → mailbox_content x ≡ mailbox_content y
+datum_same : (x y : MailboxDatum) → (datum_eq.eq-value).it x y ≡ true → datum_content x ≡ datum_content y
 datum_same (datum.Exists x) (datum.Exists y) h = ap Exists (numbers_tell.same x y h)
 datum_same (datum.Flags x) (datum.Flags y) h = ap Flags (text_lists_tell.same x.items y.items h)
 datum_same (datum.List x) (datum.List y) h = ap Listed (list_tells.same x y h)
@@ -66,7 +65,7 @@ datum_same (datum.GmailMsgId x) (datum.GmailMsgId y) h = ap GmailMsgId (numbers_
 datum_same (datum.GmailThrId x) (datum.GmailThrId y) h = ap GmailThrId (numbers_tell.same x y h)
 datum_same x y h = absurd (unequal h)
 
-datum_equal : (x y : MailboxDatum) → mailbox_content x ≡ mailbox_content y → (datum_eq.eq-value).it x y ≡ true
+datum_equal : (x y : MailboxDatum) → datum_content x ≡ datum_content y → (datum_eq.eq-value).it x y ≡ true
 datum_equal (datum.Exists x) (datum.Exists y) h = numbers_tell.equal x y cc
 datum_equal (datum.Flags x) (datum.Flags y) h = text_lists_tell.equal x.items y.items cc
 datum_equal (datum.List x) (datum.List y) h = list_tells.equal x y cc
@@ -81,5 +80,5 @@ datum_equal (datum.GmailMsgId x) (datum.GmailMsgId y) h = numbers_tell.equal x y
 datum_equal (datum.GmailThrId x) (datum.GmailThrId y) h = numbers_tell.equal x y cc
 datum_equal x y h = absurd (kinds_apart kind_of _ _ refl h)
 
-pub data_tell : Tells (datum_eq.eq-value).it mailbox_content
+pub data_tell : Tells (datum_eq.eq-value).it datum_content
 data_tell = record { same = datum_same; equal = datum_equal }

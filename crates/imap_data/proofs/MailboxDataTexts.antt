@@ -25,7 +25,7 @@ use Rattle.imap_data.specs.Counts.{highest_mod_seq, messages, recent as recent_i
 use Rattle.imap_data.specs.Names.{ListValue, lent_list, list_data}
 use Rattle.imap_data.specs.NameTexts.{canonical_list}
 use Rattle.imap_data.proofs.NameTexts.{reads_list_data, list_data_spells}
-use Rattle.imap_data.specs.MailboxValues.{MailboxValue, Exists, Flags, Listed, Search, Sort, Recent, GmailLabels, GmailMsgId, GmailThrId, lent_mailbox}
+use Rattle.imap_data.specs.DatumValues.{DatumValue, Exists, Flags, Listed, Search, Sort, Recent, GmailLabels, GmailMsgId, GmailThrId, lent_datum}
 use Rattle.imap_data.specs.MailboxData.{flags, exists, list, lsub, list_or_lsub, status_of, status, recent, search as search_rule, labels, msgid, thrid, sort, mailbox_datum}
 use Rattle.imap_data.specs.MailboxDataTexts.{canonical_item, canonical_numbers, canonical_datum, spells_item, spells_numbers, spells_datum}
 
@@ -55,56 +55,56 @@ closes_item = closes-in ends_item refl refl
 
 -- ---- each alternative
 
-reads_flags : ReadsBack flags lent_mailbox canonical_datum Closes
+reads_flags : ReadsBack flags lent_datum canonical_datum Closes
 unfolding flags
 reads_flags = reads-gives Flags (takes-word "FLAGS " "FLAGS " refl ▹ʳ reads-follow reads_flag_list (λ t g. tt)) (λ x. refl)
 
 closing : {A : Type 0} {a : Rule A} {p : Pieces} → Takes a p Any → Takes a p Closes
 closing h = record { taken = λ f t g. h.taken f t tt }
 
-reads_exists : ReadsBack exists lent_mailbox canonical_datum Closes
+reads_exists : ReadsBack exists lent_datum canonical_datum Closes
 unfolding exists
 reads_exists = reads-counted Exists " EXISTS" " EXISTS" (closing (takes-word " EXISTS" " EXISTS" refl)) (λ n. refl) (λ t. refl) (λ n. refl)
 
-reads_recent : ReadsBack recent lent_mailbox canonical_datum Closes
+reads_recent : ReadsBack recent lent_datum canonical_datum Closes
 unfolding recent
 reads_recent = reads-counted Recent " RECENT" " RECENT" (closing (takes-word " RECENT" " RECENT" refl)) (λ n. refl) (λ t. refl) (λ n. refl)
 
-reads_list : ReadsBack list lent_mailbox canonical_datum Closes
+reads_list : ReadsBack list lent_datum canonical_datum Closes
 unfolding list
 reads_list = reads-gives Listed (takes-word "LIST " "LIST " refl ▹ʳ reads-follow reads_list_data (λ t g. tt)) (λ x. refl)
 
-reads_status : ReadsBack status lent_mailbox canonical_datum Closes
+reads_status : ReadsBack status lent_datum canonical_datum Closes
 unfolding status
 reads_status = reads-gives status_of (takes-word "STATUS " "STATUS " refl ▹ʳ reads_mailbox ⨾ʳ takes-text " " ▹ʳ reads-follow reads_items (λ t g. tt)) (λ x. refl)
 
-reads_search : ReadsBack search_rule lent_mailbox canonical_datum Closes
+reads_search : ReadsBack search_rule lent_datum canonical_datum Closes
 unfolding search_rule
 reads_search = reads-gives Search (takes-word "SEARCH" "SEARCH" refl ▹ʳ reads_numbers) (λ x. refl)
 
-reads_sort : ReadsBack sort lent_mailbox canonical_datum Closes
+reads_sort : ReadsBack sort lent_datum canonical_datum Closes
 unfolding sort
 reads_sort = reads-gives Sort (takes-word "SORT" "SORT" refl ▹ʳ reads_numbers) (λ x. refl)
 
-reads_labels : ReadsBack labels lent_mailbox canonical_datum Closes
+reads_labels : ReadsBack labels lent_datum canonical_datum Closes
 unfolding labels
 reads_labels = reads-gives GmailLabels (reads-follow keeps_label_list.back closes_item) (λ x. refl)
 
-reads_msgid : ReadsBack msgid lent_mailbox canonical_datum Closes
+reads_msgid : ReadsBack msgid lent_datum canonical_datum Closes
 unfolding msgid
 reads_msgid = reads-gives GmailMsgId (reads-follow keeps_msgid.back closes_item) (λ x. refl)
 
-reads_thrid : ReadsBack thrid lent_mailbox canonical_datum Closes
+reads_thrid : ReadsBack thrid lent_datum canonical_datum Closes
 unfolding thrid
 reads_thrid = reads-gives GmailThrId (reads-follow keeps_thrid.back closes_item) (λ x. refl)
 
 -- LSUB's data as LIST's
-lsub_as_list : (m : Bytes) (v : MailboxValue) (rest : Bytes) → (meaning lsub).yields m v rest → Fits (canonical_datum v) → (t : Bytes) → Closes t → (meaning list).yields (written (canonical_datum v) ++ t) (lent_mailbox v) t
+lsub_as_list : (m : Bytes) (v : DatumValue) (rest : Bytes) → (meaning lsub).yields m v rest → Fits (canonical_datum v) → (t : Bytes) → Closes t → (meaning list).yields (written (canonical_datum v) ++ t) (lent_datum v) t
 unfolding lsub list
 lsub_as_list m v rest y fits t g =
     let has = gives-has Listed (word "LSUB " ▹ list_data) m v rest y in
     let inner = after-has (word "LSUB ") list_data m has.0 rest has.1 in
-    subst (λ w. (meaning (gives Listed (word "LIST " ▹ list_data))).yields (written (canonical_datum w) ++ t) (lent_mailbox w) t) has.2 (told has.0 inner.0 inner.1 (subst (λ w. Fits (canonical_datum w)) (sym has.2) fits))
+    subst (λ w. (meaning (gives Listed (word "LIST " ▹ list_data))).yields (written (canonical_datum w) ++ t) (lent_datum w) t) has.2 (told has.0 inner.0 inner.1 (subst (λ w. Fits (canonical_datum w)) (sym has.2) fits))
   where
     told : (l : ListValue) (mid : Bytes) → (meaning list_data).yields mid l rest → Fits (canonical_list l)
         → (meaning (gives Listed (word "LIST " ▹ list_data))).yields (written (canonical_datum (Listed l)) ++ t) (Listed (lent_list l)) t
@@ -209,22 +209,22 @@ status_last = search apart_forms depth 20
 
 -- ---- the choice
 
-reads_last : ReadsBack (search_rule or labels or msgid or thrid or sort) lent_mailbox canonical_datum Closes
+reads_last : ReadsBack (search_rule or labels or msgid or thrid or sort) lent_datum canonical_datum Closes
 unfolding search_rule labels gmail_label_list msgid gmail_msgid thrid gmail_thrid sort
 reads_last =
     first reads_search (search apart_forms depth 20) (first reads_labels (search apart_forms depth 20) (first reads_msgid (search apart_forms depth 20) (first reads_thrid (search apart_forms depth 20) reads_sort)))
 
-reads_recents : ReadsBack (recent or search_rule or labels or msgid or thrid or sort) lent_mailbox canonical_datum Closes
+reads_recents : ReadsBack (recent or search_rule or labels or msgid or thrid or sort) lent_datum canonical_datum Closes
 unfolding recent number digits search_rule labels gmail_label_list msgid gmail_msgid thrid gmail_thrid sort
 reads_recents = first reads_recent (search apart_forms depth 20) reads_last
 
-reads_statuses : ReadsBack (status or recent or search_rule or labels or msgid or thrid or sort) lent_mailbox canonical_datum Closes
+reads_statuses : ReadsBack (status or recent or search_rule or labels or msgid or thrid or sort) lent_datum canonical_datum Closes
 reads_statuses = first reads_status (apart-alt _ _ status_recent status_last) reads_recents
 
-reads_lists : ReadsBack (list or lsub or status or recent or search_rule or labels or msgid or thrid or sort) lent_mailbox canonical_datum Closes
+reads_lists : ReadsBack (list or lsub or status or recent or search_rule or labels or msgid or thrid or sort) lent_datum canonical_datum Closes
 reads_lists = first_instead reads_list lsub_as_list (apart-alt _ _ list_status (apart-alt _ _ list_recent list_last)) (apart-alt _ _ lsub_status (apart-alt _ _ lsub_recent lsub_last)) reads_statuses
 
-reads_list_or_lsub : ReadsBack list_or_lsub lent_mailbox canonical_datum Closes
+reads_list_or_lsub : ReadsBack list_or_lsub lent_datum canonical_datum Closes
 unfolding list_or_lsub meaning
 reads_list_or_lsub = record {
   again = λ m v rest y f t g.
@@ -234,7 +234,7 @@ reads_list_or_lsub = record {
       ];
 }
 
-pub reads_mailbox_datum : ReadsBack mailbox_datum lent_mailbox canonical_datum Closes
+pub reads_mailbox_datum : ReadsBack mailbox_datum lent_datum canonical_datum Closes
 unfolding mailbox_datum
 reads_mailbox_datum =
     first reads_flags (apart-alt _ _ flags_exists (apart-alt _ _ flags_list (apart-alt _ _ flags_lsub (apart-alt _ _ flags_status (apart-alt _ _ flags_recent flags_last)))))
@@ -283,8 +283,8 @@ mailbox_datum_spells =
     orˢ spells-gives GmailThrId keeps_thrid.spelled
     orˢ spells-gives Sort (spells-word "SORT" ▹ˢ numbers_spell)
 
-pub keeps_list_or_lsub : SpellsAndReadsBack list_or_lsub lent_mailbox canonical_datum spells_datum Closes
+pub keeps_list_or_lsub : SpellsAndReadsBack list_or_lsub lent_datum canonical_datum spells_datum Closes
 keeps_list_or_lsub = record { spelled = list_or_lsub_spells; back = reads_list_or_lsub }
 
-pub keeps_mailbox_datum : SpellsAndReadsBack mailbox_datum lent_mailbox canonical_datum spells_datum Closes
+pub keeps_mailbox_datum : SpellsAndReadsBack mailbox_datum lent_datum canonical_datum spells_datum Closes
 keeps_mailbox_datum = record { spelled = mailbox_datum_spells; back = reads_mailbox_datum }

@@ -21,7 +21,7 @@ use Rattle.imap_bytes.proofs.SpellingTexts.{spells-quoted_utf8}
 use Rattle.imap_items.specs.Flags.{backslashed, backslashed_text}
 use Rattle.imap_items.proofs.FlagTexts.{backslashed-has, reads_backslashed}
 use Rattle.imap_items.proofs.MailboxTexts.{reads_mailbox, mailbox_spells}
-use Rattle.imap_data.specs.Names.{NameAttributeValue, NoInferiors, NoSelect, Marked, Unmarked, All, Archive, Drafts, Flagged, Junk, Sent, Trash, lent_attribute, lent_list, extension_of, name_attribute, name_attributes, delimiter, listed, list_data}
+use Rattle.imap_data.specs.Names.{NameAttributeValue, NoInferiors, NoSelect, Marked, Unmarked, All, Archive, Drafts, Flagged, Junk, Sent, Trash, lent_attribute, lent_list, extension_of, name_attribute, name_attributes, delimiter, list_of_parts, list_data}
 use Rattle.imap_data.specs.NameTexts.{canonical_attribute, canonical_delimiter, canonical_list, spells_attribute, spells_list_data}
 
 abbrev AtomEnds : Bytes → Type 0
@@ -68,7 +68,7 @@ reads_delimiter = first (reads-gives Some reads-quoted_utf8 (λ x. refl)) (searc
 pub reads_list_data : ReadsBack list_data lent_list canonical_list Any
 unfolding list_data name_attributes name_attribute backslashed_text backslashed
 reads_list_data =
-    reads-gives listed (reads-list_of reads_name_attribute (λ t. refl) (λ t. refl) (λ t. search denials depth 30) ⨾ʳ takes-text " " ▹ʳ reads_delimiter ⨾ʳ takes-text " " ▹ʳ reads_mailbox) (λ x. refl)
+    reads-gives list_of_parts (reads-list_of reads_name_attribute (λ t. refl) (λ t. refl) (λ t. search denials depth 30) ⨾ʳ takes-text " " ▹ʳ reads_delimiter ⨾ʳ takes-text " " ▹ʳ reads_mailbox) (λ x. refl)
 
 -- ---- spelling
 
@@ -100,5 +100,5 @@ delimiter_spells = spells-gives Some spells-quoted_utf8 orˢ spells-names None (
 pub list_data_spells : Spells list_data spells_list_data
 unfolding list_data name_attributes
 list_data_spells =
-    spells-gives listed
+    spells-gives list_of_parts
     (spells-list_of name_attribute_spells ⨾ˢ spells-tag " " ▹ˢ delimiter_spells ⨾ˢ spells-tag " " ▹ˢ mailbox_spells)

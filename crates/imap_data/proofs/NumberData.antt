@@ -7,11 +7,11 @@ use Rattle.imap_grammar.proofs.Agreement.{reads}
 use Rattle.imap_grammar.proofs.Memory.{never_both}
 use Rattle.imap_grammar.proofs.Yields.{Yields, either_yields, made_yields}
 use Rattle.imap_items.specs.Gmail.{gmail_msgid, gmail_thrid}
-use Rattle.imap_data.specs.MailboxValues.{MailboxValue, Flags, Listed, Search, Sort, GmailLabels, IsNumber}
+use Rattle.imap_data.specs.DatumValues.{DatumValue, Flags, Listed, Search, Sort, GmailLabels, IsNumber}
 use Rattle.imap_data.specs.Annotations.{solicited_of, metadata_solicited, unsolicited_of, metadata_unsolicited}
 use Rattle.imap_data.specs.MailboxData.{flags, list, lsub, status_of, status, search, sort, labels, msgid, thrid, list_or_lsub, datum_of_s, datum_of_x}
 
-abbrev IsOther : MailboxValue → Type 0
+abbrev IsOther : DatumValue → Type 0
 IsOther v = ¬ (IsNumber v)
 
 pub flags_other : Yields IsOther flags
@@ -31,7 +31,7 @@ unfolding labels
 labels_made = made_yields GmailLabels (λ v h. h)
 
 -- where the word of labels stands in front, no number is yielded
-pub labels_other : (v : MailboxValue) (m rest : List ℕ) → BeginsWord "X-GM-LABELS " m → step datum_of_x m ≡ Ok (rest, v) → ¬ (IsNumber v)
+pub labels_other : (v : DatumValue) (m rest : List ℕ) → BeginsWord "X-GM-LABELS " m → step datum_of_x m ≡ Ok (rest, v) → ¬ (IsNumber v)
 unfolding datum_of_x msgid thrid gmail_msgid gmail_thrid meaning
 labels_other v m rest b is = elim (reads datum_of_x m rest v is) [
   | inl y ↦ labels_made.each m v rest y

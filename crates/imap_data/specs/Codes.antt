@@ -19,7 +19,8 @@ use Rattle.imap_data.specs.declared.types.codes.ResponseCode.TheVariants as code
 -- ---- values
 
 pub data CodeValue : Type 0 where
-  Alert Parse ReadOnly ReadWrite TryCreate UidNotSticky MetadataTooMany MetadataNoPrivate : CodeValue
+  Alert Parse ReadOnly ReadWrite TryCreate UidNotSticky : CodeValue
+  MetadataTooMany MetadataNoPrivate : CodeValue
   BadCharset : Option (List Text) → CodeValue
   Capabilities : List CapabilityValue → CodeValue
   PermanentFlags : List Text → CodeValue

@@ -42,7 +42,3 @@ found_number = sp ▹ number
 -- numbers, each behind a space, maybe none; some servers end them by a space
 unfoldable pub found_numbers : Rule (List ℕ)
 found_numbers = many found_number ◃ maybe_space
-
--- what `==` tells of an item
-abbrev pub item_content : StatusAttribute → StatusAttribute
-item_content i = i

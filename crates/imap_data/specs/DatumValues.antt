@@ -7,40 +7,40 @@ use Rattle.imap_data.specs.declared.types.counts.StatusAttribute.{StatusAttribut
 use Rattle.imap_data.specs.declared.types.mailbox_data.MailboxDatum.{MailboxDatum}
 use Rattle.imap_data.specs.declared.types.mailbox_data.MailboxDatum.TheVariants as datum
 
-pub data MailboxValue : Type 0 where
-  Exists : ℕ → MailboxValue
-  Flags : List Text → MailboxValue
-  Listed : ListValue → MailboxValue
-  Search : List ℕ → MailboxValue
-  Sort : List ℕ → MailboxValue
-  Status : Text → List StatusAttribute → MailboxValue
-  Recent : ℕ → MailboxValue
-  MetadataSolicited : Text → List MetadataValue → MailboxValue
-  MetadataUnsolicited : Text → List Text → MailboxValue
-  GmailLabels : List Text → MailboxValue
-  GmailMsgId : ℕ → MailboxValue
-  GmailThrId : ℕ → MailboxValue
+pub data DatumValue : Type 0 where
+  Exists : ℕ → DatumValue
+  Flags : List Text → DatumValue
+  Listed : ListValue → DatumValue
+  Search : List ℕ → DatumValue
+  Sort : List ℕ → DatumValue
+  Status : Text → List StatusAttribute → DatumValue
+  Recent : ℕ → DatumValue
+  MetadataSolicited : Text → List MetadataValue → DatumValue
+  MetadataUnsolicited : Text → List Text → DatumValue
+  GmailLabels : List Text → DatumValue
+  GmailMsgId : ℕ → DatumValue
+  GmailThrId : ℕ → DatumValue
 
 -- ---- of the code's values
 
-abbrev pub mailbox_value : MailboxDatum → MailboxValue
-mailbox_value (datum.Exists n) = Exists n
-mailbox_value (datum.Flags flags) = Flags (map text_of flags.items)
-mailbox_value (datum.List l) = Listed (list_value l)
-mailbox_value (datum.Search ns) = Search ns.items
-mailbox_value (datum.Sort ns) = Sort ns.items
-mailbox_value (datum.Status mailbox items) = Status (text_of mailbox) items.items
-mailbox_value (datum.Recent n) = Recent n
-mailbox_value (datum.MetadataSolicited mailbox values) =
+abbrev pub datum_value : MailboxDatum → DatumValue
+datum_value (datum.Exists n) = Exists n
+datum_value (datum.Flags flags) = Flags (map text_of flags.items)
+datum_value (datum.List l) = Listed (list_value l)
+datum_value (datum.Search ns) = Search ns.items
+datum_value (datum.Sort ns) = Sort ns.items
+datum_value (datum.Status mailbox items) = Status (text_of mailbox) items.items
+datum_value (datum.Recent n) = Recent n
+datum_value (datum.MetadataSolicited mailbox values) =
     MetadataSolicited (text_of mailbox) (map metadata_value values.items)
-mailbox_value (datum.MetadataUnsolicited mailbox values) =
+datum_value (datum.MetadataUnsolicited mailbox values) =
     MetadataUnsolicited (text_of mailbox) (map text_of values.items)
-mailbox_value (datum.GmailLabels labels) = GmailLabels (map text_of labels.items)
-mailbox_value (datum.GmailMsgId n) = GmailMsgId n
-mailbox_value (datum.GmailThrId n) = GmailThrId n
+datum_value (datum.GmailLabels labels) = GmailLabels (map text_of labels.items)
+datum_value (datum.GmailMsgId n) = GmailMsgId n
+datum_value (datum.GmailThrId n) = GmailThrId n
 
 -- a number alone
-abbrev pub IsNumber : MailboxValue → Type 0
+abbrev pub IsNumber : DatumValue → Type 0
 IsNumber (Exists n) = Unit {0}
 IsNumber (Recent n) = Unit {0}
 IsNumber (GmailMsgId n) = Unit {0}
@@ -49,17 +49,17 @@ IsNumber other = ⊥
 
 -- ---- with all texts borrowed: two values are the same where these are one
 
-abbrev pub lent_mailbox : MailboxValue → MailboxValue
-lent_mailbox (Flags flags) = Flags (map lent_text flags)
-lent_mailbox (Listed l) = Listed (lent_list l)
-lent_mailbox (Status mailbox items) = Status (lent_text mailbox) items
-lent_mailbox (MetadataSolicited mailbox values) = MetadataSolicited (lent_text mailbox) values
-lent_mailbox (MetadataUnsolicited mailbox values) =
+abbrev pub lent_datum : DatumValue → DatumValue
+lent_datum (Flags flags) = Flags (map lent_text flags)
+lent_datum (Listed l) = Listed (lent_list l)
+lent_datum (Status mailbox items) = Status (lent_text mailbox) items
+lent_datum (MetadataSolicited mailbox values) = MetadataSolicited (lent_text mailbox) values
+lent_datum (MetadataUnsolicited mailbox values) =
     MetadataUnsolicited (lent_text mailbox) (map lent_text values)
-lent_mailbox (GmailLabels labels) = GmailLabels (map lent_text labels)
-lent_mailbox other = other
+lent_datum (GmailLabels labels) = GmailLabels (map lent_text labels)
+lent_datum other = other
 
 -- ---- what `==` tells of the code's values
 
-abbrev pub mailbox_content : MailboxDatum → MailboxValue
-mailbox_content d = lent_mailbox (mailbox_value d)
+abbrev pub datum_content : MailboxDatum → DatumValue
+datum_content d = lent_datum (datum_value d)

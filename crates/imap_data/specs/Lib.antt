@@ -2,7 +2,7 @@ pub mod Codes
 pub mod Names
 pub mod NameGroups
 pub mod Counts
-pub mod MailboxValues
+pub mod DatumValues
 pub mod MailboxData
 pub mod Annotations
 pub mod CodeTexts

@@ -10,45 +10,45 @@ use Rattle.imap_items.specs.Mailboxes.{mailbox}
 use Rattle.imap_data.specs.Names.{list_data}
 use Rattle.imap_data.specs.Counts.{status_items, found_numbers}
 use Rattle.imap_items.specs.Gmail.{gmail_label_list, gmail_msgid, gmail_thrid}
-use Rattle.imap_data.specs.MailboxValues.{MailboxValue, Exists, Flags, Listed, Search, Sort, Status, Recent, GmailLabels, GmailMsgId, GmailThrId}
+use Rattle.imap_data.specs.DatumValues.{DatumValue, Exists, Flags, Listed, Search, Sort, Status, Recent, GmailLabels, GmailMsgId, GmailThrId}
 
-unfoldable pub flags : Rule MailboxValue
+unfoldable pub flags : Rule DatumValue
 flags = gives Flags (word "FLAGS " ▹ flag_list)
 
-unfoldable pub exists : Rule MailboxValue
+unfoldable pub exists : Rule DatumValue
 exists = gives Exists (number ◃ word " EXISTS")
 
-unfoldable pub list : Rule MailboxValue
+unfoldable pub list : Rule DatumValue
 list = gives Listed (word "LIST " ▹ list_data)
 
-unfoldable pub lsub : Rule MailboxValue
+unfoldable pub lsub : Rule DatumValue
 lsub = gives Listed (word "LSUB " ▹ list_data)
 
-abbrev pub status_of : Text × List StatusAttribute → MailboxValue
+abbrev pub status_of : Text × List StatusAttribute → DatumValue
 status_of (mailbox, items) = Status mailbox items
 
-unfoldable pub status : Rule MailboxValue
+unfoldable pub status : Rule DatumValue
 status = gives status_of (word "STATUS " ▹ mailbox ⨾ sp ▹ status_items)
 
-unfoldable pub recent : Rule MailboxValue
+unfoldable pub recent : Rule DatumValue
 recent = gives Recent (number ◃ word " RECENT")
 
-unfoldable pub search : Rule MailboxValue
+unfoldable pub search : Rule DatumValue
 search = gives Search (word "SEARCH" ▹ found_numbers)
 
-unfoldable pub labels : Rule MailboxValue
+unfoldable pub labels : Rule DatumValue
 labels = gives GmailLabels gmail_label_list
 
-unfoldable pub msgid : Rule MailboxValue
+unfoldable pub msgid : Rule DatumValue
 msgid = gives GmailMsgId gmail_msgid
 
-unfoldable pub thrid : Rule MailboxValue
+unfoldable pub thrid : Rule DatumValue
 thrid = gives GmailThrId gmail_thrid
 
-unfoldable pub sort : Rule MailboxValue
+unfoldable pub sort : Rule DatumValue
 sort = gives Sort (word "SORT" ▹ found_numbers)
 
-unfoldable pub mailbox_datum : Rule MailboxValue
+unfoldable pub mailbox_datum : Rule DatumValue
 mailbox_datum =
     flags
     or exists
@@ -64,14 +64,14 @@ mailbox_datum =
 
 -- alternatives of `mailbox_datum` by their first byte
 
-unfoldable pub datum_of_number : Rule MailboxValue
+unfoldable pub datum_of_number : Rule DatumValue
 datum_of_number = exists or recent
 
-unfoldable pub list_or_lsub : Rule MailboxValue
+unfoldable pub list_or_lsub : Rule DatumValue
 list_or_lsub = list or lsub
 
-unfoldable pub datum_of_s : Rule MailboxValue
+unfoldable pub datum_of_s : Rule DatumValue
 datum_of_s = status or search or sort
 
-unfoldable pub datum_of_x : Rule MailboxValue
+unfoldable pub datum_of_x : Rule DatumValue
 datum_of_x = labels or msgid or thrid

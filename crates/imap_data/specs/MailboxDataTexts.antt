@@ -10,7 +10,7 @@ use Rattle.imap_data.specs.declared.types.counts.StatusAttribute.{StatusAttribut
 use Rattle.imap_data.specs.declared.types.counts.StatusAttribute.TheVariants.{HighestModSeq, Messages, Recent as RecentItem, UidNext, UidValidity, Unseen}
 use Rattle.imap_data.specs.NameTexts.{canonical_list, spells_list_data}
 use Rattle.imap_extensions.specs.AnnotationTexts.{canonical_solicited, canonical_unsolicited, spells_solicited, spells_unsolicited}
-use Rattle.imap_data.specs.MailboxValues.{MailboxValue, Exists, Flags, Listed, Search, Sort, Status, Recent, MetadataSolicited, MetadataUnsolicited, GmailLabels, GmailMsgId, GmailThrId}
+use Rattle.imap_data.specs.DatumValues.{DatumValue, Exists, Flags, Listed, Search, Sort, Status, Recent, MetadataSolicited, MetadataUnsolicited, GmailLabels, GmailMsgId, GmailThrId}
 
 abbrev pub canonical_item : StatusAttribute → Pieces
 canonical_item (HighestModSeq n) = words "HIGHESTMODSEQ " then number_text n
@@ -24,7 +24,7 @@ canonical_item (Unseen n) = words "UNSEEN " then number_text n
 abbrev pub canonical_numbers : List ℕ → Pieces
 canonical_numbers = each (λ n. space then number_text n)
 
-abbrev pub canonical_datum : MailboxValue → Pieces
+abbrev pub canonical_datum : DatumValue → Pieces
 canonical_datum (Flags flags) = words "FLAGS " then canonical_flag_list flags
 canonical_datum (Exists n) = number_text n then words " EXISTS"
 canonical_datum (Listed l) = words "LIST " then canonical_list l
@@ -51,7 +51,7 @@ abbrev pub spells_numbers : List ℕ → Texts
 spells_numbers ns = each_of (λ n. exactly " " and spells_number n) ns and maybe (exactly " ")
 
 -- LIST and LSUB tell the same
-abbrev pub spells_datum : MailboxValue → Texts
+abbrev pub spells_datum : DatumValue → Texts
 spells_datum (Flags flags) = in_any_case "FLAGS " and spells_flag_list flags
 spells_datum (Exists n) = spells_number n and in_any_case " EXISTS"
 spells_datum (Listed l) =

@@ -37,8 +37,8 @@ canonical_list l =
     then canonical_mailbox l.name
 
 -- a backslash and atom-chars, maybe none, in UTF-8
-abbrev pub is_extension : Texts
-is_extension c = (exactly "\\" and all_of is_atom_char) c × IsTrue (is_utf8 c)
+abbrev pub extension_word : Texts
+extension_word c = (exactly "\\" and all_of is_atom_char) c × IsTrue (is_utf8 c)
 
 abbrev pub spells_attribute : NameAttributeValue → Texts
 spells_attribute NoInferiors = in_any_case "\\Noinferiors"
@@ -52,7 +52,7 @@ spells_attribute Flagged = in_any_case "\\Flagged"
 spells_attribute Junk = in_any_case "\\Junk"
 spells_attribute Sent = in_any_case "\\Sent"
 spells_attribute Trash = in_any_case "\\Trash"
-spells_attribute (Extension t) = as_it_is is_extension t.bytes
+spells_attribute (Extension t) = as_it_is extension_word t.bytes
 
 abbrev pub spells_list_data : ListValue → Texts
 spells_list_data l =

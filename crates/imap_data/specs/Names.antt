@@ -17,7 +17,8 @@ use Rattle.imap_data.specs.declared.types.names.MailboxListData.{MailboxListData
 -- ---- values
 
 pub data NameAttributeValue : Type 0 where
-  NoInferiors NoSelect Marked Unmarked All Archive Drafts Flagged Junk Sent Trash : NameAttributeValue
+  NoInferiors NoSelect Marked Unmarked : NameAttributeValue
+  All Archive Drafts Flagged Junk Sent Trash : NameAttributeValue
   Extension : Text → NameAttributeValue
 
 pub record ListValue : Type 0 where
@@ -106,8 +107,8 @@ some_delimiter = gives Some quoted_utf8
 unfoldable pub delimiter : Rule (Option Text)
 delimiter = some_delimiter or nil ▹ nothing None
 
-abbrev pub listed : List NameAttributeValue × (Option Text × Text) → ListValue
-listed (attributes, (delimiter, name)) =
+abbrev pub list_of_parts : List NameAttributeValue × (Option Text × Text) → ListValue
+list_of_parts (attributes, (delimiter, name)) =
     record {
       name_attributes = attributes;
       delimiter = delimiter;
@@ -115,4 +116,4 @@ listed (attributes, (delimiter, name)) =
     }
 
 unfoldable pub list_data : Rule ListValue
-list_data = gives listed (name_attributes ⨾ sp ▹ delimiter ⨾ sp ▹ mailbox)
+list_data = gives list_of_parts (name_attributes ⨾ sp ▹ delimiter ⨾ sp ▹ mailbox)

@@ -4,7 +4,7 @@ use Rattle.imap_grammar.specs.Text.{owned_text}
 use Rattle.imap_items.specs.Owned.{owned_capability}
 use Rattle.imap_data.specs.Codes.{CodeValue, BadCharset, Capabilities, PermanentFlags}
 use Rattle.imap_data.specs.Names.{NameAttributeValue, Extension, ListValue}
-use Rattle.imap_data.specs.MailboxValues.{MailboxValue, Flags, Listed, Status, MetadataSolicited, MetadataUnsolicited, GmailLabels}
+use Rattle.imap_data.specs.DatumValues.{DatumValue, Flags, Listed, Status, MetadataSolicited, MetadataUnsolicited, GmailLabels}
 
 abbrev pub owned_code : CodeValue → CodeValue
 owned_code (BadCharset charsets) = BadCharset (option_map (map owned_text) charsets)
@@ -25,12 +25,12 @@ owned_list l =
     }
 
 -- an annotation's texts are owned always
-abbrev pub owned_mailbox : MailboxValue → MailboxValue
-owned_mailbox (Flags flags) = Flags (map owned_text flags)
-owned_mailbox (Listed l) = Listed (owned_list l)
-owned_mailbox (Status mailbox items) = Status (owned_text mailbox) items
-owned_mailbox (MetadataSolicited mailbox values) = MetadataSolicited (owned_text mailbox) values
-owned_mailbox (MetadataUnsolicited mailbox values) =
+abbrev pub owned_datum : DatumValue → DatumValue
+owned_datum (Flags flags) = Flags (map owned_text flags)
+owned_datum (Listed l) = Listed (owned_list l)
+owned_datum (Status mailbox items) = Status (owned_text mailbox) items
+owned_datum (MetadataSolicited mailbox values) = MetadataSolicited (owned_text mailbox) values
+owned_datum (MetadataUnsolicited mailbox values) =
     MetadataUnsolicited (owned_text mailbox) (map owned_text values)
-owned_mailbox (GmailLabels labels) = GmailLabels (map owned_text labels)
-owned_mailbox other = other
+owned_datum (GmailLabels labels) = GmailLabels (map owned_text labels)
+owned_datum other = other

@@ -17,17 +17,15 @@ ghost use Rattle.imap_data.specs.Counts as counts;
 ghost use Rattle.imap_items.specs.Gmail as gmail;
 ghost use Rattle.imap_data.specs.MailboxData as mailbox_data;
 ghost use Rattle.imap_data.specs.Names.{attribute_content, list_content};
-ghost use Rattle.imap_data.specs.Counts.{item_content};
-ghost use Rattle.imap_data.specs.MailboxValues.{mailbox_content};
+ghost use Rattle.imap_data.specs.DatumValues.{datum_content};
 ghost use Rattle.imap_extensions.specs.Annotations as annotations;
-ghost use Rattle.imap_extensions.specs.Annotations.{metadata_content};
+ghost use Rattle.imap_extensions.specs.Annotations.{metadata_value};
 ghost use Rattle.imap_extensions.specs.Quotas as quotas;
 ghost use Rattle.imap_extensions.specs.Ids as ids;
 ghost use Rattle.imap_extensions.specs.Vanishings as vanishings;
 ghost use Rattle.imap_extensions.specs.Quotas.{quota_content, quota_resource_content, quota_resource_name_content, quota_root_content};
 ghost use Rattle.imap_extensions.specs.Ids.{id_content};
 ghost use Rattle.imap_items.specs.Rights as rights;
-ghost use Rattle.imap_items.specs.Rights.{right_content};
 ghost use Rattle.imap_extensions.specs.Acls as acls;
 ghost use Rattle.imap_extensions.specs.Acls.{acl_entry_content, acl_content, list_rights_content, my_rights_content};
 ghost use Rattle.imap_data.specs.Annotations as metadata;
@@ -42,7 +40,7 @@ ghost use Rattle.imap_items.specs.CapabilityTexts.{canonical_capabilities, spell
 ghost use Rattle.imap_items.specs.UidSetTexts.{canonical_uid_set, spells_uid_set};
 ghost use Rattle.imap_items.specs.MailboxTexts.{canonical_mailbox, spells_mailbox};
 ghost use Rattle.imap_data.specs.Codes.{lent_code};
-ghost use Rattle.imap_data.specs.MailboxValues.{lent_mailbox};
+ghost use Rattle.imap_data.specs.DatumValues.{lent_datum};
 ghost use Rattle.imap_extensions.specs.Quotas.{lent_quota, lent_quota_root};
 ghost use Rattle.imap_extensions.specs.Ids.{lent_id};
 ghost use Rattle.imap_extensions.specs.Acls.{lent_acl, lent_list_rights, lent_my_rights};
@@ -112,9 +110,9 @@ pub fn equality()
     ensures response_code { Tells ⟦<ResponseCode<'static> as PartialEq>⟧.eq code_content }
     ensures name_attribute { Tells ⟦<NameAttribute<'static> as PartialEq>⟧.eq attribute_content }
     ensures list_data { Tells ⟦<MailboxListData<'static> as PartialEq>⟧.eq list_content }
-    ensures status_item { Tells ⟦<StatusAttribute as PartialEq>⟧.eq item_content }
-    ensures metadata { Tells ⟦<Metadata as PartialEq>⟧.eq metadata_content }
-    ensures mailbox_datum { Tells ⟦<MailboxDatum<'static> as PartialEq>⟧.eq mailbox_content }
+    ensures status_item { Tells ⟦<StatusAttribute as PartialEq>⟧.eq (λ x. x) }
+    ensures metadata { Tells ⟦<Metadata as PartialEq>⟧.eq metadata_value }
+    ensures mailbox_datum { Tells ⟦<MailboxDatum<'static> as PartialEq>⟧.eq datum_content }
     ensures quota_resource_name { Tells ⟦<QuotaResourceName<'static> as PartialEq>⟧.eq
         quota_resource_name_content }
     ensures quota_resource { Tells ⟦<QuotaResource<'static> as PartialEq>⟧.eq
@@ -122,7 +120,7 @@ pub fn equality()
     ensures quota { Tells ⟦<Quota<'static> as PartialEq>⟧.eq quota_content }
     ensures quota_root { Tells ⟦<QuotaRoot<'static> as PartialEq>⟧.eq quota_root_content }
     ensures id_map { Tells ⟦<IdMap<'static> as PartialEq>⟧.eq id_content }
-    ensures acl_right { Tells ⟦<AclRight as PartialEq>⟧.eq right_content }
+    ensures acl_right { Tells ⟦<AclRight as PartialEq>⟧.eq (λ x. x) }
     ensures acl_entry { Tells ⟦<AclEntry<'static> as PartialEq>⟧.eq acl_entry_content }
     ensures acl { Tells ⟦<Acl<'static> as PartialEq>⟧.eq acl_content }
     ensures list_rights { Tells ⟦<ListRights<'static> as PartialEq>⟧.eq list_rights_content }
@@ -148,7 +146,7 @@ pub fn hashing()
         quota_resource_content }
     ensures quota { HashesAlike ⟦<Quota<'static> as Hash>⟧.hash_input quota_content }
     ensures quota_root { HashesAlike ⟦<QuotaRoot<'static> as Hash>⟧.hash_input quota_root_content }
-    ensures acl_right { HashesAlike ⟦<AclRight as Hash>⟧.hash_input right_content }
+    ensures acl_right { HashesAlike ⟦<AclRight as Hash>⟧.hash_input (λ x. x) }
 {}
 
 /// What each rule takes spells the value that it yields. On the canonical text of a value that it yields, the rule
@@ -179,9 +177,9 @@ pub fn read_back()
         spells_mailbox Closes }
     ensures response_code { SpellsAndReadsBack codes.response_code lent_code canonical_response_code
         spells_response_code EndsItem }
-    ensures mailbox_datum { SpellsAndReadsBack mailbox_data.mailbox_datum lent_mailbox
+    ensures mailbox_datum { SpellsAndReadsBack mailbox_data.mailbox_datum lent_datum
         canonical_datum spells_datum Closes }
-    ensures list_or_lsub { SpellsAndReadsBack mailbox_data.list_or_lsub lent_mailbox canonical_datum
+    ensures list_or_lsub { SpellsAndReadsBack mailbox_data.list_or_lsub lent_datum canonical_datum
         spells_datum Closes }
     ensures quota { SpellsAndReadsBack quotas.quota lent_quota canonical_quota spells_quota Closes }
     ensures quota_root { SpellsAndReadsBack quotas.quota_root lent_quota_root canonical_quota_root
@@ -189,9 +187,9 @@ pub fn read_back()
     ensures id { SpellsAndReadsBack ids.id (option_map lent_id) canonical_id spells_id Closes }
     ensures vanished { SpellsAndReadsBack vanishings.vanished as_is canonical_vanished
         spells_vanished Closes }
-    ensures metadata_solicited { SpellsAndReadsBack metadata.metadata_solicited lent_mailbox
+    ensures metadata_solicited { SpellsAndReadsBack metadata.metadata_solicited lent_datum
         canonical_datum spells_datum Closes }
-    ensures metadata_unsolicited { SpellsAndReadsBack metadata.metadata_unsolicited lent_mailbox
+    ensures metadata_unsolicited { SpellsAndReadsBack metadata.metadata_unsolicited lent_datum
         canonical_datum spells_datum Closes }
     ensures acl { SpellsAndReadsBack acls.acl lent_acl canonical_acl spells_acl Closes }
     ensures list_rights { SpellsAndReadsBack acls.list_rights lent_list_rights canonical_list_rights

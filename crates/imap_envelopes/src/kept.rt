@@ -15,7 +15,7 @@ use std::alloc::AllocError;
 pub fn kept_bytes<K: Keep>(keep: &K, m: &[u8], bytes: Option<Span>) -> Option<K::Bytes>
     requires serves { K.serves keep.now m.now }
     requires inside { IfSome bytes (λ s. (s.start ≤ s.end) × (s.end ≤ length m.now)) }
-    ensures { IsKeptOf (λ n x. option_map (bytes_in n) x) (λ n x. option_map (K.bytes_said n) x)
+    ensures { IsKeptOf (λ n. option_map (bytes_in n)) (λ n. option_map (K.bytes_said n))
         m.now bytes result }
 {
     match bytes {
@@ -33,7 +33,7 @@ pub fn kept_text<K: Keep>(
 ) -> Result<Option<K::Text>, AllocError>
     requires { K.serves keep.now m.now }
     ensures { IfOk result
-        (IsKeptOf (λ n x. option_map (text_in n) x) (λ n x. option_map (K.text_said n) x) m.now
+        (IsKeptOf (λ n. option_map (text_in n)) (λ n. option_map (K.text_said n)) m.now
         text) }
 {
     match text {
@@ -51,7 +51,7 @@ pub fn kept_pair<K: Keep>(
 ) -> Result<(K::Text, K::Text), AllocError>
     requires { K.serves keep.now m.now }
     ensures { IfOk result
-        (IsKeptOf (λ n x. pair_seen (text_in n) x) (λ n x. pair_seen (K.text_said n) x) m.now
+        (IsKeptOf (λ n. pair_seen (text_in n)) (λ n. pair_seen (K.text_said n)) m.now
         pair) }
 {
     let (name, value) = pair;
@@ -69,7 +69,7 @@ pub fn kept_encoding<K: Keep>(
 ) -> Result<ContentEncoding<K::Text>, AllocError>
     requires { K.serves keep.now m.now }
     ensures { IfOk result
-        (IsKeptOf (λ n x. encoding_seen (text_in n) x) (λ n x. encoding_seen (K.text_said n) x)
+        (IsKeptOf (λ n. encoding_seen (text_in n)) (λ n. encoding_seen (K.text_said n))
         m.now encoding) }
 {
     Ok(match encoding {

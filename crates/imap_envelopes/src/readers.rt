@@ -3,9 +3,8 @@
 //! Each answers `Error` where its rule denies what stands there, whatever follows; `Incomplete` where more bytes are
 //! needed to tell; and `Failure` only where memory ran out.
 
-ghost use Rattle.imap_grammar.specs.Answer.{Answers, Exactly, Gives};
+ghost use Rattle.imap_grammar.specs.Answer.{Answers, Steps, StepsExactly};
 ghost use Rattle.imap_grammar.specs.Memory.{NeverFails};
-ghost use Rattle.imap_grammar.specs.Step.{step};
 ghost use Rattle.imap_envelopes.specs.Envelopes as envelopes;
 ghost use Rattle.imap_shapes.specs.EnvelopeValues.{address_seen, envelope_seen};
 ghost use Rattle.imap_shapes.specs.Spans.{bytes_of};
@@ -21,8 +20,8 @@ use std::alloc::Global;
 /// A field that is missing, or that its rule denies, is `Error`. No memory.
 #[tactic(auto, using(imap_grammar::proofs::Agreement::exact_answered))]
 pub fn address(i: &[u8]) -> IResult<&[u8], Address<'_>>
-    ensures steps { Exactly (λ x. address_seen bytes_of x) result (step envelopes.address i.now) }
-    ensures answer { Answers envelopes.address (λ x. address_seen bytes_of x) i.now result }
+    ensures steps { StepsExactly envelopes.address (address_seen bytes_of) i.now result }
+    ensures answer { Answers envelopes.address (address_seen bytes_of) i.now result }
     ensures no_failure { NeverFails result }
 {
     let (q, spans) = at::envelopes::address(&Positions, i, 0)?;
@@ -34,8 +33,8 @@ pub fn address(i: &[u8]) -> IResult<&[u8], Address<'_>>
 /// A field that is missing, or that its rule denies, is `Error`. It takes memory for the lists of addresses.
 #[tactic(auto, using(imap_grammar::proofs::Agreement::answered))]
 pub fn envelope(alloc: Global, i: &[u8]) -> IResult<&[u8], Envelope<'_>>
-    ensures steps { Gives (λ x. envelope_seen bytes_of x) result (step envelopes.envelope i.now) }
-    ensures answer { Answers envelopes.envelope (λ x. envelope_seen bytes_of x) i.now result }
+    ensures steps { Steps envelopes.envelope (envelope_seen bytes_of) i.now result }
+    ensures answer { Answers envelopes.envelope (envelope_seen bytes_of) i.now result }
 {
     let (q, envelope) = at::envelopes::envelope(&Named { alloc, m: i }, alloc, i, 0)?;
     Ok((rest(i, q), envelope))

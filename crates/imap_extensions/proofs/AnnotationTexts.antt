@@ -13,17 +13,17 @@ use Rattle.imap_grammar.specs.Rule.{meaning}
 use Rattle.imap_grammar.specs.Text.{Bytes, Text, as_text, lent_text}
 use Rattle.imap_grammar.specs.Pieces.{written, literal_of, literal_text, ntext, nstring_text}
 use Rattle.imap_grammar.specs.ReadBack.{ReadsBack, Spells, SpellsAndReadsBack, Any, Closes, closes, as_is}
-use Rattle.imap_grammar.specs.Spelling.{spells_astring_text, spells_ntext, nil_or, spells_string_text}
+use Rattle.imap_grammar.specs.Spelling.{spells_ntext, nil_or, spells_string_text}
 use Rattle.imap_grammar.proofs.Reading.{test-has, test-on, reads-gives, reads-same, reads-as, reads-follow, reads-list0, denials, ◌⨾ʳ◌, ◌▹ʳ◌, ◌◃ʳ◌}
 use Rattle.imap_grammar.proofs.ReadingLists.{takes-text, takes-word, reads-nonempty_list_of}
-use Rattle.imap_grammar.proofs.Spelling.{◌⨾ˢ◌, ◌▹ˢ◌, ◌◃ˢ◌, spells-gives, spells-wider, spells-test, spells-word, spells-tag, spells-list0, spells-nonempty_list_of}
+use Rattle.imap_grammar.proofs.Spelling.{◌⨾ˢ◌, ◌▹ˢ◌, ◌◃ˢ◌, spells-gives, spells-wider, spells-tested, spells-word, spells-tag, spells-list0, spells-nonempty_list_of}
 use Rattle.imap_bytes.specs.Strings.{astring, string, quoted, literal, literal_header}
 use Rattle.imap_bytes.proofs.ReadingTexts.{astring_on, decoded_twice, reads-nstring_utf8}
 use Rattle.imap_bytes.proofs.ReadingQuoted.{lossy_ascii, reads-quoted_utf8}
 use Rattle.imap_bytes.proofs.ReadingCounts.{closes_space}
 use Rattle.imap_bytes.proofs.SpellingTexts.{spells-astring, spells-utf8, spells-nstring_utf8, spells-quoted_utf8}
 use Rattle.imap_extensions.specs.Annotations.{MetadataValue, is_component_byte, is_path_byte, first_line, is_path, has_component, behind, passes, is_comment, is_vendor, is_comment_or_vendor, is_private, is_admin, is_shared, is_entry_name, entry, entry_utf8, bytes_in, annotation_of, annotation, metadata_mailbox, annotations, entries}
-use Rattle.imap_extensions.specs.AnnotationTexts.{canonical_annotation, canonical_metadata, canonical_annotations, canonical_entries, spells_annotation, spells_metadata, spells_annotations, spells_entries}
+use Rattle.imap_extensions.specs.AnnotationTexts.{canonical_annotation, canonical_metadata, canonical_annotations, canonical_entries, spells_entry, spells_annotation, spells_metadata, spells_annotations, spells_entries}
 
 -- ---- the lossy text of an entry's name is an entry's name
 
@@ -181,9 +181,9 @@ reads_entries = reads-list0 (takes-text " ") reads_entry (λ y t. tt) (λ t. tt)
 
 -- ---- spelling
 
-entry_spells : Spells entry_utf8 spells_astring_text
+entry_spells : Spells entry_utf8 spells_entry
 unfolding entry_utf8 entry
-entry_spells = spells-utf8 (spells-test is_entry_name spells-astring)
+entry_spells = spells-utf8 (spells-tested is_entry_name spells-astring)
 
 value_spells : (v : Option Text) (c : Bytes) → spells_ntext v c → nil_or (λ b. spells_string_text (as_text b)) (option_map bytes_in v) c
 value_spells None c h = h

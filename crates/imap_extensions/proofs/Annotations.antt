@@ -6,10 +6,10 @@ use Rattle.std.specs.Borrow.{Bor}
 use Rattle.std.specs.Cmp.Lexicographic.{pointwise}
 use Rattle.imap_grammar.specs.Equality.{Tells}
 use Rattle.imap_grammar.specs.Text.{Bytes}
-use Rattle.imap_extensions.specs.Annotations.{metadata_content, behind}
+use Rattle.imap_extensions.specs.Annotations.{metadata_value, behind}
 use Rattle.imap_extensions.specs.contracts.types.annotations.MetadataPartialEq.TheImpl as metadata_eq
 
-pub metadata_tell : Tells (metadata_eq.eq-value).it metadata_content
+pub metadata_tell : Tells (metadata_eq.eq-value).it metadata_value
 metadata_tell = search rules
 
 -- ---- words in front

@@ -25,10 +25,6 @@ pub record MetadataValue : Type 0 where
 abbrev pub metadata_value : Metadata → MetadataValue
 metadata_value m = record { entry = string_bytes m.entry; value = option_map string_bytes m.value }
 
--- what `==` tells of the code's values
-abbrev pub metadata_content : Metadata → MetadataValue
-metadata_content m = metadata_value m
-
 -- ---- entry names
 
 -- a byte of a component: from 26 to 127, but none of `*`, `%`, `/`

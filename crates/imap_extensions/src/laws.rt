@@ -17,7 +17,7 @@ ghost use Rattle.imap_extensions.specs.Acls as acls;
 ghost use Rattle.imap_extensions.specs.Acls.{acl_entry_content, acl_content, list_rights_content, my_rights_content, lent_acl, lent_list_rights, lent_my_rights};
 ghost use Rattle.imap_extensions.specs.AclTexts.{canonical_acl, spells_acl, canonical_list_rights, spells_list_rights, canonical_my_rights, spells_my_rights};
 ghost use Rattle.imap_extensions.specs.Annotations as annotations;
-ghost use Rattle.imap_extensions.specs.Annotations.{metadata_content};
+ghost use Rattle.imap_extensions.specs.Annotations.{metadata_value};
 ghost use Rattle.imap_extensions.specs.AnnotationTexts.{canonical_metadata, canonical_annotations, canonical_entries, spells_metadata, spells_annotations, spells_entries};
 
 use crate::types::acls::{Acl, AclEntry, ListRights, MyRights};
@@ -59,7 +59,7 @@ pub fn equality()
     ensures acl { Tells ⟦<Acl<'static> as PartialEq>⟧.eq acl_content }
     ensures list_rights { Tells ⟦<ListRights<'static> as PartialEq>⟧.eq list_rights_content }
     ensures my_rights { Tells ⟦<MyRights<'static> as PartialEq>⟧.eq my_rights_content }
-    ensures metadata { Tells ⟦<Metadata as PartialEq>⟧.eq metadata_content }
+    ensures metadata { Tells ⟦<Metadata as PartialEq>⟧.eq metadata_value }
 {}
 
 /// Values that say the same hash alike.

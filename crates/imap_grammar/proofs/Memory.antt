@@ -8,7 +8,7 @@ use Rattle.std.proofs.lemmas.Bool.Decides.{nat_tests}
 use Rattle.imap_grammar.specs.declared.answer.Err.{Err as Fault}
 use Rattle.imap_grammar.specs.declared.answer.Err.TheVariants.{Incomplete, Error, Failure}
 use Rattle.imap_grammar.specs.Meaning.{is_word, differs}
-use Rattle.imap_grammar.specs.Rule.{Rule, meaning, tag_by, gives, ◌⨾◌, ◌▹◌, ◌◃◌, ◌or◌}
+use Rattle.imap_grammar.specs.Rule.{Rule, meaning, tag_by, gives, ◌⨾◌, ◌▹◌, ◌◃◌}
 use Rattle.imap_grammar.specs.Step.{Step, step, tag_step}
 use Rattle.std.specs.Borrow.{Bor}
 use Rattle.imap_grammar.specs.Answer.{Returned, Gives, Exactly}

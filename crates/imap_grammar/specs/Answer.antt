@@ -6,7 +6,7 @@ use Rattle.imap_grammar.specs.declared.answer.Err.TheVariants.{Incomplete, Error
 use Rattle.imap_grammar.specs.declared.answer.Needed.TheVariants.{Unknown, Size}
 use Rattle.imap_grammar.specs.Meaning.{Meaning, Denies, Lacks}
 use Rattle.imap_grammar.specs.Rule.{Rule, meaning}
-use Rattle.imap_grammar.specs.Step.{Step}
+use Rattle.imap_grammar.specs.Step.{Step, step}
 
 -- what a reader returns: a rest and a value, or a fault
 abbrev pub Returned : Type 0 → Type 0
@@ -54,3 +54,11 @@ Gives view (Err e) s = Stops e s
 abbrev pub Exactly : {A V : Type 0} → (A → V) → Returned A → Step V → Type 0
 Exactly view (Ok x) s = s ≡ Ok (x.0.now, view x.1)
 Exactly view (Err e) s = s ≡ Err e
+
+-- The result is the step of the rule on m, unless memory ran out.
+abbrev pub Steps : {A V : Type 0} → Rule V → (A → V) → List ℕ → Returned A → Type 0
+Steps r view m result = Gives view result (step r m)
+
+-- It is, of a reader that takes no memory.
+abbrev pub StepsExactly : {A V : Type 0} → Rule V → (A → V) → List ℕ → Returned A → Type 0
+StepsExactly r view m result = Exactly view result (step r m)

@@ -46,7 +46,7 @@ is_astring_char b = is_atom_char b || is_resp_specials b
 abbrev pub is_quoted_char : ℕ → Bool
 is_quoted_char b = is_text_char b && not (is_quoted_specials b)
 
--- a digit
+-- a digit: `0` is 48, and `9` is 57
 abbrev pub is_digit : ℕ → Bool
 is_digit b = nat_lt 47 b && nat_lt b 58
 

@@ -6,7 +6,7 @@ use Rattle.imap_grammar.specs.declared.answer.Err.{Err as Fault}
 use Rattle.imap_grammar.specs.declared.at.span.Span.{Span}
 use Rattle.imap_grammar.specs.Meaning.{Meaning}
 use Rattle.imap_grammar.specs.Rule.{Rule, meaning}
-use Rattle.imap_grammar.specs.Step.{Step}
+use Rattle.imap_grammar.specs.Step.{Step, step}
 use Rattle.imap_grammar.specs.Answer.{Stops, Refuses}
 
 -- a position and a value, or a fault
@@ -45,6 +45,14 @@ ExactlyAt view m (Err e) s = s ≡ Err e
 abbrev pub GivesAt : {A V : Type 0} → (A → V) → List ℕ → Reached A → Step V → Type 0
 GivesAt view m (Ok x) s = s ≡ Ok (drop x.0 m, view x.1)
 GivesAt view m (Err e) s = Stops e s
+
+-- The result is the step of the rule on m from p, unless memory ran out.
+abbrev pub StepsAt : {A V : Type 0} → Rule V → (A → V) → List ℕ → ℕ → Reached A → Type 0
+StepsAt r view m p result = GivesAt view m result (step r (drop p m))
+
+-- It is, of a reader that takes no memory.
+abbrev pub StepsExactlyAt : {A V : Type 0} → Rule V → (A → V) → List ℕ → ℕ → Reached A → Type 0
+StepsExactlyAt r view m p result = ExactlyAt view m result (step r (drop p m))
 
 -- ---- where it lies
 

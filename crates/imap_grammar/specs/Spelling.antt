@@ -111,15 +111,15 @@ spells_literal b =
     and this b
 
 -- quoted content: quoted-chars, and quoted-specials behind a backslash each
-abbrev pub is_content_part : Texts
-is_content_part c = some_of is_quoted_char c ⊎ (exactly "\\\\" c ⊎ exactly "\\\"" c)
+abbrev pub content_part : Texts
+content_part c = some_of is_quoted_char c ⊎ (exactly "\\\\" c ⊎ exactly "\\\"" c)
 
-abbrev pub is_content : Texts
-is_content c = (parts : List Bytes) × each_of (as_it_is is_content_part) parts c
+abbrev pub content_text : Texts
+content_text c = (parts : List Bytes) × each_of (as_it_is content_part) parts c
 
 -- the content is raw: backslashes stay
 abbrev pub spells_quoted : Bytes → Texts
-spells_quoted b = exactly "\"" and as_it_is is_content b and exactly "\""
+spells_quoted b = exactly "\"" and as_it_is content_text b and exactly "\""
 
 abbrev pub spells_string : Bytes → Texts
 spells_string b c = spells_quoted b c ⊎ spells_literal b c

@@ -25,13 +25,13 @@ may_start never b = false
 may_start (many x) b = true
 may_start (counted x) b = may_start x b
 
-abbrev pub is_some : List ℕ → Bool
-is_some [] = false
-is_some (b ∷ word) = true
+abbrev pub is_nonempty : List ℕ → Bool
+is_nonempty [] = false
+is_nonempty (b ∷ word) = true
 
 -- whether it waits where there are no bytes
 abbrev pub wants_byte : {V : Type 0} → Rule V → Bool
-wants_byte (tag_by same word) = is_some word
+wants_byte (tag_by same word) = is_nonempty word
 wants_byte (run0 class) = true
 wants_byte (run1 class) = true
 wants_byte (seq x y) = wants_byte x

@@ -210,8 +210,8 @@ fn far_quote(i: &[u8]) -> Option<usize>
     None
 }
 
-/// Where a quote stands behind quoted-chars alone, none of them a control up to CR; `None` where it is otherwise, and
-/// maybe where fewer than sixteen bytes are there from the quote on. No memory.
+/// Where a quote stands behind quoted-chars alone. `None` where none stands so, and maybe where one of these is a
+/// control up to CR, or fewer than sixteen bytes are there from the quote on. No memory.
 ///
 /// Most quoted strings are read by one look at sixteen bytes. Some controls up to CR are quoted-chars, too, but to tell
 /// these from the others takes two comparisons more.

@@ -2,9 +2,8 @@
 
 ghost use Rattle.std.specs.Prelude.{◌≡◌, ◌==◌, ◌<◌, ℕ, Bool, length, position};
 ghost use Rattle.std.specs.Option.{option_map, ForSome};
-ghost use Rattle.imap_grammar.specs.Answer.{Answers, Exactly};
+ghost use Rattle.imap_grammar.specs.Answer.{Answers, Exactly, StepsExactly};
 ghost use Rattle.imap_grammar.specs.Memory.{NeverFails};
-ghost use Rattle.imap_grammar.specs.Step.{step};
 ghost use Rattle.imap_grammar.specs.Meaning.{outside};
 ghost use Rattle.imap_grammar.specs.Rule.{tag_by, run0, run1};
 ghost use Rattle.imap_grammar.specs.Tags as tags;
@@ -62,7 +61,7 @@ macro_rules! maybe {
 /// Exactly these bytes. No memory.
 #[tactic(auto, using(crate::proofs::Agreement::exact_answered))]
 pub fn tag<'a>(text: &[u8], i: &'a [u8]) -> IResult<&'a [u8], &'a [u8]>
-    ensures steps { Exactly (λ x. x.now) result (step (tag_by ◌==◌ text.now) i.now) }
+    ensures steps { StepsExactly (tag_by ◌==◌ text.now) (λ x. x.now) i.now result }
     ensures answer { Answers (tag_by ◌==◌ text.now) (λ x. x.now) i.now result }
     ensures no_failure { NeverFails result }
 {
@@ -72,7 +71,7 @@ pub fn tag<'a>(text: &[u8], i: &'a [u8]) -> IResult<&'a [u8], &'a [u8]>
 /// These bytes, ASCII letters in either case. No memory.
 #[tactic(auto, using(crate::proofs::Agreement::exact_answered))]
 pub fn word<'a>(text: &[u8], i: &'a [u8]) -> IResult<&'a [u8], &'a [u8]>
-    ensures steps { Exactly (λ x. x.now) result (step (tag_by same_letter text.now) i.now) }
+    ensures steps { StepsExactly (tag_by same_letter text.now) (λ x. x.now) i.now result }
     ensures answer { Answers (tag_by same_letter text.now) (λ x. x.now) i.now result }
     ensures no_failure { NeverFails result }
 {
@@ -81,7 +80,7 @@ pub fn word<'a>(text: &[u8], i: &'a [u8]) -> IResult<&'a [u8], &'a [u8]>
 
 /// A space, or nothing. No memory.
 pub fn maybe_space(i: &[u8]) -> IResult<&[u8], Option<&[u8]>>
-    ensures steps { Exactly (λ x. option_map (λ y. y.now) x) result (step tags.maybe_space i.now) }
+    ensures steps { StepsExactly tags.maybe_space (option_map (λ y. y.now)) i.now result }
     ensures no_failure { NeverFails result }
 {
     maybe!(tag(b" ", i), i)
@@ -95,7 +94,7 @@ pub fn cut0(end: Option<usize>, i: &[u8]) -> IResult<&[u8], &[u8]>
     requires { ForSome end (λ n. n < length i.now) }
     ensures steps { (class : ℕ → Bool) →
         end ≡ position (outside class) i.now →
-        Exactly (λ x. x.now) result (step (run0 class) i.now) }
+        StepsExactly (run0 class) (λ x. x.now) i.now result }
     ensures no_failure { NeverFails result }
 {
     sliced(i, at::tags::cut0(end, i, 0))
@@ -110,7 +109,7 @@ pub fn cut1(end: Option<usize>, i: &[u8]) -> IResult<&[u8], &[u8]>
     requires { ForSome end (λ n. n < length i.now) }
     ensures steps { (class : ℕ → Bool) →
         end ≡ position (outside class) i.now →
-        Exactly (λ x. x.now) result (step (run1 class) i.now) }
+        StepsExactly (run1 class) (λ x. x.now) i.now result }
     ensures no_failure { NeverFails result }
 {
     sliced(i, at::tags::cut1(end, i, 0))
@@ -118,7 +117,7 @@ pub fn cut1(end: Option<usize>, i: &[u8]) -> IResult<&[u8], &[u8]>
 
 /// Spaces and tabs, maybe none. No memory.
 pub fn blanks0(i: &[u8]) -> IResult<&[u8], &[u8]>
-    ensures steps { Exactly (λ x. x.now) result (step tags.blanks0 i.now) }
+    ensures steps { StepsExactly tags.blanks0 (λ x. x.now) i.now result }
     ensures no_failure { NeverFails result }
 {
     sliced(i, at::tags::blanks0(i, 0))
@@ -126,7 +125,7 @@ pub fn blanks0(i: &[u8]) -> IResult<&[u8], &[u8]>
 
 /// Spaces and tabs, at least one. No memory.
 pub fn blanks1(i: &[u8]) -> IResult<&[u8], &[u8]>
-    ensures steps { Exactly (λ x. x.now) result (step tags.blanks1 i.now) }
+    ensures steps { StepsExactly tags.blanks1 (λ x. x.now) i.now result }
     ensures no_failure { NeverFails result }
 {
     sliced(i, at::tags::blanks1(i, 0))

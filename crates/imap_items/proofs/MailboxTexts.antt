@@ -58,8 +58,8 @@ reads_mailbox = record {
 
 inbox_spells : (t : Text) (c : Bytes) → spells_astring_text t c → spells_mailbox (mailbox_of t) c
 inbox_spells t c h = elim (mailbox-is t) [
-  | inl e ↦ inr (ap (λ (u : Text). u.bytes) e.0, (t, e.1, h))
-  | inr e ↦ inl (subst (λ u. spells_astring_text u c) (sym e.0) h)
+  | inl e ↦ inl (ap (λ (u : Text). u.bytes) e.0, (t, e.1, h))
+  | inr e ↦ inr (subst (λ u. (is_inbox u.bytes ≡ false) × spells_astring_text u c) (sym e.0) (e.1, h))
 ]
 
 pub mailbox_spells : Spells mailbox spells_mailbox

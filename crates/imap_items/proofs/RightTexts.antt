@@ -34,7 +34,7 @@ reads_rights = reads-gives rights_in (reads-where astrings_yield reads-astring_u
 
 pub rights_spell : Spells rights spells_rights
 unfolding rights
-rights_spell = spells-gives rights_in (spells-where astrings_yield spells-astring_utf8 (λ t c u h. (h.0, h.1, h.2 ∙ sym (text_kept t.bytes u))))
+rights_spell = spells-gives rights_in (spells-where astrings_yield spells-astring_utf8 (λ t c u h. (ap rights_of (text_kept t.bytes u), (h.0, h.1, h.2 ∙ sym (text_kept t.bytes u)))))
 
 pub keeps_rights : SpellsAndReadsBack rights as_is canonical_rights spells_rights Closes
 keeps_rights = record { spelled = rights_spell; back = reads-follow reads_rights (λ t g. tt) }

@@ -72,11 +72,11 @@ range_spells r c h = elim (cases_lt r.start r.end) [
   | inl lt ↦
       let least : min r.start r.end ≡ r.start = omega (arith, lt) in
       let most : max r.start r.end ≡ r.end = omega (arith, lt) in
-      (refl, inl (subst (λ x. spells_ends x (max r.start r.end) c) (sym least) (subst (λ x. spells_ends r.start x c) (sym most) h)))
+      (refl, omega arith, inl (subst (λ x. spells_ends x (max r.start r.end) c) (sym least) (subst (λ x. spells_ends r.start x c) (sym most) h)))
   | inr ge ↦
       let least : min r.start r.end ≡ r.end = omega (arith, ge) in
       let most : max r.start r.end ≡ r.start = omega (arith, ge) in
-      (refl, inr (subst (λ x. spells_ends x (min r.start r.end) c) (sym most) (subst (λ x. spells_ends r.start x c) (sym least) h)))
+      (refl, omega arith, inr (subst (λ x. spells_ends x (min r.start r.end) c) (sym most) (subst (λ x. spells_ends r.start x c) (sym least) h)))
 ]
 
 member_spells : Spells uid_set_member spells_member

@@ -6,10 +6,9 @@ use Rattle.std.proofs.lemmas.List.Elements.{All-nil, All-cons, All-head, All-tai
 use Rattle.std.specs.Global.{Vec}
 use Rattle.imap_grammar.specs.Equality.{Tells}
 use Rattle.imap_grammar.specs.declared.answer.Err.TheVariants.{Incomplete, Error, Failure}
-use Rattle.imap_grammar.specs.Rule.{Rule, gives, opt, ◌▹◌}
+use Rattle.imap_grammar.specs.Rule.{gives, opt}
 use Rattle.imap_grammar.specs.Step.{Step, step, ◌>>=◌, beside, and_then, or_else}
 use Rattle.imap_grammar.specs.Ranges.{Range}
-use Rattle.imap_grammar.specs.Tags.{tag}
 use Rattle.imap_grammar.specs.Answer.{Returned, Gives}
 use Rattle.imap_grammar.proofs.Agreement.{reads}
 use Rattle.imap_grammar.proofs.Yields.{Yields, either_yields, made_yields, list_yields}
@@ -18,12 +17,9 @@ use Rattle.imap_items.specs.UidSets.{MemberValue, UidRange, Uid, member_value, i
 use Rattle.imap_items.specs.declared.types.uid_sets.UidSetMember.{UidSetMember}
 use Rattle.imap_items.specs.declared.types.uid_sets.UidSetMember.TheVariants as member
 use Rattle.imap_items.specs.contracts.types.uid_sets.UidSetMemberPartialEq.TheImpl as member_eq
-use Rattle.imap_bytes.specs.Sets.{from_to, sequence_range}
+use Rattle.imap_bytes.specs.Sets.{from_to, range_end, sequence_range}
 
 -- ---- a number in front of a colon is read once
-
-abbrev range_end : Rule ℕ
-range_end = tag ":" ▹ number
 
 member_of_step : (s : Step ℕ) → or_else ((and_then s (step range_end) >>= λ (v : List ℕ × (ℕ × ℕ)). Ok (v.0, from_to v.1)) >>= λ (v : List ℕ × Range). Ok (v.0, in_order v.1)) (s >>= λ v. Ok (v.0, Uid v.1)) ≡ (and_then s (step (opt range_end)) >>= λ v. Ok (v.0, member_of v.1))
 member_of_step (Ok x) = behind (step range_end x.0)

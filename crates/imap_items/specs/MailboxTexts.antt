@@ -1,5 +1,5 @@
 -- The text of a mailbox name.
-use Rattle.std.specs.Prelude.{◌≡◌, ◌⊎◌, IsTrue, codes}
+use Rattle.std.specs.Prelude.{◌≡◌, ◌⊎◌, IsTrue, false, codes}
 use Rattle.imap_grammar.specs.Meaning.{is_word}
 use Rattle.imap_grammar.specs.Tags.{same_letter}
 use Rattle.imap_grammar.specs.Text.{Text}
@@ -15,5 +15,8 @@ abbrev pub spells_inbox : Texts
 spells_inbox c =
     (t : Text) × IsTrue (is_word same_letter (codes "INBOX") t.bytes) × spells_astring_text t c
 
+-- INBOX in any case spells INBOX, and no other name
 abbrev pub spells_mailbox : Text → Texts
-spells_mailbox t c = spells_astring_text t c ⊎ ((t.bytes ≡ codes "INBOX") × spells_inbox c)
+spells_mailbox t c =
+    ((t.bytes ≡ codes "INBOX") × spells_inbox c)
+    ⊎ ((is_word same_letter (codes "INBOX") t.bytes ≡ false) × spells_astring_text t c)

@@ -1,5 +1,6 @@
 -- Rights and their letters (RFC 4314, section 7: rights).
-use Rattle.std.specs.Prelude.{ℕ, List, map, IsTrue, ◌==◌, if◌then◌else◌, codes}
+use Rattle.std.specs.Prelude.{ℕ, List, map, IsTrue, ◌==◌, if◌then◌else◌, codes, get_or}
+use Prim.Native.String.{String}
 use Rattle.std.specs.List.{list_any}
 use Rattle.std.specs.Str.{chars}
 use Rattle.imap_grammar.specs.Text.{Bytes, Text}
@@ -12,46 +13,46 @@ use Rattle.imap_items.specs.declared.types.rights.AclRight.TheVariants.{Lookup, 
 abbrev pub letters : List ℕ
 letters = codes "lrswipkxteancd"
 
--- the right that a character names, which is given by its code: 97 is `a`, 108 is `l`
+-- the code of a character that is written alone
+abbrev pub code : String → ℕ
+code c = get_or (codes c) 0 0
+
+-- the right that a character names, which is given by its code
 abbrev pub right_of : ℕ → AclRight
 right_of c =
-    if c == 108 then Lookup
-    else if c == 114 then Read
-    else if c == 115 then Seen
-    else if c == 119 then Write
-    else if c == 105 then Insert
-    else if c == 112 then Post
-    else if c == 107 then CreateMailbox
-    else if c == 120 then DeleteMailbox
-    else if c == 116 then DeleteMessage
-    else if c == 101 then Expunge
-    else if c == 97 then Administer
-    else if c == 110 then Annotation
-    else if c == 99 then OldCreate
-    else if c == 100 then OldDelete
+    if c == code "l" then Lookup
+    else if c == code "r" then Read
+    else if c == code "s" then Seen
+    else if c == code "w" then Write
+    else if c == code "i" then Insert
+    else if c == code "p" then Post
+    else if c == code "k" then CreateMailbox
+    else if c == code "x" then DeleteMailbox
+    else if c == code "t" then DeleteMessage
+    else if c == code "e" then Expunge
+    else if c == code "a" then Administer
+    else if c == code "n" then Annotation
+    else if c == code "c" then OldCreate
+    else if c == code "d" then OldDelete
     else Custom c
 
 -- the character of a right
 abbrev pub letter_of : AclRight → ℕ
-letter_of Lookup = 108
-letter_of Read = 114
-letter_of Seen = 115
-letter_of Write = 119
-letter_of Insert = 105
-letter_of Post = 112
-letter_of CreateMailbox = 107
-letter_of DeleteMailbox = 120
-letter_of DeleteMessage = 116
-letter_of Expunge = 101
-letter_of Administer = 97
-letter_of Annotation = 110
-letter_of OldCreate = 99
-letter_of OldDelete = 100
+letter_of Lookup = code "l"
+letter_of Read = code "r"
+letter_of Seen = code "s"
+letter_of Write = code "w"
+letter_of Insert = code "i"
+letter_of Post = code "p"
+letter_of CreateMailbox = code "k"
+letter_of DeleteMailbox = code "x"
+letter_of DeleteMessage = code "t"
+letter_of Expunge = code "e"
+letter_of Administer = code "a"
+letter_of Annotation = code "n"
+letter_of OldCreate = code "c"
+letter_of OldDelete = code "d"
 letter_of (Custom c) = c
-
--- a right is seen as it is
-abbrev pub right_content : AclRight → AclRight
-right_content right = right
 
 -- a `Custom` of a letter that has a right of its own
 abbrev pub IsShadowed : AclRight → Type 0

@@ -1,11 +1,11 @@
 -- Sets of UIDs (RFC 4315, section 4: uid-set, uid-range).
 use Rattle.std.specs.Prelude.{ℕ, min, max, ◌≤◌, List, Option, None, Some}
 use Rattle.std.specs.Range.{range_inclusive_start, range_inclusive_end}
-use Rattle.imap_grammar.specs.Rule.{Rule, gives, list1, opt, ◌⨾◌, ◌▹◌, ◌or◌}
+use Rattle.imap_grammar.specs.Rule.{Rule, gives, list1, opt, ◌⨾◌, ◌or◌}
 use Rattle.imap_grammar.specs.Ranges.{Range, fresh, range_of}
 use Rattle.imap_grammar.specs.Tags.{tag}
 use Rattle.imap_bytes.specs.Numbers.{number}
-use Rattle.imap_bytes.specs.Sets.{sequence_range}
+use Rattle.imap_bytes.specs.Sets.{range_end, sequence_range}
 use Rattle.imap_items.specs.declared.types.uid_sets.UidSetMember.{UidSetMember}
 use Rattle.imap_items.specs.declared.types.uid_sets.UidSetMember.TheVariants as member
 
@@ -33,7 +33,7 @@ uid_set_member = gives in_order sequence_range or gives Uid number
 
 -- a member as it is read: a number, and the one behind a colon if there is one
 unfoldable pub maybe_range : Rule (ℕ × Option ℕ)
-maybe_range = number ⨾ opt (tag ":" ▹ number)
+maybe_range = number ⨾ opt range_end
 
 abbrev pub member_of : ℕ × Option ℕ → MemberValue
 member_of (n, None) = Uid n

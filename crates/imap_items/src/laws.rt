@@ -14,7 +14,7 @@ ghost use Rattle.imap_items.specs.Mailboxes as mailboxes;
 ghost use Rattle.imap_items.specs.Gmail as gmail;
 ghost use Rattle.imap_items.specs.declared.types.rights.AclRight.{AclRight as Right};
 ghost use Rattle.imap_items.specs.Rights as rights;
-ghost use Rattle.imap_items.specs.Rights.{right_of, letter_of, IsShadowed, right_content};
+ghost use Rattle.imap_items.specs.Rights.{right_of, letter_of, IsShadowed};
 ghost use Rattle.imap_grammar.specs.Text.{lent_text};
 ghost use Rattle.imap_grammar.specs.ReadBack.{SpellsAndReadsBack, Closes, EndsItem, as_is};
 ghost use Rattle.imap_items.specs.StatusTexts.{canonical_status, spells_status};
@@ -58,13 +58,13 @@ pub fn equality()
     ensures status { Tells ⟦<Status as PartialEq>⟧.eq (λ s. s) }
     ensures capability { Tells ⟦<Capability<'static> as PartialEq>⟧.eq capability_content }
     ensures uid_set_member { Tells ⟦<UidSetMember as PartialEq>⟧.eq member_value }
-    ensures acl_right { Tells ⟦<AclRight as PartialEq>⟧.eq right_content }
+    ensures acl_right { Tells ⟦<AclRight as PartialEq>⟧.eq (λ x. x) }
 {}
 
 /// Values that say the same hash alike.
 pub fn hashing()
     ensures capability { HashesAlike ⟦<Capability<'static> as Hash>⟧.hash_input capability_content }
-    ensures acl_right { HashesAlike ⟦<AclRight as Hash>⟧.hash_input right_content }
+    ensures acl_right { HashesAlike ⟦<AclRight as Hash>⟧.hash_input (λ x. x) }
 {}
 
 /// A clone of a UID set's member or of a right takes no memory, and is the same value.

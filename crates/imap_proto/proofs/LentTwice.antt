@@ -7,7 +7,7 @@ use Rattle.imap_grammar.specs.Text.{lent_text}
 use Rattle.imap_items.specs.Capabilities.{Imap4rev1, Auth, Atom, lent_capability}
 use Rattle.imap_data.specs.Codes.{Alert, Parse, ReadOnly, ReadWrite, TryCreate, UidNotSticky, MetadataTooMany, MetadataNoPrivate, BadCharset, Capabilities as CodeCapabilities, PermanentFlags, UidNext, UidValidity, Unseen, HighestModSeq, MetadataLongEntries, MetadataMaxSize, AppendUid, CopyUid, lent_code}
 use Rattle.imap_data.specs.Names.{NoInferiors, NoSelect, Marked, Unmarked, All, Archive, Drafts, Flagged, Junk, Sent, Trash, Extension, lent_attribute as lent_name, lent_list}
-use Rattle.imap_data.specs.MailboxValues.{Exists, Flags, Listed, Search, Sort, Status, Recent, MetadataSolicited, MetadataUnsolicited, GmailLabels, GmailMsgId, GmailThrId, lent_mailbox}
+use Rattle.imap_data.specs.DatumValues.{Exists, Flags, Listed, Search, Sort, Status, Recent, MetadataSolicited, MetadataUnsolicited, GmailLabels, GmailMsgId, GmailThrId, lent_datum}
 use Rattle.imap_extensions.specs.Quotas.{Storage, Message as MessageResource, Atom as AtomResource, lent_quota_resource_name, lent_quota_resource, lent_quota, lent_quota_root}
 use Rattle.imap_extensions.specs.Ids.{lent_id}
 use Rattle.imap_extensions.specs.Acls.{lent_acl_entry, lent_acl}
@@ -86,7 +86,7 @@ name (Extension t) = refl
 list_data : Twice lent_list
 list_data l = rw (map-twice name l.name_attributes, ntext l.delimiter) refl
 
-mailbox : Twice lent_mailbox
+mailbox : Twice lent_datum
 mailbox (Flags fs) = ap (λ x. Flags x) (texts fs)
 mailbox (Listed l) = ap (λ x. Listed x) (list_data l)
 mailbox (Status box items) = refl

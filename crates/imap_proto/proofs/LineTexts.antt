@@ -32,7 +32,7 @@ use Rattle.imap_items.specs.CapabilityTexts.{canonical_each}
 use Rattle.imap_items.specs.Gmail.{gmail_label_list, gmail_msgid, gmail_thrid}
 use Rattle.imap_items.proofs.StatusTexts.{reads_status, status_spells}
 use Rattle.imap_items.proofs.CapabilityTexts.{offered_yields, enabled_yields, keeps_capability_data, keeps_enabled_data}
-use Rattle.imap_data.specs.MailboxValues.{Exists, Flags, Listed, Search, Sort, Recent, GmailLabels, GmailMsgId, GmailThrId}
+use Rattle.imap_data.specs.DatumValues.{Exists, Flags, Listed, Search, Sort, Recent, GmailLabels, GmailMsgId, GmailThrId}
 use Rattle.imap_data.specs.MailboxData.{flags, exists, list, lsub, status_of, status as mailbox_status, recent, search as search_rule, labels, msgid, thrid, sort, mailbox_datum}
 use Rattle.imap_data.specs.MailboxDataTexts.{canonical_datum}
 use Rattle.imap_extensions.specs.Annotations.{metadata_mailbox, annotations}
@@ -56,12 +56,12 @@ use Rattle.imap_proto.specs.Responses.{ResponseValue, Capabilities, Continue, Ex
 use Rattle.imap_proto.specs.Lines.{continuation, data_of, status_data, expunge, fetch_of, fetched, fetch, vanished_of, vanished_data, state_datum, extension_datum, datum, is_space, spaces, ended_datum, data_line, is_tag_char, request_tag, done_of, tagged, response}
 use Rattle.imap_items.specs.StatusTexts.{canonical_status}
 use Rattle.imap_proto.specs.OutcomeTexts.{canonical_spaced, Ends}
-use Rattle.imap_proto.specs.LineTexts.{line_end, canonical_data, canonical_response, spells_data, ends_line, spells_response, Spelled, bracket, is_too_long, CanonicalReadsBack}
+use Rattle.imap_proto.specs.LineTexts.{line_end, canonical_data, canonical_response, spells_data, ends_line, spells_response, Spelled, has_bracket, is_too_long, CanonicalReadsBack}
 use Rattle.imap_proto.proofs.OutcomeTexts.{reads_outcome, reads_spaced, outcome_spells, spaced_spells}
 use Rattle.imap_proto.proofs.FirstApart.{one_of, StartsOneOf, denies_one_of, apart_first, digit_one_of, small_numbers, other_behind}
 
 abbrev NoBracket : ResponseValue → Type 0
-NoBracket r = bracket r ≡ false
+NoBracket r = has_bracket r ≡ false
 
 ends_closes : (t : Bytes) → Ends t → Closes t
 ends_closes = begun Closes (λ u. refl)

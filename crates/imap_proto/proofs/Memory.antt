@@ -34,7 +34,7 @@ use Rattle.imap_bytes.proofs.ReadingQuoted.{lossy_some}
 use Rattle.imap_data.specs.declared.types.codes.ResponseCode.{ResponseCode}
 use Rattle.imap_data.specs.Codes.{CodeValue, code_value, HoldsNoList, BeginsListWord, BeginsListCode, response_code}
 use Rattle.imap_data.specs.MailboxData.{mailbox_datum, list_or_lsub}
-use Rattle.imap_data.specs.MailboxValues.{IsNumber}
+use Rattle.imap_data.specs.DatumValues.{IsNumber}
 use Rattle.imap_data.specs.declared.types.mailbox_data.MailboxDatum.{MailboxDatum}
 use Rattle.imap_data.proofs.NumberData.{list_or_lsub_other, solicited_other, unsolicited_other}
 use Rattle.imap_extensions.specs.Acls.{list_rights}

@@ -26,7 +26,7 @@ use Rattle.imap_data.specs.CodeTexts.{canonical_response_code, spells_response_c
 use Rattle.imap_data.proofs.CodeTexts.{reads_response_code, keeps_response_code}
 use Rattle.imap_proto.specs.Responses.{OutcomeValue, lent_outcome}
 use Rattle.imap_proto.specs.Outcomes.{bytes_after_first, outcome_of, outcome, no_outcome, spaced_outcome}
-use Rattle.imap_proto.specs.OutcomeTexts.{canonical_outcome, canonical_spaced, bracketed, IsPlain, Ends, spells_outcome, spells_spaced}
+use Rattle.imap_proto.specs.OutcomeTexts.{canonical_outcome, canonical_spaced, is_bracketed, IsPlain, Ends, spells_outcome, spells_spaced}
 
 -- no code, or one in brackets
 abbrev canonical_maybe_code : Option CodeValue → Pieces
@@ -70,7 +70,7 @@ abbrev read_as : Option CodeValue → Bytes → Bool → OutcomeValue
 read_as k u b = outcome_of (k, record { bytes = u; borrowed = b })
 
 at : (k : Option CodeValue) (u : Bytes) (b : Bool) (m mid rest : Bytes) → (meaning (opt response_code)).yields m k mid → (meaning text).yields mid (record { bytes = u; borrowed = b }) rest
-    → bracketed (read_as k u b) ≡ false → Fits (canonical_outcome (read_as k u b))
+    → is_bracketed (read_as k u b) ≡ false → Fits (canonical_outcome (read_as k u b))
     → (t : Bytes) → Ends t → (meaning outcome).yields (written (canonical_outcome (read_as k u b)) ++ t) (lent_outcome (read_as k u b)) t
 at None [] b m mid rest y z p f t e = outcome_on None [] t tt (no_code t e) m mid y (text_on [] t IsUtf8-nil refl e)
 at None (x ∷ u) b m mid rest y z p f t e =

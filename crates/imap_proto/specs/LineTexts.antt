@@ -16,7 +16,7 @@ use Rattle.imap_extensions.specs.IdTexts.{canonical_id, spells_id}
 use Rattle.imap_extensions.specs.AclTexts.{canonical_acl, spells_acl, canonical_list_rights, spells_list_rights, canonical_my_rights, spells_my_rights}
 use Rattle.imap_body.specs.AttributeTexts.{canonical_attributes, spells_attributes}
 use Rattle.imap_proto.specs.Responses.{ResponseValue, Capabilities, Continue, Done, Data, Expunge, Vanished, Fetch, MailboxData, Quota, QuotaRoot, Id, Acl, ListRights, MyRights, lent_response}
-use Rattle.imap_proto.specs.OutcomeTexts.{canonical_outcome, canonical_spaced, bracketed, spells_outcome, spells_spaced}
+use Rattle.imap_proto.specs.OutcomeTexts.{canonical_outcome, canonical_spaced, is_bracketed, spells_outcome, spells_spaced}
 use Rattle.imap_proto.specs.Lines.{is_space, is_tag_char, response}
 
 -- ---- canonical text
@@ -94,19 +94,19 @@ Spelled m rest r = (c : Bytes) × (m ≡ c ++ rest) × spells_response r c
 -- ---- the two kinds of responses that are not read back
 
 -- Without a code, its information begins with `[`, as a code does.
-abbrev pub bracket : ResponseValue → Bool
-bracket (Continue o) = bracketed o
-bracket (Done tag status o) = bracketed o
-bracket (Data status o) = bracketed o
-bracket r = false
+abbrev pub has_bracket : ResponseValue → Bool
+has_bracket (Continue o) = is_bracketed o
+has_bracket (Done tag status o) = is_bracketed o
+has_bracket (Data status o) = is_bracketed o
+has_bracket r = false
 
 -- a literal of more than 4,294,967,295 bytes, whose length no number tells
 abbrev pub is_too_long : Piece → Bool
 is_too_long (Raw b) = false
 is_too_long (Lit b) = not (nat_lt (length b) (2 ^ 32))
 
-abbrev pub too_long : ResponseValue → Bool
-too_long r = list_any is_too_long (canonical_response r)
+abbrev pub has_too_long_text : ResponseValue → Bool
+has_too_long_text r = list_any is_too_long (canonical_response r)
 
 -- ---- the law of the whole grammar
 
@@ -116,7 +116,7 @@ too_long r = list_any is_too_long (canonical_response r)
 abbrev pub CanonicalReadsBack : Type 0
 CanonicalReadsBack =
     (m : Bytes) (r : ResponseValue) (rest : Bytes) → (meaning response).yields m r rest
-    → bracket r ≡ false → too_long r ≡ false
+    → has_bracket r ≡ false → has_too_long_text r ≡ false
     → (t : Bytes) → (meaning response).yields (canonical_bytes r ++ t) (lent_response r) t
 
 -- the same response, whichever texts are borrowed

@@ -11,7 +11,7 @@ use Rattle.imap_bytes.specs.Strings.{in_utf8}
 use Rattle.imap_items.specs.declared.types.statuses.Status.{Status}
 use Rattle.imap_items.specs.Statuses.{status}
 use Rattle.imap_items.specs.Capabilities.{capability_data, enabled_data}
-use Rattle.imap_data.specs.MailboxValues.{Exists, Recent}
+use Rattle.imap_data.specs.DatumValues.{Exists, Recent}
 use Rattle.imap_data.specs.MailboxData.{mailbox_datum, list_or_lsub, exists, recent}
 use Rattle.imap_data.specs.Annotations.{metadata_solicited, metadata_unsolicited}
 use Rattle.imap_extensions.specs.Vanishings.{vanished}

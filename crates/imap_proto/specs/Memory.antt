@@ -4,7 +4,7 @@ use Rattle.imap_grammar.specs.Text.{Text}
 use Rattle.imap_items.specs.Copies.{IsLent}
 use Rattle.imap_extensions.specs.Ids.{IsNil}
 use Rattle.imap_data.specs.Codes.{CodeValue, HoldsNoList, BeginsListCode}
-use Rattle.imap_data.specs.MailboxValues.{IsNumber}
+use Rattle.imap_data.specs.DatumValues.{IsNumber}
 use Rattle.imap_proto.specs.Responses.{OutcomeValue, ResponseValue, Continue, Data, Expunge, MailboxData, Id}
 
 -- A code without a list, and a borrowed text behind it. A text by itself also doesn't begin as a code that may hold a

@@ -39,17 +39,17 @@ abbrev pub opens_bracket : Bytes → Bool
 opens_bracket [] = false
 opens_bracket (b ∷ bytes) = open_bracket == b
 
-abbrev pub like_code : Option CodeValue → Option Text → Bool
-like_code None None = false
-like_code None (Some information) = opens_bracket information.bytes
-like_code (Some code) information = false
+abbrev pub is_like_code : Option CodeValue → Option Text → Bool
+is_like_code None None = false
+is_like_code None (Some information) = opens_bracket information.bytes
+is_like_code (Some code) information = false
 
 -- no code, and information that begins with `[`
-abbrev pub bracketed : OutcomeValue → Bool
-bracketed o = like_code o.code o.information
+abbrev pub is_bracketed : OutcomeValue → Bool
+is_bracketed o = is_like_code o.code o.information
 
 abbrev pub IsPlain : OutcomeValue → Type 0
-IsPlain o = bracketed o ≡ false
+IsPlain o = is_bracketed o ≡ false
 
 -- the end of a line follows
 abbrev pub Ends : Texts

@@ -2,7 +2,7 @@
 use Rattle.std.specs.Prelude.{option_map, map}
 use Rattle.imap_grammar.specs.Text.{owned_text}
 use Rattle.imap_items.specs.Owned.{owned_capability}
-use Rattle.imap_data.specs.Owned.{owned_code, owned_mailbox}
+use Rattle.imap_data.specs.Owned.{owned_code, owned_datum}
 use Rattle.imap_extensions.specs.Owned.{owned_quota, owned_quota_root, owned_id, owned_acl, owned_list_rights, owned_my_rights}
 use Rattle.imap_attributes.specs.Changed.{owned_attribute}
 use Rattle.imap_proto.specs.Responses.{OutcomeValue, ResponseValue, Capabilities, Continue, Done, Data, Expunge, Vanished, Fetch, MailboxData, Quota, QuotaRoot, Id, Acl, ListRights, MyRights}
@@ -22,7 +22,7 @@ owned_response (Data status o) = Data status (owned_outcome o)
 owned_response (Expunge n) = Expunge n
 owned_response (Vanished earlier uids) = Vanished earlier uids
 owned_response (Fetch n attributes) = Fetch n (map owned_attribute attributes)
-owned_response (MailboxData datum) = MailboxData (owned_mailbox datum)
+owned_response (MailboxData datum) = MailboxData (owned_datum datum)
 owned_response (Quota quota) = Quota (owned_quota quota)
 owned_response (QuotaRoot root) = QuotaRoot (owned_quota_root root)
 owned_response (Id map) = Id (option_map owned_id map)

@@ -9,7 +9,7 @@ use Rattle.imap_grammar.specs.Ranges.{Range, range_of}
 use Rattle.imap_items.specs.declared.types.statuses.Status.{Status}
 use Rattle.imap_data.specs.Codes.{CodeValue, code_value, lent_code}
 use Rattle.imap_items.specs.Capabilities.{CapabilityValue, capability_value, lent_capability}
-use Rattle.imap_data.specs.MailboxValues.{MailboxValue, mailbox_value, lent_mailbox}
+use Rattle.imap_data.specs.DatumValues.{DatumValue, datum_value, lent_datum}
 use Rattle.imap_extensions.specs.Quotas.{QuotaValue, QuotaRootValue, quota_value, quota_root_value, lent_quota, lent_quota_root}
 use Rattle.imap_extensions.specs.Ids.{IdValue, id_value, lent_id}
 use Rattle.imap_extensions.specs.Acls.{AclValue, ListRightsValue, MyRightsValue, acl_value, list_rights_value, my_rights_value, lent_acl, lent_list_rights, lent_my_rights}
@@ -35,7 +35,7 @@ pub data ResponseValue : Type 0 where
   Expunge : ℕ → ResponseValue
   Vanished : Bool → List Range → ResponseValue
   Fetch : ℕ → List AttributeValue → ResponseValue
-  MailboxData : MailboxValue → ResponseValue
+  MailboxData : DatumValue → ResponseValue
   Quota : QuotaValue → ResponseValue
   QuotaRoot : QuotaRootValue → ResponseValue
   Id : Option IdValue → ResponseValue
@@ -61,7 +61,7 @@ response_value (code.«Data» status o) = Data status (outcome_value o)
 response_value (code.Expunge n) = Expunge n
 response_value (code.Vanished earlier uids) = Vanished earlier (map (λ r. range_of r) uids.items)
 response_value (code.Fetch n attributes) = Fetch n (map attribute_value attributes.items)
-response_value (code.MailboxData datum) = MailboxData (mailbox_value datum)
+response_value (code.MailboxData datum) = MailboxData (datum_value datum)
 response_value (code.Quota quota) = Quota (quota_value quota)
 response_value (code.QuotaRoot root) = QuotaRoot (quota_root_value root)
 response_value (code.Id map) = Id (option_map id_value map)
@@ -98,7 +98,7 @@ lent_response (Data status o) = Data status (lent_outcome o)
 lent_response (Expunge n) = Expunge n
 lent_response (Vanished earlier uids) = Vanished earlier uids
 lent_response (Fetch n attributes) = Fetch n (map lent_attribute attributes)
-lent_response (MailboxData datum) = MailboxData (lent_mailbox datum)
+lent_response (MailboxData datum) = MailboxData (lent_datum datum)
 lent_response (Quota quota) = Quota (lent_quota quota)
 lent_response (QuotaRoot root) = QuotaRoot (lent_quota_root root)
 lent_response (Id map) = Id (option_map lent_id map)

@@ -8,7 +8,7 @@ use Rattle.imap_proto.specs.declared.stream.End.TheVariants.{Waits, Denied}
 use Rattle.imap_proto.specs.Responses.{ResponseValue}
 use Rattle.imap_proto.specs.Lines.{response}
 
--- no response stands at the front, and more bytes may bring one
+-- no response stands at the front, and the bytes are not denied
 abbrev pub Waiting : Bytes → Type 0
 Waiting m =
     ((v : ResponseValue) (rest : Bytes) → ¬ ((meaning response).yields m v rest))

@@ -4,10 +4,9 @@
 //! on its stack for the values of all of them.
 
 ghost use Rattle.std.specs.Prelude.{◌≡◌, map, Err as Refused};
-ghost use Rattle.imap_grammar.specs.Answer.{Exactly, Gives};
+ghost use Rattle.imap_grammar.specs.Answer.{Steps, StepsExactly};
 ghost use Rattle.imap_grammar.specs.Memory.{SucceedsFor};
 ghost use Rattle.imap_grammar.specs.Rule.{◌⨾◌};
-ghost use Rattle.imap_grammar.specs.Step.{step};
 ghost use Rattle.imap_grammar.specs.Tags.{crlf};
 ghost use Rattle.imap_attributes.specs.AttributeValues.{attribute_value};
 ghost use Rattle.imap_proto.specs.Memory.{TakesNone};
@@ -41,14 +40,14 @@ impl Class for Space {
 
 #[tactic(auto, unfolding(crate::specs::Lines::spaces))]
 fn spaces(i: &[u8]) -> IResult<&[u8], &[u8]>
-    ensures { Exactly (λ x. x.now) result (step rule.spaces i.now) }
+    ensures { StepsExactly rule.spaces (λ x. x.now) i.now result }
 {
     cut0(run_end::<Space>(i), i)
 }
 
 // Spaces, and the end of the line.
 fn line_end(i: &[u8]) -> IResult<&[u8], (&[u8], &[u8])>
-    ensures { Exactly (λ x. (x.0.now, x.1.now)) result (step (rule.spaces ⨾ crlf) i.now) }
+    ensures { StepsExactly (rule.spaces ⨾ crlf) (λ x. (x.0.now, x.1.now)) i.now result }
 {
     let (rest, before) = spaces(i)?;
     let (rest, end) = tag(b"\r\n", rest)?;
@@ -76,7 +75,7 @@ macro_rules! whole_line {
 #[tactic(auto, unfolding(crate::specs::Lines::status_line, crate::specs::Lines::status_data))]
 #[inline(never)]
 pub(crate) fn status_line(alloc: Global, i: &[u8]) -> IResult<&[u8], Response<'_>>
-    ensures steps { Gives response_value result (step rule.status_line i.now) }
+    ensures steps { Steps rule.status_line response_value i.now result }
     ensures memory { SucceedsFor TakesNone rule.status_line i.now result }
 {
     let (rest, status) = status(i)?;
@@ -86,7 +85,7 @@ pub(crate) fn status_line(alloc: Global, i: &[u8]) -> IResult<&[u8], Response<'_
 
 #[tactic(auto, unfolding(crate::specs::Lines::fetched))]
 fn fetched(alloc: Global, i: &[u8]) -> IResult<&[u8], Vec<AttributeValue<'_>>>
-    ensures { Gives (λ x. map attribute_value x.items) result (step rule.fetched i.now) }
+    ensures { Steps rule.fetched (λ x. map attribute_value x.items) i.now result }
 {
     let (rest, _) = word(b" FETCH ", i)?;
     let (rest, attributes) = attribute_list(alloc, rest)?;
@@ -99,7 +98,7 @@ fn fetched(alloc: Global, i: &[u8]) -> IResult<&[u8], Vec<AttributeValue<'_>>>
 #[tactic(auto, unfolding(crate::specs::Lines::count_line))]
 #[inline(never)]
 pub(crate) fn count_line<'a>(n: u32, i: &'a [u8]) -> IResult<&'a [u8], Response<'a>>
-    ensures { Exactly response_value result (step (rule.count_line n) i.now) }
+    ensures { StepsExactly (rule.count_line n) response_value i.now result }
 {
     whole_line!(word(b" EXISTS", i), found => Response::MailboxData(MailboxDatum::Exists(n)));
     whole_line!(word(b" RECENT", i), found => Response::MailboxData(MailboxDatum::Recent(n)));
@@ -115,7 +114,7 @@ pub(crate) fn fetched_line<'a>(
     n: u32,
     i: &'a [u8],
 ) -> IResult<&'a [u8], Response<'a>>
-    ensures { Gives response_value result (step (rule.fetched_line n) i.now) }
+    ensures { Steps (rule.fetched_line n) response_value i.now result }
 {
     whole_line!(fetched(alloc, i), attributes => Response::Fetch(n, attributes));
     Err(Err::Error)
@@ -124,7 +123,7 @@ pub(crate) fn fetched_line<'a>(
 #[tactic(auto, unfolding(crate::specs::Lines::mailbox_line))]
 #[inline(never)]
 pub(crate) fn mailbox_line(alloc: Global, i: &[u8]) -> IResult<&[u8], Response<'_>>
-    ensures steps { Gives response_value result (step rule.mailbox_line i.now) }
+    ensures steps { Steps rule.mailbox_line response_value i.now result }
     ensures memory { SucceedsFor TakesNone rule.mailbox_line i.now result }
 {
     whole_line!(mailbox_datum(alloc, i), found => Response::MailboxData(found));
@@ -134,7 +133,7 @@ pub(crate) fn mailbox_line(alloc: Global, i: &[u8]) -> IResult<&[u8], Response<'
 #[tactic(auto, unfolding(crate::specs::Lines::list_line))]
 #[inline(never)]
 pub(crate) fn list_line(alloc: Global, i: &[u8]) -> IResult<&[u8], Response<'_>>
-    ensures steps { Gives response_value result (step rule.list_line i.now) }
+    ensures steps { Steps rule.list_line response_value i.now result }
     ensures memory { SucceedsFor TakesNone rule.list_line i.now result }
 {
     whole_line!(list_or_lsub(alloc, i), found => Response::MailboxData(found));
@@ -145,7 +144,7 @@ pub(crate) fn list_line(alloc: Global, i: &[u8]) -> IResult<&[u8], Response<'_>>
 #[tactic(auto, unfolding(crate::specs::Lines::capability_line))]
 #[inline(never)]
 pub(crate) fn capability_line(alloc: Global, i: &[u8]) -> IResult<&[u8], Response<'_>>
-    ensures { Gives response_value result (step rule.capability_line i.now) }
+    ensures { Steps rule.capability_line response_value i.now result }
 {
     whole_line!(capability_data(alloc, i), found => Response::Capabilities(found));
     Err(Err::Error)
@@ -154,7 +153,7 @@ pub(crate) fn capability_line(alloc: Global, i: &[u8]) -> IResult<&[u8], Respons
 #[tactic(auto, unfolding(crate::specs::Lines::enabled_line))]
 #[inline(never)]
 pub(crate) fn enabled_line(alloc: Global, i: &[u8]) -> IResult<&[u8], Response<'_>>
-    ensures { Gives response_value result (step rule.enabled_line i.now) }
+    ensures { Steps rule.enabled_line response_value i.now result }
 {
     whole_line!(enabled_data(alloc, i), found => Response::Capabilities(found));
     Err(Err::Error)
@@ -163,7 +162,7 @@ pub(crate) fn enabled_line(alloc: Global, i: &[u8]) -> IResult<&[u8], Response<'
 #[tactic(auto, unfolding(crate::specs::Lines::annotation_line))]
 #[inline(never)]
 pub(crate) fn annotation_line(alloc: Global, i: &[u8]) -> IResult<&[u8], Response<'_>>
-    ensures { Gives response_value result (step rule.annotation_line i.now) }
+    ensures { Steps rule.annotation_line response_value i.now result }
 {
     whole_line!(metadata_solicited(alloc, i), found => Response::MailboxData(found));
     whole_line!(metadata_unsolicited(alloc, i), found => Response::MailboxData(found));
@@ -174,7 +173,7 @@ pub(crate) fn annotation_line(alloc: Global, i: &[u8]) -> IResult<&[u8], Respons
 #[tactic(auto, unfolding(crate::specs::Lines::vanished_line, crate::specs::Lines::vanished_data))]
 #[inline(never)]
 pub(crate) fn vanished_line(alloc: Global, i: &[u8]) -> IResult<&[u8], Response<'_>>
-    ensures { Gives response_value result (step rule.vanished_line i.now) }
+    ensures { Steps rule.vanished_line response_value i.now result }
 {
     whole_line!(vanished(alloc, i), found => Response::Vanished { earlier: found.0, uids: found.1 });
     Err(Err::Error)
@@ -183,7 +182,7 @@ pub(crate) fn vanished_line(alloc: Global, i: &[u8]) -> IResult<&[u8], Response<
 #[tactic(auto, unfolding(crate::specs::Lines::quota_line))]
 #[inline(never)]
 pub(crate) fn quota_line(alloc: Global, i: &[u8]) -> IResult<&[u8], Response<'_>>
-    ensures { Gives response_value result (step rule.quota_line i.now) }
+    ensures { Steps rule.quota_line response_value i.now result }
 {
     whole_line!(quota(alloc, i), found => Response::Quota(found));
     whole_line!(quota_root(alloc, i), found => Response::QuotaRoot(found));
@@ -193,7 +192,7 @@ pub(crate) fn quota_line(alloc: Global, i: &[u8]) -> IResult<&[u8], Response<'_>
 #[tactic(auto, unfolding(crate::specs::Lines::id_line))]
 #[inline(never)]
 pub(crate) fn id_line(alloc: Global, i: &[u8]) -> IResult<&[u8], Response<'_>>
-    ensures steps { Gives response_value result (step rule.id_line i.now) }
+    ensures steps { Steps rule.id_line response_value i.now result }
     ensures memory { SucceedsFor TakesNone rule.id_line i.now result }
 {
     whole_line!(id(alloc, i), found => Response::Id(found));
@@ -203,7 +202,7 @@ pub(crate) fn id_line(alloc: Global, i: &[u8]) -> IResult<&[u8], Response<'_>>
 #[tactic(auto, unfolding(crate::specs::Lines::acl_line))]
 #[inline(never)]
 pub(crate) fn acl_line(alloc: Global, i: &[u8]) -> IResult<&[u8], Response<'_>>
-    ensures { Gives response_value result (step rule.acl_line i.now) }
+    ensures { Steps rule.acl_line response_value i.now result }
 {
     whole_line!(acl(alloc, i), found => Response::Acl(found));
     Err(Err::Error)

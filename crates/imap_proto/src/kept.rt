@@ -1,8 +1,7 @@
 //! Fetches that are kept: the bytes of one `FETCH` once, and its attributes as positions in them.
 
-ghost use Rattle.std.specs.Prelude.{◌≡◌, ◌≤◌, ◌<◌, Some, drop, length, map, slice_get, IfOk};
-ghost use Rattle.imap_grammar.specs.Positions.{Ahead, ExactlyAt, GivesAt, Inside, named_in};
-ghost use Rattle.imap_grammar.specs.Step.{step};
+ghost use Rattle.std.specs.Prelude.{◌≡◌, ◌≤◌, ◌<◌, Some, length, map, slice_get, IfOk};
+ghost use Rattle.imap_grammar.specs.Positions.{Ahead, Inside, named_in, StepsAt, StepsExactlyAt};
 ghost use Rattle.imap_attributes.specs.AttributeValues.{attribute_value};
 ghost use Rattle.imap_body.specs.SpannedAttributes.{InFront, attribute_in};
 ghost use Rattle.imap_proto.specs.Kept.{Keeps, message_number, consumed_bytes, attributes_of, without_value};
@@ -25,8 +24,7 @@ use std::alloc::{AllocError, Global};
 #[tactic(auto, unfolding(crate::specs::Lines::spaces))]
 fn spaces(m: &[u8], p: usize) -> Reached<Span>
     requires { p ≤ length m.now }
-    ensures steps { ExactlyAt (λ x. named_in m.now x) m.now result
-        (step rule.spaces (drop p m.now)) }
+    ensures steps { StepsExactlyAt rule.spaces (named_in m.now) m.now p result }
     ensures inside { Inside m.now p result }
 {
     let (_, i) = m.split_at(p);
@@ -36,8 +34,7 @@ fn spaces(m: &[u8], p: usize) -> Reached<Span>
 #[tactic(auto, unfolding(crate::specs::Lines::fetched))]
 fn fetched(alloc: Global, m: &[u8], p: usize) -> Reached<Vec<SpannedAttribute>>
     requires { p ≤ length m.now }
-    ensures steps { GivesAt (λ x. map (attribute_in m.now) x.items) m.now result
-        (step rule.fetched (drop p m.now)) }
+    ensures steps { StepsAt rule.fetched (λ x. map (attribute_in m.now) x.items) m.now p result }
     ensures ahead { Ahead m.now p result }
     ensures rests { InFront (λ n x. map (attribute_in n) x.items) result }
 {
@@ -48,7 +45,7 @@ fn fetched(alloc: Global, m: &[u8], p: usize) -> Reached<Vec<SpannedAttribute>>
 // A line that tells of a message: its number, and its attributes as positions in the line.
 #[tactic(auto, unfolding(crate::specs::Lines::fetch_line, crate::specs::Lines::fetch))]
 fn fetch_line(alloc: Global, m: &[u8]) -> Reached<(u32, Vec<SpannedAttribute>)>
-    ensures steps { GivesAt (λ x. fetch_in m.now x) m.now result (step rule.fetch_line m.now) }
+    ensures steps { StepsAt rule.fetch_line (fetch_in m.now) m.now 0 result }
     ensures within { IfOk result (λ x. x.0 ≤ length m.now) }
     ensures rests { InFront fetch_in result }
 {

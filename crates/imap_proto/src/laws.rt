@@ -5,6 +5,7 @@ ghost use Rattle.imap_grammar.specs.Stable.{Stable};
 ghost use Rattle.imap_grammar.specs.Equality.{Tells};
 ghost use Rattle.imap_grammar.specs.Copying.{CopiesFreely};
 ghost use Rattle.imap_command.specs.Apart.{CallsToldApart};
+ghost use Rattle.imap_command.specs.OneLine.{OneLine};
 ghost use Rattle.imap_proto.specs.Outcomes as outcomes;
 ghost use Rattle.imap_proto.specs.Lines as rule;
 ghost use Rattle.imap_proto.specs.Streams.{SomeSplit, OneSplit, BeginningsWait, SplitsGoOn, FeedsSplit, CuttingsAlike};
@@ -52,8 +53,8 @@ pub fn streams()
 
 /// What the grammar takes spells the response. On the canonical text of a response that it yields, the grammar yields
 /// that response again, with all texts borrowed, and what follows the text is left whole, whatever it is. Two kinds are
-/// excepted: `bracket`, whose information begins with `[` as a code does, and `too_long`, with a text too long to be
-/// written as a literal. A response with its texts borrowed is the same response.
+/// excepted: `has_bracket`, whose information begins with `[` as a code does, and `has_too_long_text`, with a text too
+/// long to be written as a literal. A response with its texts borrowed is the same response.
 #[tactic(auto, using(crate::proofs::LineTexts::response_spells, crate::proofs::LineTexts::canonical_reads_back, crate::proofs::LentTwice::lent_is_same))]
 pub fn read_back()
     ensures spells { Spells rule.response spells_response }
@@ -61,10 +62,15 @@ pub fn read_back()
     ensures same { (r : ResponseValue) → Same (lent_response r) r }
 {}
 
-/// Finished commands with equal bytes were built by equal calls, ranges compared by their printed ends:
-/// so no argument can smuggle in another command.
+/// Finished commands with equal bytes were built by equal calls, ranges compared by their printed ends.
 pub fn calls_told_apart()
     ensures { CallsToldApart }
+{}
+
+/// Where no argument is refused, what the calls tell has no carriage return, line feed or zero byte: so a finished
+/// command is one line, and no argument brings in another (RFC 3501, section 9: command, quoted).
+pub fn one_line()
+    ensures { OneLine }
 {}
 
 /// `==` tells whether two values say the same: texts by their bytes, whichever are borrowed.

@@ -2,8 +2,7 @@
 
 ghost use Rattle.std.specs.Prelude.{◌≡◌, slice_get};
 ghost use Rattle.std.specs.Option.{option_copied};
-ghost use Rattle.imap_grammar.specs.Answer.{Exactly, Gives};
-ghost use Rattle.imap_grammar.specs.Step.{step};
+ghost use Rattle.imap_grammar.specs.Answer.{Steps, StepsExactly};
 ghost use Rattle.imap_grammar.specs.Memory.{SucceedsFor};
 ghost use Rattle.imap_grammar.specs.Rule.{run1};
 ghost use Rattle.imap_proto.specs.Memory.{TakesNone};
@@ -27,7 +26,7 @@ use std::alloc::Global;
 #[tactic(auto, unfolding(crate::specs::Lines::continuation))]
 #[inline(never)]
 fn continuation(alloc: Global, i: &[u8]) -> IResult<&[u8], Response<'_>>
-    ensures steps { Gives response_value result (step rule.continuation i.now) }
+    ensures steps { Steps rule.continuation response_value i.now result }
     ensures memory { SucceedsFor TakesNone rule.continuation i.now result }
 {
     let (rest, _) = tag(b"+", i)?;
@@ -49,14 +48,14 @@ impl Class for TagChar {
 }
 
 fn tag_chars(i: &[u8]) -> IResult<&[u8], &[u8]>
-    ensures { Exactly (λ x. x.now) result (step (run1 rule.is_tag_char) i.now) }
+    ensures { StepsExactly (run1 rule.is_tag_char) (λ x. x.now) i.now result }
 {
     cut1(run_end::<TagChar>(i), i)
 }
 
 #[tactic(auto, unfolding(crate::specs::Lines::request_tag))]
 fn request_tag(i: &[u8]) -> IResult<&[u8], &str>
-    ensures { Exactly (λ x. x.now) result (step rule.request_tag i.now) }
+    ensures { StepsExactly rule.request_tag (λ x. x.now) i.now result }
 {
     let (rest, bytes) = tag_chars(i)?;
     match as_utf8(bytes) {
@@ -68,7 +67,7 @@ fn request_tag(i: &[u8]) -> IResult<&[u8], &str>
 #[tactic(auto, unfolding(crate::specs::Lines::tagged))]
 #[inline(never)]
 fn tagged(alloc: Global, i: &[u8]) -> IResult<&[u8], Response<'_>>
-    ensures { Gives response_value result (step rule.tagged i.now) }
+    ensures { Steps rule.tagged response_value i.now result }
 {
     let (rest, tag_text) = request_tag(i)?;
     let (rest, _) = tag(b" ", rest)?;
@@ -101,7 +100,7 @@ fn second(i: &[u8]) -> Option<&u8>
 #[tactic(auto, using(crate::proofs::FirstBytes::response_none, crate::proofs::FirstBytes::response_plus, crate::proofs::FirstBytes::response_star, crate::proofs::FirstBytes::response_other, crate::proofs::FirstBytes::datum_none, crate::proofs::FirstBytes::datum_of_status, crate::proofs::FirstBytes::datum_of_number, crate::proofs::FirstBytes::datum_of_mailbox, crate::proofs::FirstBytes::datum_of_list, crate::proofs::FirstBytes::datum_of_capability, crate::proofs::FirstBytes::datum_of_enabled, crate::proofs::FirstBytes::datum_of_annotation, crate::proofs::FirstBytes::datum_of_vanished, crate::proofs::FirstBytes::datum_of_quota, crate::proofs::FirstBytes::datum_of_id, crate::proofs::FirstBytes::datum_of_acl, crate::proofs::FirstBytes::datum_other, crate::proofs::Numbered::number_stopped, crate::proofs::Numbered::number_and_fetch, crate::proofs::Numbered::number_and_count), unfolding(crate::specs::Lines::data_line))]
 #[inline(never)]
 pub(crate) fn response(alloc: Global, i: &[u8]) -> IResult<&[u8], Response<'_>>
-    ensures steps { Gives response_value result (step rule.response i.now) }
+    ensures steps { Steps rule.response response_value i.now result }
     ensures memory { SucceedsFor TakesNone rule.response i.now result }
 {
     match i.first() {

@@ -1,9 +1,8 @@
 //! Outcomes: what a status line says besides its status.
 
 ghost use Rattle.std.specs.Prelude.{◌≡◌, option_map, string_bytes};
-ghost use Rattle.imap_grammar.specs.Answer.{Gives};
+ghost use Rattle.imap_grammar.specs.Answer.{Steps};
 ghost use Rattle.imap_grammar.specs.Memory.{SucceedsFor};
-ghost use Rattle.imap_grammar.specs.Step.{step};
 ghost use Rattle.imap_grammar.specs.Text.{text_of};
 ghost use Rattle.imap_proto.specs.Responses.{outcome_value};
 ghost use Rattle.imap_proto.specs.Memory.{OutcomeTakesNone};
@@ -70,7 +69,7 @@ fn behind_code(text: CowStr<'_>) -> Option<CowStr<'_>>
 #[tactic(auto, unfolding(crate::specs::Outcomes::plain_outcome))]
 #[inline(never)]
 fn plain_outcome(alloc: Global, i: &[u8]) -> IResult<&[u8], Outcome<'_>>
-    ensures steps { Gives outcome_value result (step outcomes.plain_outcome i.now) }
+    ensures steps { Steps outcomes.plain_outcome outcome_value i.now result }
     ensures memory { SucceedsFor OutcomeTakesNone outcomes.plain_outcome i.now result }
 {
     let (rest, text) = text(alloc, i)?;
@@ -88,7 +87,7 @@ fn plain_outcome(alloc: Global, i: &[u8]) -> IResult<&[u8], Outcome<'_>>
 #[tactic(auto, unfolding(crate::specs::Outcomes::outcome))]
 #[inline(never)]
 fn coded_outcome(alloc: Global, i: &[u8]) -> IResult<&[u8], Outcome<'_>>
-    ensures steps { Gives outcome_value result (step outcomes.outcome i.now) }
+    ensures steps { Steps outcomes.outcome outcome_value i.now result }
     ensures memory { SucceedsFor OutcomeTakesNone outcomes.outcome i.now result }
 {
     match tried(response_code(alloc, i))? {
@@ -112,7 +111,7 @@ fn coded_outcome(alloc: Global, i: &[u8]) -> IResult<&[u8], Outcome<'_>>
 /// It takes memory for a code that may hold a list, and for a text that is not UTF-8.
 #[tactic(auto, using(crate::proofs::FirstBytes::outcome_uncoded))]
 pub(crate) fn outcome(alloc: Global, i: &[u8]) -> IResult<&[u8], Outcome<'_>>
-    ensures steps { Gives outcome_value result (step outcomes.outcome i.now) }
+    ensures steps { Steps outcomes.outcome outcome_value i.now result }
     ensures memory { SucceedsFor OutcomeTakesNone outcomes.outcome i.now result }
 {
     match i.first() {
@@ -124,7 +123,7 @@ pub(crate) fn outcome(alloc: Global, i: &[u8]) -> IResult<&[u8], Outcome<'_>>
 /// An outcome behind a space, or none. It takes memory as an outcome does.
 #[tactic(auto, unfolding(crate::specs::Outcomes::spaced_outcome))]
 pub(crate) fn spaced_outcome(alloc: Global, i: &[u8]) -> IResult<&[u8], Outcome<'_>>
-    ensures steps { Gives outcome_value result (step outcomes.spaced_outcome i.now) }
+    ensures steps { Steps outcomes.spaced_outcome outcome_value i.now result }
     ensures memory { SucceedsFor OutcomeTakesNone outcomes.spaced_outcome i.now result }
 {
     match tried(tag(b" ", i))? {

@@ -1,9 +1,8 @@
 //! Responses.
 
 ghost use Rattle.std.specs.Prelude.{◌≡◌, map, option_map, string_bytes, IfOk};
-ghost use Rattle.imap_grammar.specs.Answer.{Answers, Gives};
+ghost use Rattle.imap_grammar.specs.Answer.{Answers, Steps};
 ghost use Rattle.imap_grammar.specs.Memory.{SucceedsFor};
-ghost use Rattle.imap_grammar.specs.Step.{step};
 ghost use Rattle.imap_extensions.specs.Ids.{id_value};
 ghost use Rattle.imap_extensions.specs.Owned.{owned_id as owned_map};
 ghost use Rattle.imap_attributes.specs.AttributeValues.{attribute_value};
@@ -182,7 +181,7 @@ impl<'a> Response<'a> {
     /// begins as a code with a list does, as `[CAPABILITY`, since it is tried as that code first.
     #[inline(always)]
     pub fn parse(alloc: Global, msg: &'a [u8]) -> ParseResult<'a>
-        ensures steps { Gives response_value result (step rule.response msg.now) }
+        ensures steps { Steps rule.response response_value msg.now result }
         ensures answer { Answers rule.response response_value msg.now result }
         ensures spells { IfOk result (λ x. Spelled msg.now x.0.now (response_value x.1)) }
         ensures line { IfOk result (λ x. EndsLine msg.now x.0.now) }

@@ -17,7 +17,7 @@ use thiserror::Error;
 /// Why a stream gives no more responses.
 #[derive(Clone, Copy, Debug, PartialEq, Eq)]
 pub enum End {
-    /// What is left may become a response, or nothing is left.
+    /// What is left is no response yet, and is not denied; or nothing is left.
     Waits,
     /// No response begins with what is left.
     Denied,

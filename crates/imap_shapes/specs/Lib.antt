@@ -6,3 +6,4 @@ pub mod BodyValues
 pub mod Search
 pub mod Lent
 pub mod Changed
+pub mod Equality

@@ -26,7 +26,14 @@ abbrev pub count : Bodies → ℕ
 count no_bodies = 0
 count (one_body b bs) = suc (count bs)
 
--- whether some multipart that is visited has more bodies than a part number can count
+-- whether a body is a multipart with more bodies than a part number can count
+abbrev pub is_crowded : BodyValue → Bool
+is_crowded (Basic common other last) = false
+is_crowded (TextBody common other lines last) = false
+is_crowded (Message common other envelope inner lines last) = false
+is_crowded (Multipart common bodies last) = nat_lt 4294967295 (count bodies)
+
+-- whether some body that is visited is one
 abbrev mutual
   pub too_many : BodyValue → Bool
   too_many (Basic common other last) = false

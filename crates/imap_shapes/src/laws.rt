@@ -7,6 +7,7 @@ ghost use Rattle.imap_shapes.specs.EnvelopeValues.{address_seen, envelope_seen};
 ghost use Rattle.imap_shapes.specs.FieldValues.{params_seen, encoding_seen};
 ghost use Rattle.imap_shapes.specs.ExtensionValues.{disposition_seen, extension_seen};
 ghost use Rattle.imap_shapes.specs.BodyValues.{type_seen, common_seen, single_seen, body_seen};
+ghost use Rattle.imap_shapes.specs.Equality.{TellsByTexts};
 ghost use Rattle.imap_shapes.specs.Lent.{lent_address, lent_envelope, lent_params, lent_encoding, lent_disposition, lent_extension, lent_type, lent_common, lent_single, lent_body};
 
 use crate::search::PartsError;
@@ -19,34 +20,23 @@ use crate::spans::SpannedText;
 /// If `==` of texts answers whether f says the same of both, borrowed or owned, then `==` of shapes of such texts
 /// answers whether the two shapes say the same.
 pub fn equality<S: PartialEq, B: PartialEq>()
-    ensures address { (f : B → Text) →
-        Tells B.eq (λ b. lent_text (f b)) →
-        Tells ⟦<Address<B> as PartialEq>⟧.eq (λ x. lent_address (address_seen f x)) }
-    ensures envelope { (f : B → Text) →
-        Tells B.eq (λ b. lent_text (f b)) →
-        Tells ⟦<Envelope<B> as PartialEq>⟧.eq (λ x. lent_envelope (envelope_seen f x)) }
-    ensures body_params { (f : S → Text) →
-        Tells S.eq (λ s. lent_text (f s)) →
-        Tells ⟦<BodyParams<S> as PartialEq>⟧.eq (λ x. lent_params (params_seen f x)) }
-    ensures content_encoding { (f : S → Text) →
-        Tells S.eq (λ s. lent_text (f s)) →
-        Tells ⟦<ContentEncoding<S> as PartialEq>⟧.eq (λ x. lent_encoding (encoding_seen f x)) }
-    ensures content_disposition { (f : S → Text) →
-        Tells S.eq (λ s. lent_text (f s)) →
-        Tells ⟦<ContentDisposition<S> as PartialEq>⟧.eq (λ x.
-        lent_disposition (disposition_seen f x)) }
-    ensures body_extension { (f : S → Text) →
-        Tells S.eq (λ s. lent_text (f s)) →
-        Tells ⟦<BodyExtension<S> as PartialEq>⟧.eq (λ x. lent_extension (extension_seen f x)) }
-    ensures content_type { (f : S → Text) →
-        Tells S.eq (λ s. lent_text (f s)) →
-        Tells ⟦<ContentType<S> as PartialEq>⟧.eq (λ x. lent_type (type_seen f x)) }
-    ensures content_common { (f : S → Text) →
-        Tells S.eq (λ s. lent_text (f s)) →
-        Tells ⟦<BodyContentCommon<S> as PartialEq>⟧.eq (λ x. lent_common (common_seen f x)) }
-    ensures content_single_part { (f : S → Text) →
-        Tells S.eq (λ s. lent_text (f s)) →
-        Tells ⟦<BodyContentSinglePart<S> as PartialEq>⟧.eq (λ x. lent_single (single_seen f x)) }
+    ensures address { TellsByTexts B.eq ⟦<Address<B> as PartialEq>⟧.eq lent_address address_seen }
+    ensures envelope { TellsByTexts B.eq ⟦<Envelope<B> as PartialEq>⟧.eq
+        lent_envelope envelope_seen }
+    ensures body_params { TellsByTexts S.eq ⟦<BodyParams<S> as PartialEq>⟧.eq
+        lent_params params_seen }
+    ensures content_encoding { TellsByTexts S.eq ⟦<ContentEncoding<S> as PartialEq>⟧.eq
+        lent_encoding encoding_seen }
+    ensures content_disposition { TellsByTexts S.eq ⟦<ContentDisposition<S> as PartialEq>⟧.eq
+        lent_disposition disposition_seen }
+    ensures body_extension { TellsByTexts S.eq ⟦<BodyExtension<S> as PartialEq>⟧.eq
+        lent_extension extension_seen }
+    ensures content_type { TellsByTexts S.eq ⟦<ContentType<S> as PartialEq>⟧.eq
+        lent_type type_seen }
+    ensures content_common { TellsByTexts S.eq ⟦<BodyContentCommon<S> as PartialEq>⟧.eq
+        lent_common common_seen }
+    ensures content_single_part { TellsByTexts S.eq ⟦<BodyContentSinglePart<S> as PartialEq>⟧.eq
+        lent_single single_seen }
     ensures body_structure { (f : S → Text) (g : B → Text) →
         Tells S.eq (λ s. lent_text (f s)) →
         Tells B.eq (λ b. lent_text (g b)) →

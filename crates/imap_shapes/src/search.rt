@@ -1,12 +1,12 @@
 //! Part search: the path of the first body at which a predicate holds.
 
-ghost use Rattle.std.specs.Prelude.{◌≡◌, ◌++◌, ◌∷◌, ℕ, [], true, false, Some, map, slice_get, IfOk, OnOk, IfErr};
+ghost use Rattle.std.specs.Prelude.{◌≡◌, ◌++◌, ◌∷◌, ℕ, [], true, false, Some, Err, map, slice_get, IfOk, OnOk, IfErr};
 ghost use Rattle.std.specs.Option.{option_map};
 ghost use Rattle.std.specs.Fn.{FnReturnsAt};
 ghost use Rattle.imap_grammar.specs.Text.{text_of};
 ghost use Rattle.imap_shapes.specs.Spans.{bytes_of};
 ghost use Rattle.imap_shapes.specs.BodyValues.{body_seen};
-ghost use Rattle.imap_shapes.specs.Search.{visited, too_many, part_seen, parts_of, FindsFirst};
+ghost use Rattle.imap_shapes.specs.Search.{visited, too_many, is_crowded, part_seen, parts_of, FindsFirst};
 ghost use Rattle.imap_shapes.specs.declared.search.PartsError.TheVariants.{TooManyParts, OutOfMemory};
 
 use crate::types::bodies::BodyStructure;
@@ -78,19 +78,23 @@ fn visit<'b, 'a>(
     ensures few { OnOk result (too_many (body_seen text_of bytes_of body.now) ≡ false) }
     ensures many { IfErr result (λ e.
         e ≡ TooManyParts → too_many (body_seen text_of bytes_of body.now) ≡ true) }
+    ensures crowded { is_crowded (body_seen text_of bytes_of body.now) ≡ true →
+        result ≡ Err TooManyParts }
 {
+    let BodyStructure::Multipart { bodies, .. } = body else {
+        hold(body, path, parts)?;
+        return Ok(());
+    };
+    if bodies.len() > u32::MAX as usize {
+        return Err(PartsError::TooManyParts);
+    }
     hold(body, path, parts)?;
-    if let BodyStructure::Multipart { bodies, .. } = body {
-        if bodies.len() > u32::MAX as usize {
-            return Err(PartsError::TooManyParts);
-        }
-        let mut number = 0u32;
-        for inner in bodies {
-            number += 1;
-            path.push(number)?;
-            visit(inner, path, parts)?;
-            path.pop();
-        }
+    let mut number = 0u32;
+    for inner in bodies {
+        number += 1;
+        path.push(number)?;
+        visit(inner, path, parts)?;
+        path.pop();
     }
     Ok(())
 }
@@ -106,8 +110,8 @@ impl<'b, 'a> BodyStructParser<'b, 'a> {
     /// Root and the bodies inside it, parent before child and left to right. The body inside a message is none of them.
     ///
     /// It takes memory for the list of bodies, and for their paths. `TooManyParts`: a multipart has more than
-    /// 4,294,967,295 bodies, which is judged before the bodies in it are visited; `OutOfMemory`: memory ran out before
-    /// that.
+    /// 4,294,967,295 bodies, which is judged before it is held, and so before any memory is taken where root is that
+    /// multipart; `OutOfMemory`: memory ran out before that.
     pub fn new(
         alloc: Global,
         root: &'b BodyStructure<'a>,
@@ -117,6 +121,8 @@ impl<'b, 'a> BodyStructParser<'b, 'a> {
         ensures few { IfOk result (λ p. too_many (body_seen text_of bytes_of root.now) ≡ false) }
         ensures many { IfErr result (λ e.
             e ≡ TooManyParts → too_many (body_seen text_of bytes_of root.now) ≡ true) }
+        ensures crowded { is_crowded (body_seen text_of bytes_of root.now) ≡ true →
+            result ≡ Err TooManyParts }
     {
         let mut parts = Vec::new(alloc);
         let mut path = Vec::new(alloc);

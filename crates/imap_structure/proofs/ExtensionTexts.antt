@@ -22,7 +22,7 @@ use Rattle.imap_bytes.proofs.SpellingTexts.{spells-nil_or, spells-number, spells
 use Rattle.imap_shapes.specs.ExtensionValues.{ExtensionValue, Num, Str, Listed, one_extension, extensions_of}
 use Rattle.imap_shapes.specs.Lent.{lent_disposition, lent_languages, lent_extension, lent_extensions, lent_ext_1part, lent_ext_mpart}
 use Rattle.imap_structure.specs.Fields.{body_fld_param}
-use Rattle.imap_structure.specs.Extensions.{disposition_of, body_fld_dsp, some_languages, single, language_list, body_fld_lang, extension_over, some_extensions, listed, bracketed_extensions, extension_list, extension, body_extension, maybe_spaced, last_extension, ext_1part_of, body_ext_1part, ext_mpart_of, body_ext_mpart}
+use Rattle.imap_structure.specs.Extensions.{disposition_of, body_fld_dsp, some_languages, one_language, language_list, body_fld_lang, extension_over, some_extensions, list_of_extensions, bracketed_extensions, extension_list, extension, body_extension, maybe_spaced, last_extension, ext_1part_of, body_ext_1part, ext_mpart_of, body_ext_mpart}
 use Rattle.imap_envelopes.specs.EnvelopeTexts.{behind_space}
 use Rattle.imap_structure.specs.ExtensionTexts.{canonical_disposition, canonical_languages, canonical_extension, canonical_members, canonical_further, canonical_last, canonical_ext_1part, canonical_ext_mpart, spells_disposition, spells_languages, spells_extension, spells_members, spells_further, spells_field, spells_last, spells_ext_1part, spells_ext_mpart}
 use Rattle.imap_envelopes.proofs.EnvelopeTexts.{reads_spaced, spaced_spells}
@@ -55,7 +55,7 @@ reads_language_list : ReadsBack language_list lent_languages canonical_languages
 unfolding language_list some_languages
 reads_language_list = reads-gives Some (reads-nonempty_list_of reads-string_utf8 (λ t. tt) (λ t. tt)) (λ x. refl)
 
-list_apart : Apart (gives single nstring_utf8) language_list canonical_languages Any
+list_apart : Apart (gives one_language nstring_utf8) language_list canonical_languages Any
 unfolding language_list
 list_apart = apart-gives _ Some (λ x t g. denies-gives _ _ _ (text_denied _))
 
@@ -67,28 +67,28 @@ list_read x m rest y f t =
     gives-on Some (nonempty_list_of string_utf8) _ (lent_text x ∷ []) t
     (subst (λ l. (meaning (nonempty_list_of string_utf8)).yields (40 ∷ l) (lent_text x ∷ []) t) (sym (written_on (literal_text x) (words ")") t)) (list_on_one string_utf8 _ (lent_text x) t text))
 
-single_read : (x : Option Text) (m rest : Bytes) → (meaning nstring_utf8).yields m x rest → Fits (canonical_languages (single x)) → (t : Bytes)
-    → (meaning (gives single nstring_utf8 or language_list)).yields (written (canonical_languages (single x)) ++ t) (lent_languages (single x)) t
+single_read : (x : Option Text) (m rest : Bytes) → (meaning nstring_utf8).yields m x rest → Fits (canonical_languages (one_language x)) → (t : Bytes)
+    → (meaning (gives one_language nstring_utf8 or language_list)).yields (written (canonical_languages (one_language x)) ++ t) (lent_languages (one_language x)) t
 unfolding nstring_utf8
-single_read None m rest y f t = on-first (gives single nstring_utf8) language_list _ None t (gives-on single nstring_utf8 _ None t (nil_read t))
+single_read None m rest y f t = on-first (gives one_language nstring_utf8) language_list _ None t (gives-on one_language nstring_utf8 _ None t (nil_read t))
 single_read (Some x) m rest y f t =
-    on-second (gives single nstring_utf8) language_list _ (Some (lent_text x ∷ [])) t (denies-gives single nstring_utf8 _ (text_denied _)) (list_read x m rest (nil_or-some string_utf8 m rest x y) f t)
+    on-second (gives one_language nstring_utf8) language_list _ (Some (lent_text x ∷ [])) t (denies-gives one_language nstring_utf8 _ (text_denied _)) (list_read x m rest (nil_or-some string_utf8 m rest x y) f t)
 
 pub reads_language : ReadsBack body_fld_lang lent_languages canonical_languages Any
 unfolding body_fld_lang
 reads_language =
     reads-either
     (λ m v rest y f t g.
-    let x = gives-has single nstring_utf8 m v rest y in
-    subst (λ w. (meaning (gives single nstring_utf8 or language_list)).yields (written (canonical_languages w) ++ t) (lent_languages w) t) x.2
+    let x = gives-has one_language nstring_utf8 m v rest y in
+    subst (λ w. (meaning (gives one_language nstring_utf8 or language_list)).yields (written (canonical_languages w) ++ t) (lent_languages w) t) x.2
     (single_read x.0 m rest x.1 (subst (λ w. Fits (canonical_languages w)) (sym x.2) f) t))
     reads_language_list list_apart
 
 language_spells : Spells body_fld_lang spells_languages
 unfolding body_fld_lang language_list some_languages
-language_spells = spells-gives single (spells-wider spells-nstring_utf8 alone) orˢ spells-gives Some (spells-wider (spells-nonempty_list_of spells-string_utf8) (λ v c h. inl h))
+language_spells = spells-gives one_language (spells-wider spells-nstring_utf8 alone) orˢ spells-gives Some (spells-wider (spells-nonempty_list_of spells-string_utf8) (λ v c h. inl h))
   where
-    alone : (x : Option Text) (c : Bytes) → spells_ntext x c → spells_languages (single x) c
+    alone : (x : Option Text) (c : Bytes) → spells_ntext x c → spells_languages (one_language x) c
     alone None c h = h
     alone (Some t) c h = inr (t, refl, h)
 
@@ -117,7 +117,7 @@ number_denied m s = denies-gives Num number m (denies-number m s)
 number_apart : (level : ℕ) → Apart (gives Num number) (extension_list level) canonical_extension (BeginsWith not_digit)
 unfolding meaning extension_list bracketed_extensions
 number_apart zero = record { denied = λ m v rest d y f t g. absurd y }
-number_apart (suc level) = apart-gives _ listed (λ es t g. number_denied _ refl)
+number_apart (suc level) = apart-gives _ list_of_extensions (λ es t g. number_denied _ refl)
 
 listed_denied : (t : Bytes) → Denies (meaning (gives Str nstring_utf8)) (40 ∷ t)
 listed_denied t = denies-gives Str nstring_utf8 (40 ∷ t) (text_denied t)
@@ -125,7 +125,7 @@ listed_denied t = denies-gives Str nstring_utf8 (40 ∷ t) (text_denied t)
 text_apart : (level : ℕ) → Apart (gives Str nstring_utf8) (extension_list level) canonical_extension (BeginsWith not_digit)
 unfolding meaning extension_list bracketed_extensions
 text_apart zero = record { denied = λ m v rest d y f t g. absurd y }
-text_apart (suc level) = apart-gives _ listed (λ es t g. listed_denied _)
+text_apart (suc level) = apart-gives _ list_of_extensions (λ es t g. listed_denied _)
 
 over : (level : ℕ) → ReadsBack (extension_list level) lent_extension canonical_extension Any → ReadsBack (extension level) lent_extension canonical_extension (BeginsWith not_digit)
 unfolding extension_over
@@ -138,7 +138,7 @@ reads_extension_list : (level : ℕ) → ReadsBack (extension_list level) lent_e
 unfolding extension_list bracketed_extensions some_extensions
 reads_extension_list zero = reads-never
 reads_extension_list (suc level) =
-    reads-gives listed
+    reads-gives list_of_extensions
     (reads-same (reads-nonempty_list_of (over level (reads_extension_list level)) (λ t. refl) (λ t. refl))
     (λ es. ap (λ p. words "(" then p then words ")") (sym (same_members es))))
     (λ es. ap Listed (sym (lent_members es)))
@@ -162,7 +162,7 @@ extension_list_spells : (level : ℕ) → Spells (extension_list level) spells_e
 unfolding extension_list bracketed_extensions some_extensions
 extension_list_spells zero = spells-never
 extension_list_spells (suc level) =
-    spells-gives listed
+    spells-gives list_of_extensions
     (spells-wider (spells-nonempty_list_of (over_spells (extension_list level) (extension_list_spells level)))
     (λ es c (a, b, cut, open_, (x, y, cut', inner, close)). (a, b, cut, open_, (x, y, cut', members_spell es x inner, close))))
 
@@ -195,7 +195,7 @@ disposition_nil t = nil_or-none _ t
 
 language_nil : (t : Bytes) → (meaning body_fld_lang).yields (codes "NIL" ++ t) None t
 unfolding body_fld_lang
-language_nil t = on-first (gives single nstring_utf8) language_list _ None t (gives-on single nstring_utf8 _ None t (nil_read t))
+language_nil t = on-first (gives one_language nstring_utf8) language_list _ None t (gives-on one_language nstring_utf8 _ None t (nil_read t))
 
 reads_last : ReadsBack last_extension (option_map lent_extension) canonical_last Closes
 unfolding last_extension body_extension

@@ -21,7 +21,7 @@ use Rattle.imap_bytes.specs.Texts.{string_utf8}
 use Rattle.imap_envelopes.specs.Envelopes.{spaced, envelope}
 use Rattle.imap_structure.specs.Fields.{body_fields}
 use Rattle.imap_structure.specs.Extensions.{body_ext_1part, body_ext_mpart}
-use Rattle.imap_structure.specs.Bodies.{common_of, single_of, basic_of, message_word, body_type_text, body_type_basic, body_type_msg, body_type_mpart, some_bodies, body as body_at}
+use Rattle.imap_structure.specs.Bodies.{common_of_parts, single_of, basic_of, message_word, body_type_text, body_type_basic, body_type_msg, body_type_mpart, some_bodies, body as body_at}
 use Rattle.imap_shapes.specs.Spans.{Lookup, Rests}
 
 abbrev pub common_parts : {S : Type 0} → S → S → BodyFields S → BodyExt1Part S → BodyContentCommon S
@@ -36,10 +36,10 @@ multipart_parts ty subtype ext = record { ty = record { ty = ty; subtype = subty
 -- ---- values, whatever texts stand in the place of those that a rule fixes
 
 abbrev text_made : Text → Text × (FieldsValue × (ℕ × Ext1PartValue)) → BodyValue
-text_made ty v = TextBody (common_of ty v.0 v.1.0 v.1.1.1) (single_of v.1.0 v.1.1.1) v.1.1.0 v.1.1.1.extension
+text_made ty v = TextBody (common_of_parts ty v.0 v.1.0 v.1.1.1) (single_of v.1.0 v.1.1.1) v.1.1.0 v.1.1.1.extension
 
 abbrev message_made : Text → Text → FieldsValue × (EnvelopeValue × (BodyValue × (ℕ × Ext1PartValue))) → BodyValue
-message_made ty subtype v = Message (common_of ty subtype v.0 v.1.1.1.1) (single_of v.0 v.1.1.1.1) v.1.0 v.1.1.0 v.1.1.1.0 v.1.1.1.1.extension
+message_made ty subtype v = Message (common_of_parts ty subtype v.0 v.1.1.1.1) (single_of v.0 v.1.1.1.1) v.1.0 v.1.1.0 v.1.1.1.0 v.1.1.1.1.extension
 
 abbrev multipart_made : Text → List BodyValue × (Text × ExtMPartValue) → BodyValue
 multipart_made ty v = Multipart (record { ty = record { ty = ty; subtype = v.1.0; params = v.1.1.param }; disposition = v.1.1.disposition; language = v.1.1.language; location = v.1.1.location }) (bodies_of v.0) v.1.1.extension

@@ -17,8 +17,8 @@ use Rattle.imap_structure.specs.Extensions.{body_ext_1part, body_ext_mpart}
 -- ---- values
 
 -- of a single part: its type, and what its fields and extension data say of its content
-abbrev pub common_of : Text → Text → FieldsValue → Ext1PartValue → CommonValue
-common_of ty subtype fields ext =
+abbrev pub common_of_parts : Text → Text → FieldsValue → Ext1PartValue → CommonValue
+common_of_parts ty subtype fields ext =
     record {
       ty = record { ty = ty; subtype = subtype; params = fields.param };
       disposition = ext.disposition;
@@ -38,18 +38,18 @@ single_of fields ext =
 
 abbrev pub text_of_parts : Text × (FieldsValue × (ℕ × Ext1PartValue)) → BodyValue
 text_of_parts (subtype, (fields, (lines, ext))) =
-    TextBody (common_of (as_text (codes "TEXT")) subtype fields ext) (single_of fields ext) lines
-    ext.extension
+    TextBody (common_of_parts (as_text (codes "TEXT")) subtype fields ext) (single_of fields ext)
+    lines ext.extension
 
 abbrev pub message_of :
     FieldsValue × (EnvelopeValue × (BodyValue × (ℕ × Ext1PartValue))) → BodyValue
 message_of (fields, (envelope, (body, (lines, ext)))) =
-    Message (common_of (as_text (codes "MESSAGE")) (as_text (codes "RFC822")) fields ext)
+    Message (common_of_parts (as_text (codes "MESSAGE")) (as_text (codes "RFC822")) fields ext)
     (single_of fields ext) envelope body lines ext.extension
 
 abbrev pub basic_of : Text × (Text × (FieldsValue × Ext1PartValue)) → BodyValue
 basic_of (ty, (subtype, (fields, ext))) =
-    Basic (common_of ty subtype fields ext) (single_of fields ext) ext.extension
+    Basic (common_of_parts ty subtype fields ext) (single_of fields ext) ext.extension
 
 abbrev pub multipart_of : List BodyValue × (Text × ExtMPartValue) → BodyValue
 multipart_of (bodies, (subtype, ext)) =

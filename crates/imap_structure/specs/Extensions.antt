@@ -29,8 +29,8 @@ unfoldable pub some_languages : Rule (List Text)
 some_languages = list1 sp string_utf8
 
 -- a single language is a list of one
-abbrev pub single : Option Text → Option (List Text)
-single t = option_map (λ x. x ∷ []) t
+abbrev pub one_language : Option Text → Option (List Text)
+one_language t = option_map (λ x. x ∷ []) t
 
 -- "(" string *(SP string) ")", where blanks may stand before the `)`
 unfoldable pub language_list : Rule (Option (List Text))
@@ -38,7 +38,7 @@ language_list = gives Some (tag "(" ▹ some_languages ◃ blanks0 ⨾ tag ")")
 
 -- body-fld-lang = nstring / "(" string *(SP string) ")", with blanks as above
 unfoldable pub body_fld_lang : Rule (Option (List Text))
-body_fld_lang = gives single nstring_utf8 or language_list
+body_fld_lang = gives one_language nstring_utf8 or language_list
 
 -- ---- extensions, down to a level
 
@@ -58,12 +58,13 @@ string_extension = gives Str nstring_utf8
 unfoldable pub some_extensions : Rule ExtensionValue → Rule (List ExtensionValue)
 some_extensions lists = list1 sp (extension_over lists)
 
-abbrev pub listed : List ExtensionValue → ExtensionValue
-listed es = Listed (extensions_of es)
+abbrev pub list_of_extensions : List ExtensionValue → ExtensionValue
+list_of_extensions es = Listed (extensions_of es)
 
 -- "(" body-extension *(SP body-extension) ")", where lists inside are those, and blanks may stand before the `)`
 unfoldable pub bracketed_extensions : Rule ExtensionValue → Rule ExtensionValue
-bracketed_extensions lists = gives listed (tag "(" ▹ some_extensions lists ◃ blanks0 ⨾ tag ")")
+bracketed_extensions lists =
+    gives list_of_extensions (tag "(" ▹ some_extensions lists ◃ blanks0 ⨾ tag ")")
 
 -- a list, with lists inside up to the level below; at level 0 it denies without looking
 unfoldable pub extension_list : ℕ → Rule ExtensionValue

@@ -4,7 +4,8 @@ use Rattle.imap_grammar.specs.declared.answer.Err.{Err as Fault}
 use Rattle.imap_grammar.specs.Text.{Bytes}
 use Rattle.imap_grammar.specs.Answer.{Stops}
 use Rattle.imap_grammar.specs.Positions.{named_in}
-use Rattle.imap_grammar.specs.Step.{Step}
+use Rattle.imap_grammar.specs.Rule.{Rule}
+use Rattle.imap_grammar.specs.Step.{Step, step}
 use Rattle.imap_shapes.specs.Spans.{Lookup, Rests}
 
 -- The new list is the old one and one element more, whose value in m is what the step yields. Its spans lie before q.
@@ -17,10 +18,16 @@ pub record OneMore {A V : Type 0}
   pub rests : Rests view q one
 
 -- What the step yields was put behind the old ones, unless memory ran out.
-abbrev pub PutsAt :
+abbrev pub Puts :
     {A V : Type 0} → (Lookup → A → V) → Bytes → List A → List A → Result ℕ Fault → Step V → Type 0
-PutsAt view m old new (Ok q) s = OneMore view m old new q s
-PutsAt view m old new (Err e) s = Stops e s
+Puts view m old new (Ok q) s = OneMore view m old new q s
+Puts view m old new (Err e) s = Stops e s
+
+-- So was what the rule yields on m from p.
+abbrev pub PutsAt :
+    {A V : Type 0} → Rule V → (Lookup → A → V) → Bytes → ℕ → List A → List A → Result ℕ Fault →
+    Type 0
+PutsAt r view m p old new result = Puts view m old new result (step r (drop p m))
 
 -- Where nothing was put there, the old ones are as they were.
 abbrev pub Leaves : {A : Type 0} → List A → List A → Result ℕ Fault → Type 0

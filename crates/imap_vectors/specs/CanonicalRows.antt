@@ -6,14 +6,14 @@ use Rattle.imap_grammar.specs.Ranges.{fresh}
 use Rattle.imap_items.specs.Capabilities.{Atom as AtomCapability}
 use Rattle.imap_items.specs.declared.types.statuses.Status.TheVariants.{Ok}
 use Rattle.imap_data.specs.Names.{Extension}
-use Rattle.imap_data.specs.MailboxValues.{Listed}
+use Rattle.imap_data.specs.DatumValues.{Listed}
 use Rattle.imap_extensions.specs.Quotas.{Atom, Storage}
 use Rattle.imap_extensions.specs.Ids.{map_of_pairs}
 use Rattle.imap_shapes.specs.declared.shapes.fields.ContentEncoding.TheVariants.{SevenBit, Other}
 use Rattle.imap_shapes.specs.FieldValues.{EncodingValue}
 use Rattle.imap_shapes.specs.ExtensionValues.{DispositionValue}
 use Rattle.imap_shapes.specs.EnvelopeValues.{AddressValue, EnvelopeValue}
-use Rattle.imap_shapes.specs.BodyValues.{CommonValue, SingleValue, Basic, TextBody}
+use Rattle.imap_shapes.specs.BodyValues.{BodyValue, CommonValue, SingleValue, Basic, TextBody}
 use Rattle.imap_attributes.specs.AttributeValues.{Envelope, BodyStructure, GmailLabels, Uid, Unknown}
 use Rattle.imap_proto.specs.Responses.{ResponseValue, Data, MailboxData, Quota, Capabilities, Fetch, Vanished, Id}
 
@@ -35,13 +35,26 @@ a_field = Id (Some (map_of_pairs ((lent "a", Some (lent "1")) ∷ (lent "a", Som
 -- ---- mailboxes and quotas
 
 abbrev pub a_name : ResponseValue
-a_name = MailboxData (Listed (record { name_attributes = Extension (lent "\\HasNoChildren") ∷ []; delimiter = Some (lent "/"); name = lent "INBOX" }))
+a_name =
+    MailboxData (Listed (record {
+      name_attributes = Extension (lent "\\HasNoChildren") ∷ [];
+      delimiter = Some (lent "/");
+      name = lent "INBOX";
+    }))
 
 abbrev pub a_quota_of_any_name : ResponseValue
-a_quota_of_any_name = Quota (record { root_name = lent ""; resources = record { name = Atom (lent "STORAGE"); usage = 1; limit = 2 } ∷ [] })
+a_quota_of_any_name =
+    Quota (record {
+      root_name = lent "";
+      resources = record { name = Atom (lent "STORAGE"); usage = 1; limit = 2 } ∷ [];
+    })
 
 abbrev pub a_quota : ResponseValue
-a_quota = Quota (record { root_name = lent ""; resources = record { name = Storage; usage = 1; limit = 2 } ∷ [] })
+a_quota =
+    Quota (record {
+      root_name = lent "";
+      resources = record { name = Storage; usage = 1; limit = 2 } ∷ [];
+    })
 
 abbrev pub enabled : ResponseValue
 enabled = Capabilities (AtomCapability (lent "IMAP4rev1x") ∷ [])
@@ -106,12 +119,18 @@ five_octets encoding =
       octets = 5;
     }
 
+abbrev inline : DispositionValue
+inline = record { ty = lent "inline"; params = None }
+
+abbrev a_text_body : BodyValue
+a_text_body = TextBody (text_of_type "plain" (Some inline)) (five_octets SevenBit) 1 None
+
 abbrev pub a_text : ResponseValue
-a_text = Fetch 1 (BodyStructure (TextBody (text_of_type "plain" (Some (record { ty = lent "inline"; params = None }))) (five_octets SevenBit) 1 None) ∷ [])
+a_text = Fetch 1 (BodyStructure a_text_body ∷ [])
 
 -- a basic body, though its type says otherwise
+abbrev a_basic_body : BodyValue
+a_basic_body = Basic (text_of_type "PLAIN" None) (five_octets (Other (lent "7BIT"))) None
+
 abbrev pub a_basic : ResponseValue
-a_basic =
-    Fetch 1
-    (BodyStructure (Basic (text_of_type "PLAIN" None) (five_octets (Other (lent "7BIT"))) None) ∷
-    [])
+a_basic = Fetch 1 (BodyStructure a_basic_body ∷ [])

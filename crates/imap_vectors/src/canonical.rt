@@ -1,7 +1,7 @@
 //! The canonical text of responses is read as the lines are that they came from, whatever follows.
 
 ghost use Rattle.std.specs.Prelude.{◌≡◌, codes, true};
-ghost use Rattle.imap_proto.specs.LineTexts.{bracket, canonical_bytes};
+ghost use Rattle.imap_proto.specs.LineTexts.{has_bracket, canonical_bytes};
 ghost use Rattle.imap_vectors.specs.CanonicalRows as value;
 
 use crate::answers::parses;
@@ -103,7 +103,7 @@ pub fn texts_by_definition()
     ensures a_text { canonical_bytes value.a_text
         ≡ codes "* 1 FETCH (BODYSTRUCTURE (\"TEXT\" {5}\r\nplain NIL NIL NIL \"7BIT\" 5 1 NIL ({6}\r\ninline NIL) NIL NIL))\r\n" }
     ensures gone { canonical_bytes value.gone ≡ codes "* VANISHED 4:2\r\n" }
-    ensures a_bracket { bracket value.a_bracket ≡ true }
+    ensures a_bracket { has_bracket value.a_bracket ≡ true }
     ensures unknown { canonical_bytes value.unknown ≡ codes "* 1 FETCH (X NIL UID 4)\r\n" }
 {}
 

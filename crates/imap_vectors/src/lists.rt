@@ -2,9 +2,8 @@
 //! a caller gets from the clause of the reader that it passes.
 
 ghost use Rattle.std.specs.Prelude.{Some};
-ghost use Rattle.imap_grammar.specs.Answer.{Exactly, Gives};
+ghost use Rattle.imap_grammar.specs.Answer.{Steps, StepsExactly};
 ghost use Rattle.imap_grammar.specs.Rule.{gives};
-ghost use Rattle.imap_grammar.specs.Step.{step};
 ghost use Rattle.imap_grammar.specs.Lists.{delimited, list_of, nonempty_list_of};
 ghost use Rattle.imap_bytes.specs.Numbers as rules;
 
@@ -17,22 +16,22 @@ use std::alloc::Global;
 use std::test::*;
 
 fn numbers(alloc: Global, i: &[u8]) -> IResult<&[u8], Vec<u32>>
-    ensures { Gives (λ x. x.items) result (step (list_of rules.number) i.now) }
+    ensures { Steps (list_of rules.number) (λ x. x.items) i.now result }
 {
     parenthesized_list(alloc, number, i)
 }
 
 fn numbers_by_closure(alloc: Global, i: &[u8]) -> IResult<&[u8], Vec<u32>>
-    ensures { Gives (λ x. x.items) result (step (list_of rules.number) i.now) }
+    ensures { Steps (list_of rules.number) (λ x. x.items) i.now result }
 {
     let item = |i|
-        ensures { Exactly (λ x. x) result (step rules.number i.entry.now) }
+        ensures { StepsExactly rules.number (λ x. x) i.entry.now result }
     { number(i) };
     parenthesized_list(alloc, item, i)
 }
 
 fn some_numbers(alloc: Global, i: &[u8]) -> IResult<&[u8], Vec<u32>>
-    ensures { Gives (λ x. x.items) result (step (nonempty_list_of rules.number) i.now) }
+    ensures { Steps (nonempty_list_of rules.number) (λ x. x.items) i.now result }
 {
     parenthesized_nonempty_list(alloc, number, i)
 }
@@ -42,22 +41,22 @@ fn literals(alloc: Global, i: &[u8]) -> IResult<&[u8], Vec<&[u8]>> {
 }
 
 fn delimited_number(i: &[u8]) -> IResult<&[u8], u32>
-    ensures { Exactly (λ x. x) result (step (delimited rules.number) i.now) }
+    ensures { StepsExactly (delimited rules.number) (λ x. x) i.now result }
 {
     paren_delimited(number, i)
 }
 
 fn delimited_by_closure(i: &[u8]) -> IResult<&[u8], u32>
-    ensures { Exactly (λ x. x) result (step (delimited rules.number) i.now) }
+    ensures { StepsExactly (delimited rules.number) (λ x. x) i.now result }
 {
     let item = |i|
-        ensures { Exactly (λ x. x) result (step rules.number i.entry.now) }
+        ensures { StepsExactly rules.number (λ x. x) i.entry.now result }
     { number(i) };
     paren_delimited(item, i)
 }
 
 fn some_number(i: &[u8]) -> IResult<&[u8], Option<u32>>
-    ensures { Exactly (λ x. x) result (step (gives Some rules.number) i.now) }
+    ensures { StepsExactly (gives Some rules.number) (λ x. x) i.now result }
 {
     let (i, n) = number(i)?;
     Ok((i, Some(n)))

@@ -1,9 +1,8 @@
 //! Attributes of a message at a position: what is kept of their strings.
 
-ghost use Rattle.std.specs.Prelude.{◌≤◌, length, drop};
-ghost use Rattle.imap_grammar.specs.Positions.{ExactlyAt, GivesAt, Ahead, Inside, named_in};
+ghost use Rattle.std.specs.Prelude.{◌≤◌, length};
+ghost use Rattle.imap_grammar.specs.Positions.{Ahead, Inside, named_in, StepsAt, StepsExactlyAt};
 ghost use Rattle.imap_grammar.specs.Rule.{opt, run0, run1};
-ghost use Rattle.imap_grammar.specs.Step.{step};
 ghost use Rattle.imap_shapes.specs.Spans.{RestsOn, text_in};
 ghost use Rattle.imap_attributes.specs.AttributeValues.{parts_said};
 ghost use Rattle.imap_body.specs.Attributes as rules;
@@ -35,7 +34,7 @@ type Attribute<K> = Reached<AttributeKept<<K as Keep>::Text, <K as Keep>::Bytes>
 #[tactic(auto, unfolding(crate::specs::Attributes::origin))]
 fn origin(m: &[u8], p: usize) -> Reached<u32>
     requires { p ≤ length m.now }
-    ensures steps { ExactlyAt (λ x. x) m.now result (step rules.origin (drop p m.now)) }
+    ensures steps { StepsExactlyAt rules.origin (λ x. x) m.now p result }
     ensures ahead { Ahead m.now p result }
 {
     let (p, _) = tag(b"<", m, p)?;
@@ -46,7 +45,7 @@ fn origin(m: &[u8], p: usize) -> Reached<u32>
 
 fn maybe_origin(m: &[u8], p: usize) -> Reached<Option<u32>>
     requires { p ≤ length m.now }
-    ensures steps { ExactlyAt (λ x. x) m.now result (step (opt rules.origin) (drop p m.now)) }
+    ensures steps { StepsExactlyAt (opt rules.origin) (λ x. x) m.now p result }
     ensures ahead { Ahead m.now p result }
 {
     maybe!(origin(m, p), p)
@@ -56,10 +55,10 @@ fn maybe_origin(m: &[u8], p: usize) -> Reached<Option<u32>>
 fn section_contents<K: KeepAttribute>(keep: &K, alloc: Global, m: &[u8], p: usize) -> Attribute<K>
     requires start { p ≤ length m.now }
     requires serves { K.serves keep.now m.now }
-    ensures steps { GivesAt (λ x. parts_said K.text_said K.bytes_said (named_in m.now) x) m.now
-        result (step rules.section_contents (drop p m.now)) }
+    ensures steps { StepsAt rules.section_contents
+        (parts_said K.text_said K.bytes_said (named_in m.now)) m.now p result }
     ensures ahead { Ahead m.now p result }
-    ensures rests { RestsOn (λ n x. parts_said K.text_said K.bytes_said n x) result }
+    ensures rests { RestsOn (parts_said K.text_said K.bytes_said) result }
 {
     let (p, section) = section(alloc, m, p)?;
     let (p, index) = maybe_origin(m, p)?;
@@ -86,10 +85,10 @@ pub(crate) fn msg_att_body_section<K: KeepAttribute>(
 ) -> Attribute<K>
     requires start { p ≤ length m.now }
     requires serves { K.serves keep.now m.now }
-    ensures steps { GivesAt (λ x. parts_said K.text_said K.bytes_said (named_in m.now) x) m.now
-        result (step rules.msg_att_body_section (drop p m.now)) }
+    ensures steps { StepsAt rules.msg_att_body_section
+        (parts_said K.text_said K.bytes_said (named_in m.now)) m.now p result }
     ensures ahead { Ahead m.now p result }
-    ensures rests { RestsOn (λ n x. parts_said K.text_said K.bytes_said n x) result }
+    ensures rests { RestsOn (parts_said K.text_said K.bytes_said) result }
 {
     let (p, _) = word(b"BODY", m, p)?;
     section_contents(keep, alloc, m, p)
@@ -99,10 +98,10 @@ pub(crate) fn msg_att_body_section<K: KeepAttribute>(
 fn structure<K: KeepAttribute>(keep: &K, alloc: Global, m: &[u8], p: usize) -> Attribute<K>
     requires start { p ≤ length m.now }
     requires serves { K.serves keep.now m.now }
-    ensures steps { GivesAt (λ x. parts_said K.text_said K.bytes_said (named_in m.now) x) m.now
-        result (step rules.structure (drop p m.now)) }
+    ensures steps { StepsAt rules.structure (parts_said K.text_said K.bytes_said (named_in m.now))
+        m.now p result }
     ensures ahead { Ahead m.now p result }
-    ensures rests { RestsOn (λ n x. parts_said K.text_said K.bytes_said n x) result }
+    ensures rests { RestsOn (parts_said K.text_said K.bytes_said) result }
 {
     let (p, _) = word(b"STRUCTURE ", m, p)?;
     let (p, body) = body_structure(keep, alloc, m, p)?;
@@ -114,10 +113,10 @@ fn structure<K: KeepAttribute>(keep: &K, alloc: Global, m: &[u8], p: usize) -> A
 fn body_attribute<K: KeepAttribute>(keep: &K, alloc: Global, m: &[u8], p: usize) -> Attribute<K>
     requires start { p ≤ length m.now }
     requires serves { K.serves keep.now m.now }
-    ensures steps { GivesAt (λ x. parts_said K.text_said K.bytes_said (named_in m.now) x) m.now
-        result (step rules.body_attribute (drop p m.now)) }
+    ensures steps { StepsAt rules.body_attribute
+        (parts_said K.text_said K.bytes_said (named_in m.now)) m.now p result }
     ensures ahead { Ahead m.now p result }
-    ensures rests { RestsOn (λ n x. parts_said K.text_said K.bytes_said n x) result }
+    ensures rests { RestsOn (parts_said K.text_said K.bytes_said) result }
 {
     let (p, _) = word(b"BODY", m, p)?;
     first!(section_contents(keep, alloc, m, p));
@@ -128,10 +127,10 @@ fn body_attribute<K: KeepAttribute>(keep: &K, alloc: Global, m: &[u8], p: usize)
 fn whole_message<K: KeepAttribute>(keep: &K, m: &[u8], p: usize) -> Attribute<K>
     requires start { p ≤ length m.now }
     requires serves { K.serves keep.now m.now }
-    ensures steps { ExactlyAt (λ x. parts_said K.text_said K.bytes_said (named_in m.now) x) m.now
-        result (step rules.whole_message (drop p m.now)) }
+    ensures steps { StepsExactlyAt rules.whole_message
+        (parts_said K.text_said K.bytes_said (named_in m.now)) m.now p result }
     ensures ahead { Ahead m.now p result }
-    ensures rests { RestsOn (λ n x. parts_said K.text_said K.bytes_said n x) result }
+    ensures rests { RestsOn (parts_said K.text_said K.bytes_said) result }
 {
     let (p, _) = word(b" ", m, p)?;
     let (p, message) = byte_string(m, p)?;
@@ -142,10 +141,10 @@ fn whole_message<K: KeepAttribute>(keep: &K, m: &[u8], p: usize) -> Attribute<K>
 fn message_header<K: KeepAttribute>(keep: &K, m: &[u8], p: usize) -> Attribute<K>
     requires start { p ≤ length m.now }
     requires serves { K.serves keep.now m.now }
-    ensures steps { ExactlyAt (λ x. parts_said K.text_said K.bytes_said (named_in m.now) x) m.now
-        result (step rules.message_header (drop p m.now)) }
+    ensures steps { StepsExactlyAt rules.message_header
+        (parts_said K.text_said K.bytes_said (named_in m.now)) m.now p result }
     ensures ahead { Ahead m.now p result }
-    ensures rests { RestsOn (λ n x. parts_said K.text_said K.bytes_said n x) result }
+    ensures rests { RestsOn (parts_said K.text_said K.bytes_said) result }
 {
     let (p, _) = word(b"HEADER ", m, p)?;
     let (p, _) = maybe_space(m, p)?;
@@ -156,10 +155,10 @@ fn message_header<K: KeepAttribute>(keep: &K, m: &[u8], p: usize) -> Attribute<K
 #[tactic(auto, unfolding(crate::specs::Attributes::message_size))]
 fn message_size<K: KeepAttribute>(m: &[u8], p: usize) -> Attribute<K>
     requires { p ≤ length m.now }
-    ensures steps { ExactlyAt (λ x. parts_said K.text_said K.bytes_said (named_in m.now) x) m.now
-        result (step rules.message_size (drop p m.now)) }
+    ensures steps { StepsExactlyAt rules.message_size
+        (parts_said K.text_said K.bytes_said (named_in m.now)) m.now p result }
     ensures ahead { Ahead m.now p result }
-    ensures rests { RestsOn (λ n x. parts_said K.text_said K.bytes_said n x) result }
+    ensures rests { RestsOn (parts_said K.text_said K.bytes_said) result }
 {
     let (p, _) = word(b"SIZE ", m, p)?;
     let (p, size) = number(m, p)?;
@@ -170,10 +169,10 @@ fn message_size<K: KeepAttribute>(m: &[u8], p: usize) -> Attribute<K>
 fn message_text<K: KeepAttribute>(keep: &K, m: &[u8], p: usize) -> Attribute<K>
     requires start { p ≤ length m.now }
     requires serves { K.serves keep.now m.now }
-    ensures steps { ExactlyAt (λ x. parts_said K.text_said K.bytes_said (named_in m.now) x) m.now
-        result (step rules.message_text (drop p m.now)) }
+    ensures steps { StepsExactlyAt rules.message_text
+        (parts_said K.text_said K.bytes_said (named_in m.now)) m.now p result }
     ensures ahead { Ahead m.now p result }
-    ensures rests { RestsOn (λ n x. parts_said K.text_said K.bytes_said n x) result }
+    ensures rests { RestsOn (parts_said K.text_said K.bytes_said) result }
 {
     let (p, _) = word(b"TEXT ", m, p)?;
     let (p, text) = byte_string(m, p)?;
@@ -184,10 +183,10 @@ fn message_text<K: KeepAttribute>(keep: &K, m: &[u8], p: usize) -> Attribute<K>
 fn message_part<K: KeepAttribute>(keep: &K, m: &[u8], p: usize) -> Attribute<K>
     requires start { p ≤ length m.now }
     requires serves { K.serves keep.now m.now }
-    ensures steps { ExactlyAt (λ x. parts_said K.text_said K.bytes_said (named_in m.now) x) m.now
-        result (step rules.message_part (drop p m.now)) }
+    ensures steps { StepsExactlyAt rules.message_part
+        (parts_said K.text_said K.bytes_said (named_in m.now)) m.now p result }
     ensures ahead { Ahead m.now p result }
-    ensures rests { RestsOn (λ n x. parts_said K.text_said K.bytes_said n x) result }
+    ensures rests { RestsOn (parts_said K.text_said K.bytes_said) result }
 {
     let (p, _) = word(b".", m, p)?;
     first!(message_header(keep, m, p));
@@ -200,10 +199,10 @@ fn message_part<K: KeepAttribute>(keep: &K, m: &[u8], p: usize) -> Attribute<K>
 fn message_attribute<K: KeepAttribute>(keep: &K, m: &[u8], p: usize) -> Attribute<K>
     requires start { p ≤ length m.now }
     requires serves { K.serves keep.now m.now }
-    ensures steps { ExactlyAt (λ x. parts_said K.text_said K.bytes_said (named_in m.now) x) m.now
-        result (step rules.message_attribute (drop p m.now)) }
+    ensures steps { StepsExactlyAt rules.message_attribute
+        (parts_said K.text_said K.bytes_said (named_in m.now)) m.now p result }
     ensures ahead { Ahead m.now p result }
-    ensures rests { RestsOn (λ n x. parts_said K.text_said K.bytes_said n x) result }
+    ensures rests { RestsOn (parts_said K.text_said K.bytes_said) result }
 {
     let (p, _) = word(b"RFC822", m, p)?;
     first!(whole_message(keep, m, p));
@@ -215,10 +214,10 @@ fn message_attribute<K: KeepAttribute>(keep: &K, m: &[u8], p: usize) -> Attribut
 fn msg_att_envelope<K: KeepAttribute>(keep: &K, alloc: Global, m: &[u8], p: usize) -> Attribute<K>
     requires start { p ≤ length m.now }
     requires serves { K.serves keep.now m.now }
-    ensures steps { GivesAt (λ x. parts_said K.text_said K.bytes_said (named_in m.now) x) m.now
-        result (step rules.msg_att_envelope (drop p m.now)) }
+    ensures steps { StepsAt rules.msg_att_envelope
+        (parts_said K.text_said K.bytes_said (named_in m.now)) m.now p result }
     ensures ahead { Ahead m.now p result }
-    ensures rests { RestsOn (λ n x. parts_said K.text_said K.bytes_said n x) result }
+    ensures rests { RestsOn (parts_said K.text_said K.bytes_said) result }
 {
     let (p, _) = word(b"ENVELOPE ", m, p)?;
     let (p, envelope) = made!(envelope(keep, alloc, m, p));
@@ -228,8 +227,7 @@ fn msg_att_envelope<K: KeepAttribute>(keep: &K, alloc: Global, m: &[u8], p: usiz
 #[tactic(auto, unfolding(crate::specs::Attributes::date))]
 fn date(m: &[u8], p: usize) -> Reached<SpannedText>
     requires { p ≤ length m.now }
-    ensures steps { ExactlyAt (λ x. text_in (named_in m.now) x) m.now result
-        (step rules.date (drop p m.now)) }
+    ensures steps { StepsExactlyAt rules.date (text_in (named_in m.now)) m.now p result }
     ensures ahead { Ahead m.now p result }
     ensures rests { RestsOn text_in result }
 {
@@ -240,10 +238,10 @@ fn date(m: &[u8], p: usize) -> Reached<SpannedText>
 fn msg_att_internal_date<K: KeepAttribute>(keep: &K, m: &[u8], p: usize) -> Attribute<K>
     requires start { p ≤ length m.now }
     requires serves { K.serves keep.now m.now }
-    ensures steps { GivesAt (λ x. parts_said K.text_said K.bytes_said (named_in m.now) x) m.now
-        result (step rules.msg_att_internal_date (drop p m.now)) }
+    ensures steps { StepsAt rules.msg_att_internal_date
+        (parts_said K.text_said K.bytes_said (named_in m.now)) m.now p result }
     ensures ahead { Ahead m.now p result }
-    ensures rests { RestsOn (λ n x. parts_said K.text_said K.bytes_said n x) result }
+    ensures rests { RestsOn (parts_said K.text_said K.bytes_said) result }
 {
     let (p, _) = word(b"INTERNALDATE ", m, p)?;
     let (p, date) = date(m, p)?;
@@ -255,10 +253,10 @@ fn msg_att_internal_date<K: KeepAttribute>(keep: &K, m: &[u8], p: usize) -> Attr
 fn msg_att_flags<K: KeepAttribute>(keep: &K, alloc: Global, m: &[u8], p: usize) -> Attribute<K>
     requires start { p ≤ length m.now }
     requires serves { K.serves keep.now m.now }
-    ensures steps { GivesAt (λ x. parts_said K.text_said K.bytes_said (named_in m.now) x) m.now
-        result (step rules.msg_att_flags (drop p m.now)) }
+    ensures steps { StepsAt rules.msg_att_flags
+        (parts_said K.text_said K.bytes_said (named_in m.now)) m.now p result }
     ensures ahead { Ahead m.now p result }
-    ensures rests { RestsOn (λ n x. parts_said K.text_said K.bytes_said n x) result }
+    ensures rests { RestsOn (parts_said K.text_said K.bytes_said) result }
 {
     let (p, _) = word(b"FLAGS ", m, p)?;
     let (p, flags) = keep.flags(alloc, m, p)?;
@@ -268,10 +266,10 @@ fn msg_att_flags<K: KeepAttribute>(keep: &K, alloc: Global, m: &[u8], p: usize) 
 #[tactic(auto, unfolding(crate::specs::Attributes::msg_att_uid))]
 fn msg_att_uid<K: KeepAttribute>(m: &[u8], p: usize) -> Attribute<K>
     requires { p ≤ length m.now }
-    ensures steps { ExactlyAt (λ x. parts_said K.text_said K.bytes_said (named_in m.now) x) m.now
-        result (step rules.msg_att_uid (drop p m.now)) }
+    ensures steps { StepsExactlyAt rules.msg_att_uid
+        (parts_said K.text_said K.bytes_said (named_in m.now)) m.now p result }
     ensures ahead { Ahead m.now p result }
-    ensures rests { RestsOn (λ n x. parts_said K.text_said K.bytes_said n x) result }
+    ensures rests { RestsOn (parts_said K.text_said K.bytes_said) result }
 {
     let (p, _) = word(b"UID ", m, p)?;
     let (p, uid) = number(m, p)?;
@@ -281,10 +279,10 @@ fn msg_att_uid<K: KeepAttribute>(m: &[u8], p: usize) -> Attribute<K>
 #[tactic(auto, unfolding(crate::specs::Attributes::msg_att_mod_seq))]
 fn msg_att_mod_seq<K: KeepAttribute>(m: &[u8], p: usize) -> Attribute<K>
     requires { p ≤ length m.now }
-    ensures steps { ExactlyAt (λ x. parts_said K.text_said K.bytes_said (named_in m.now) x) m.now
-        result (step rules.msg_att_mod_seq (drop p m.now)) }
+    ensures steps { StepsExactlyAt rules.msg_att_mod_seq
+        (parts_said K.text_said K.bytes_said (named_in m.now)) m.now p result }
     ensures ahead { Ahead m.now p result }
-    ensures rests { RestsOn (λ n x. parts_said K.text_said K.bytes_said n x) result }
+    ensures rests { RestsOn (parts_said K.text_said K.bytes_said) result }
 {
     let (p, _) = word(b"MODSEQ ", m, p)?;
     let (p, _) = tag(b"(", m, p)?;
@@ -302,10 +300,10 @@ fn msg_att_gmail_labels<K: KeepAttribute>(
 ) -> Attribute<K>
     requires start { p ≤ length m.now }
     requires serves { K.serves keep.now m.now }
-    ensures steps { GivesAt (λ x. parts_said K.text_said K.bytes_said (named_in m.now) x) m.now
-        result (step rules.msg_att_gmail_labels (drop p m.now)) }
+    ensures steps { StepsAt rules.msg_att_gmail_labels
+        (parts_said K.text_said K.bytes_said (named_in m.now)) m.now p result }
     ensures ahead { Ahead m.now p result }
-    ensures rests { RestsOn (λ n x. parts_said K.text_said K.bytes_said n x) result }
+    ensures rests { RestsOn (parts_said K.text_said K.bytes_said) result }
 {
     let (p, labels) = keep.labels(alloc, m, p)?;
     Ok((p, AttributeParts::GmailLabels(labels)))
@@ -314,10 +312,10 @@ fn msg_att_gmail_labels<K: KeepAttribute>(
 #[tactic(auto, unfolding(crate::specs::Attributes::msg_att_gmail_msgid))]
 fn msg_att_gmail_msgid<K: KeepAttribute>(m: &[u8], p: usize) -> Attribute<K>
     requires { p ≤ length m.now }
-    ensures steps { ExactlyAt (λ x. parts_said K.text_said K.bytes_said (named_in m.now) x) m.now
-        result (step rules.msg_att_gmail_msgid (drop p m.now)) }
+    ensures steps { StepsExactlyAt rules.msg_att_gmail_msgid
+        (parts_said K.text_said K.bytes_said (named_in m.now)) m.now p result }
     ensures ahead { Ahead m.now p result }
-    ensures rests { RestsOn (λ n x. parts_said K.text_said K.bytes_said n x) result }
+    ensures rests { RestsOn (parts_said K.text_said K.bytes_said) result }
 {
     let (p, number) = gmail_msgid(m, p)?;
     Ok((p, AttributeParts::GmailMsgId(number)))
@@ -326,10 +324,10 @@ fn msg_att_gmail_msgid<K: KeepAttribute>(m: &[u8], p: usize) -> Attribute<K>
 #[tactic(auto, unfolding(crate::specs::Attributes::msg_att_gmail_thrid))]
 fn msg_att_gmail_thrid<K: KeepAttribute>(m: &[u8], p: usize) -> Attribute<K>
     requires { p ≤ length m.now }
-    ensures steps { ExactlyAt (λ x. parts_said K.text_said K.bytes_said (named_in m.now) x) m.now
-        result (step rules.msg_att_gmail_thrid (drop p m.now)) }
+    ensures steps { StepsExactlyAt rules.msg_att_gmail_thrid
+        (parts_said K.text_said K.bytes_said (named_in m.now)) m.now p result }
     ensures ahead { Ahead m.now p result }
-    ensures rests { RestsOn (λ n x. parts_said K.text_said K.bytes_said n x) result }
+    ensures rests { RestsOn (parts_said K.text_said K.bytes_said) result }
 {
     let (p, number) = gmail_thrid(m, p)?;
     Ok((p, AttributeParts::GmailThrId(number)))
@@ -338,8 +336,7 @@ fn msg_att_gmail_thrid<K: KeepAttribute>(m: &[u8], p: usize) -> Attribute<K>
 #[tactic(auto, using(imap_grammar::proofs::Positions::kept_self), unfolding(crate::specs::Attributes::id_bytes))]
 fn id_bytes(m: &[u8], p: usize) -> Reached<Span>
     requires { p ≤ length m.now }
-    ensures steps { ExactlyAt (λ x. named_in m.now x) m.now result
-        (step rules.id_bytes (drop p m.now)) }
+    ensures steps { StepsExactlyAt rules.id_bytes (named_in m.now) m.now p result }
     ensures inside { Inside m.now p result }
 {
     let (q, id) = astring_chars(m, p)?;
@@ -350,8 +347,7 @@ fn id_bytes(m: &[u8], p: usize) -> Reached<Span>
 #[tactic(auto, using(crate::proofs::Resting::id_decoded, imap_shapes::proofs::Places::part_rests), unfolding(crate::specs::Attributes::object_id))]
 fn object_id(m: &[u8], p: usize) -> Reached<SpannedText>
     requires { p ≤ length m.now }
-    ensures steps { ExactlyAt (λ x. text_in (named_in m.now) x) m.now result
-        (step rules.object_id (drop p m.now)) }
+    ensures steps { StepsExactlyAt rules.object_id (text_in (named_in m.now)) m.now p result }
     ensures ahead { Ahead m.now p result }
     ensures rests { RestsOn text_in result }
 {
@@ -362,8 +358,7 @@ fn object_id(m: &[u8], p: usize) -> Reached<SpannedText>
 #[tactic(auto, unfolding(crate::specs::Attributes::bracketed_id))]
 fn bracketed_id(m: &[u8], p: usize) -> Reached<SpannedText>
     requires { p ≤ length m.now }
-    ensures steps { ExactlyAt (λ x. text_in (named_in m.now) x) m.now result
-        (step rules.bracketed_id (drop p m.now)) }
+    ensures steps { StepsExactlyAt rules.bracketed_id (text_in (named_in m.now)) m.now p result }
     ensures ahead { Ahead m.now p result }
     ensures rests { RestsOn text_in result }
 {
@@ -377,10 +372,10 @@ fn bracketed_id(m: &[u8], p: usize) -> Reached<SpannedText>
 fn msg_att_email_id<K: KeepAttribute>(keep: &K, m: &[u8], p: usize) -> Attribute<K>
     requires start { p ≤ length m.now }
     requires serves { K.serves keep.now m.now }
-    ensures steps { GivesAt (λ x. parts_said K.text_said K.bytes_said (named_in m.now) x) m.now
-        result (step rules.msg_att_email_id (drop p m.now)) }
+    ensures steps { StepsAt rules.msg_att_email_id
+        (parts_said K.text_said K.bytes_said (named_in m.now)) m.now p result }
     ensures ahead { Ahead m.now p result }
-    ensures rests { RestsOn (λ n x. parts_said K.text_said K.bytes_said n x) result }
+    ensures rests { RestsOn (parts_said K.text_said K.bytes_said) result }
 {
     let (p, _) = word(b"EMAILID ", m, p)?;
     let (p, id) = bracketed_id(m, p)?;
@@ -392,10 +387,10 @@ fn msg_att_email_id<K: KeepAttribute>(keep: &K, m: &[u8], p: usize) -> Attribute
 fn msg_att_thread_id<K: KeepAttribute>(keep: &K, m: &[u8], p: usize) -> Attribute<K>
     requires start { p ≤ length m.now }
     requires serves { K.serves keep.now m.now }
-    ensures steps { GivesAt (λ x. parts_said K.text_said K.bytes_said (named_in m.now) x) m.now
-        result (step rules.msg_att_thread_id (drop p m.now)) }
+    ensures steps { StepsAt rules.msg_att_thread_id
+        (parts_said K.text_said K.bytes_said (named_in m.now)) m.now p result }
     ensures ahead { Ahead m.now p result }
-    ensures rests { RestsOn (λ n x. parts_said K.text_said K.bytes_said n x) result }
+    ensures rests { RestsOn (parts_said K.text_said K.bytes_said) result }
 {
     let (p, _) = word(b"THREADID ", m, p)?;
     first!(nil(m, p), _ => AttributeParts::ThreadId(None));
@@ -417,8 +412,7 @@ impl Class for InsideChar {
 
 fn inside(m: &[u8], p: usize) -> Reached<Span>
     requires { p ≤ length m.now }
-    ensures steps { ExactlyAt (λ x. named_in m.now x) m.now result
-        (step (run0 rules.is_inside) (drop p m.now)) }
+    ensures steps { StepsExactlyAt (run0 rules.is_inside) (named_in m.now) m.now p result }
     ensures inside { Inside m.now p result }
 {
     let (_, i) = m.split_at(p);
@@ -438,8 +432,7 @@ impl Class for BareChar {
 
 fn bare(m: &[u8], p: usize) -> Reached<Span>
     requires { p ≤ length m.now }
-    ensures steps { ExactlyAt (λ x. named_in m.now x) m.now result
-        (step (run1 rules.is_bare) (drop p m.now)) }
+    ensures steps { StepsExactlyAt (run1 rules.is_bare) (named_in m.now) m.now p result }
     ensures inside { Inside m.now p result }
 {
     let (_, i) = m.split_at(p);
@@ -449,7 +442,7 @@ fn bare(m: &[u8], p: usize) -> Reached<Span>
 #[tactic(auto, unfolding(crate::specs::Attributes::skipped_brackets))]
 fn skipped_brackets(m: &[u8], p: usize) -> Reached<()>
     requires { p ≤ length m.now }
-    ensures steps { ExactlyAt (λ x. tt) m.now result (step rules.skipped_brackets (drop p m.now)) }
+    ensures steps { StepsExactlyAt rules.skipped_brackets (λ x. tt) m.now p result }
     ensures ahead { Ahead m.now p result }
 {
     let (p, _) = tag(b"(", m, p)?;
@@ -461,7 +454,7 @@ fn skipped_brackets(m: &[u8], p: usize) -> Reached<()>
 #[tactic(auto, unfolding(crate::specs::Attributes::skipped_nstring))]
 fn skipped_nstring(m: &[u8], p: usize) -> Reached<()>
     requires { p ≤ length m.now }
-    ensures steps { ExactlyAt (λ x. tt) m.now result (step rules.skipped_nstring (drop p m.now)) }
+    ensures steps { StepsExactlyAt rules.skipped_nstring (λ x. tt) m.now p result }
     ensures ahead { Ahead m.now p result }
 {
     let (p, _) = nstring(m, p)?;
@@ -472,7 +465,7 @@ fn skipped_nstring(m: &[u8], p: usize) -> Reached<()>
 #[tactic(auto, unfolding(crate::specs::Attributes::skipped_value, crate::specs::Attributes::skipped_bare))]
 fn skipped_value(m: &[u8], p: usize) -> Reached<()>
     requires { p ≤ length m.now }
-    ensures steps { ExactlyAt (λ x. tt) m.now result (step rules.skipped_value (drop p m.now)) }
+    ensures steps { StepsExactlyAt rules.skipped_value (λ x. tt) m.now p result }
     ensures ahead { Ahead m.now p result }
 {
     first!(skipped_brackets(m, p));
@@ -487,10 +480,10 @@ fn skipped_value(m: &[u8], p: usize) -> Reached<()>
 #[inline(never)]
 fn msg_att_unknown<K: KeepAttribute>(m: &[u8], p: usize) -> Attribute<K>
     requires { p ≤ length m.now }
-    ensures steps { ExactlyAt (λ x. parts_said K.text_said K.bytes_said (named_in m.now) x) m.now
-        result (step rules.msg_att_unknown (drop p m.now)) }
+    ensures steps { StepsExactlyAt rules.msg_att_unknown
+        (parts_said K.text_said K.bytes_said (named_in m.now)) m.now p result }
     ensures ahead { Ahead m.now p result }
-    ensures rests { RestsOn (λ n x. parts_said K.text_said K.bytes_said n x) result }
+    ensures rests { RestsOn (parts_said K.text_said K.bytes_said) result }
 {
     let (p, _) = atom(m, p)?;
     let (p, _) = tag(b" ", m, p)?;
@@ -506,10 +499,10 @@ fn msg_att_unknown<K: KeepAttribute>(m: &[u8], p: usize) -> Attribute<K>
 fn attribute_of_b<K: KeepAttribute>(keep: &K, alloc: Global, m: &[u8], p: usize) -> Attribute<K>
     requires start { p ≤ length m.now }
     requires serves { K.serves keep.now m.now }
-    ensures steps { GivesAt (λ x. parts_said K.text_said K.bytes_said (named_in m.now) x) m.now
-        result (step rules.attribute_of_b (drop p m.now)) }
+    ensures steps { StepsAt rules.attribute_of_b
+        (parts_said K.text_said K.bytes_said (named_in m.now)) m.now p result }
     ensures ahead { Ahead m.now p result }
-    ensures rests { RestsOn (λ n x. parts_said K.text_said K.bytes_said n x) result }
+    ensures rests { RestsOn (parts_said K.text_said K.bytes_said) result }
 {
     first!(body_attribute(keep, alloc, m, p));
     msg_att_unknown::<K>(m, p)
@@ -520,10 +513,10 @@ fn attribute_of_b<K: KeepAttribute>(keep: &K, alloc: Global, m: &[u8], p: usize)
 fn attribute_of_e<K: KeepAttribute>(keep: &K, alloc: Global, m: &[u8], p: usize) -> Attribute<K>
     requires start { p ≤ length m.now }
     requires serves { K.serves keep.now m.now }
-    ensures steps { GivesAt (λ x. parts_said K.text_said K.bytes_said (named_in m.now) x) m.now
-        result (step rules.attribute_of_e (drop p m.now)) }
+    ensures steps { StepsAt rules.attribute_of_e
+        (parts_said K.text_said K.bytes_said (named_in m.now)) m.now p result }
     ensures ahead { Ahead m.now p result }
-    ensures rests { RestsOn (λ n x. parts_said K.text_said K.bytes_said n x) result }
+    ensures rests { RestsOn (parts_said K.text_said K.bytes_said) result }
 {
     first!(msg_att_envelope(keep, alloc, m, p));
     first!(msg_att_email_id(keep, m, p));
@@ -535,10 +528,10 @@ fn attribute_of_e<K: KeepAttribute>(keep: &K, alloc: Global, m: &[u8], p: usize)
 fn attribute_of_f<K: KeepAttribute>(keep: &K, alloc: Global, m: &[u8], p: usize) -> Attribute<K>
     requires start { p ≤ length m.now }
     requires serves { K.serves keep.now m.now }
-    ensures steps { GivesAt (λ x. parts_said K.text_said K.bytes_said (named_in m.now) x) m.now
-        result (step rules.attribute_of_f (drop p m.now)) }
+    ensures steps { StepsAt rules.attribute_of_f
+        (parts_said K.text_said K.bytes_said (named_in m.now)) m.now p result }
     ensures ahead { Ahead m.now p result }
-    ensures rests { RestsOn (λ n x. parts_said K.text_said K.bytes_said n x) result }
+    ensures rests { RestsOn (parts_said K.text_said K.bytes_said) result }
 {
     first!(msg_att_flags(keep, alloc, m, p));
     msg_att_unknown::<K>(m, p)
@@ -549,10 +542,10 @@ fn attribute_of_f<K: KeepAttribute>(keep: &K, alloc: Global, m: &[u8], p: usize)
 fn attribute_of_i<K: KeepAttribute>(keep: &K, m: &[u8], p: usize) -> Attribute<K>
     requires start { p ≤ length m.now }
     requires serves { K.serves keep.now m.now }
-    ensures steps { GivesAt (λ x. parts_said K.text_said K.bytes_said (named_in m.now) x) m.now
-        result (step rules.attribute_of_i (drop p m.now)) }
+    ensures steps { StepsAt rules.attribute_of_i
+        (parts_said K.text_said K.bytes_said (named_in m.now)) m.now p result }
     ensures ahead { Ahead m.now p result }
-    ensures rests { RestsOn (λ n x. parts_said K.text_said K.bytes_said n x) result }
+    ensures rests { RestsOn (parts_said K.text_said K.bytes_said) result }
 {
     first!(msg_att_internal_date(keep, m, p));
     msg_att_unknown::<K>(m, p)
@@ -562,10 +555,10 @@ fn attribute_of_i<K: KeepAttribute>(keep: &K, m: &[u8], p: usize) -> Attribute<K
 #[inline(never)]
 fn attribute_of_m<K: KeepAttribute>(m: &[u8], p: usize) -> Attribute<K>
     requires { p ≤ length m.now }
-    ensures steps { GivesAt (λ x. parts_said K.text_said K.bytes_said (named_in m.now) x) m.now
-        result (step rules.attribute_of_m (drop p m.now)) }
+    ensures steps { StepsAt rules.attribute_of_m
+        (parts_said K.text_said K.bytes_said (named_in m.now)) m.now p result }
     ensures ahead { Ahead m.now p result }
-    ensures rests { RestsOn (λ n x. parts_said K.text_said K.bytes_said n x) result }
+    ensures rests { RestsOn (parts_said K.text_said K.bytes_said) result }
 {
     first!(msg_att_mod_seq::<K>(m, p));
     msg_att_unknown::<K>(m, p)
@@ -576,10 +569,10 @@ fn attribute_of_m<K: KeepAttribute>(m: &[u8], p: usize) -> Attribute<K>
 fn attribute_of_r<K: KeepAttribute>(keep: &K, m: &[u8], p: usize) -> Attribute<K>
     requires start { p ≤ length m.now }
     requires serves { K.serves keep.now m.now }
-    ensures steps { GivesAt (λ x. parts_said K.text_said K.bytes_said (named_in m.now) x) m.now
-        result (step rules.attribute_of_r (drop p m.now)) }
+    ensures steps { StepsAt rules.attribute_of_r
+        (parts_said K.text_said K.bytes_said (named_in m.now)) m.now p result }
     ensures ahead { Ahead m.now p result }
-    ensures rests { RestsOn (λ n x. parts_said K.text_said K.bytes_said n x) result }
+    ensures rests { RestsOn (parts_said K.text_said K.bytes_said) result }
 {
     first!(message_attribute(keep, m, p));
     msg_att_unknown::<K>(m, p)
@@ -590,10 +583,10 @@ fn attribute_of_r<K: KeepAttribute>(keep: &K, m: &[u8], p: usize) -> Attribute<K
 fn attribute_of_t<K: KeepAttribute>(keep: &K, m: &[u8], p: usize) -> Attribute<K>
     requires start { p ≤ length m.now }
     requires serves { K.serves keep.now m.now }
-    ensures steps { GivesAt (λ x. parts_said K.text_said K.bytes_said (named_in m.now) x) m.now
-        result (step rules.attribute_of_t (drop p m.now)) }
+    ensures steps { StepsAt rules.attribute_of_t
+        (parts_said K.text_said K.bytes_said (named_in m.now)) m.now p result }
     ensures ahead { Ahead m.now p result }
-    ensures rests { RestsOn (λ n x. parts_said K.text_said K.bytes_said n x) result }
+    ensures rests { RestsOn (parts_said K.text_said K.bytes_said) result }
 {
     first!(msg_att_thread_id(keep, m, p));
     msg_att_unknown::<K>(m, p)
@@ -603,10 +596,10 @@ fn attribute_of_t<K: KeepAttribute>(keep: &K, m: &[u8], p: usize) -> Attribute<K
 #[inline(never)]
 fn attribute_of_u<K: KeepAttribute>(m: &[u8], p: usize) -> Attribute<K>
     requires { p ≤ length m.now }
-    ensures steps { GivesAt (λ x. parts_said K.text_said K.bytes_said (named_in m.now) x) m.now
-        result (step rules.attribute_of_u (drop p m.now)) }
+    ensures steps { StepsAt rules.attribute_of_u
+        (parts_said K.text_said K.bytes_said (named_in m.now)) m.now p result }
     ensures ahead { Ahead m.now p result }
-    ensures rests { RestsOn (λ n x. parts_said K.text_said K.bytes_said n x) result }
+    ensures rests { RestsOn (parts_said K.text_said K.bytes_said) result }
 {
     first!(msg_att_uid::<K>(m, p));
     msg_att_unknown::<K>(m, p)
@@ -617,10 +610,10 @@ fn attribute_of_u<K: KeepAttribute>(m: &[u8], p: usize) -> Attribute<K>
 fn attribute_of_x<K: KeepAttribute>(keep: &K, alloc: Global, m: &[u8], p: usize) -> Attribute<K>
     requires start { p ≤ length m.now }
     requires serves { K.serves keep.now m.now }
-    ensures steps { GivesAt (λ x. parts_said K.text_said K.bytes_said (named_in m.now) x) m.now
-        result (step rules.attribute_of_x (drop p m.now)) }
+    ensures steps { StepsAt rules.attribute_of_x
+        (parts_said K.text_said K.bytes_said (named_in m.now)) m.now p result }
     ensures ahead { Ahead m.now p result }
-    ensures rests { RestsOn (λ n x. parts_said K.text_said K.bytes_said n x) result }
+    ensures rests { RestsOn (parts_said K.text_said K.bytes_said) result }
 {
     first!(msg_att_gmail_labels(keep, alloc, m, p));
     first!(msg_att_gmail_msgid::<K>(m, p));
@@ -642,10 +635,10 @@ pub(crate) fn attribute<K: KeepAttribute>(
 ) -> Attribute<K>
     requires start { p ≤ length m.now }
     requires serves { K.serves keep.now m.now }
-    ensures steps { GivesAt (λ x. parts_said K.text_said K.bytes_said (named_in m.now) x) m.now
-        result (step rules.attribute (drop p m.now)) }
+    ensures steps { StepsAt rules.attribute (parts_said K.text_said K.bytes_said (named_in m.now))
+        m.now p result }
     ensures ahead { Ahead m.now p result }
-    ensures rests { RestsOn (λ n x. parts_said K.text_said K.bytes_said n x) result }
+    ensures rests { RestsOn (parts_said K.text_said K.bytes_said) result }
 {
     let (_, i) = m.split_at(p);
     match i.first() {

@@ -1,9 +1,8 @@
 //! Attributes of a message.
 
 ghost use Rattle.std.specs.Prelude.{◌≡◌, ◌≤◌, length, drop, map, IfOk, IfErr};
-ghost use Rattle.imap_grammar.specs.Answer.{Answers, Gives};
+ghost use Rattle.imap_grammar.specs.Answer.{Answers, Steps};
 ghost use Rattle.imap_grammar.specs.Positions.{named_in};
-ghost use Rattle.imap_grammar.specs.Step.{step};
 ghost use Rattle.imap_grammar.specs.declared.answer.Err.TheVariants.{Failure};
 ghost use Rattle.imap_attributes.specs.AttributeValues.{attribute_value, parts_in};
 ghost use Rattle.imap_body.specs.Attributes as rules;
@@ -41,8 +40,8 @@ fn named<'a>(
 /// borrowed.
 #[tactic(auto, using(imap_grammar::proofs::Agreement::answered))]
 pub fn msg_att_body_section(alloc: Global, i: &[u8]) -> IResult<&[u8], AttributeValue<'_>>
-    ensures steps { Gives (λ x. attribute_value x) result (step rules.msg_att_body_section i.now) }
-    ensures answer { Answers rules.msg_att_body_section (λ x. attribute_value x) i.now result }
+    ensures steps { Steps rules.msg_att_body_section attribute_value i.now result }
+    ensures answer { Answers rules.msg_att_body_section attribute_value i.now result }
 {
     let (q, spans) = made!(at::attributes::msg_att_body_section(&Positions, alloc, i, 0));
     named(alloc, i, q, spans)
@@ -55,8 +54,8 @@ pub fn msg_att_body_section(alloc: Global, i: &[u8]) -> IResult<&[u8], Attribute
 /// and for texts that are not UTF-8.
 #[tactic(auto, using(imap_grammar::proofs::Agreement::answered))]
 pub fn attribute(alloc: Global, i: &[u8]) -> IResult<&[u8], AttributeValue<'_>>
-    ensures steps { Gives (λ x. attribute_value x) result (step rules.attribute i.now) }
-    ensures answer { Answers rules.attribute (λ x. attribute_value x) i.now result }
+    ensures steps { Steps rules.attribute attribute_value i.now result }
+    ensures answer { Answers rules.attribute attribute_value i.now result }
 {
     let (q, spans) = made!(at::attributes::attribute(&Positions, alloc, i, 0));
     named(alloc, i, q, spans)
@@ -68,8 +67,7 @@ pub fn attribute(alloc: Global, i: &[u8]) -> IResult<&[u8], AttributeValue<'_>>
 /// lists, envelopes and body structures in it, and for texts that are not UTF-8.
 #[tactic(auto, using(imap_grammar::proofs::Agreement::answered))]
 pub fn attribute_list(alloc: Global, i: &[u8]) -> IResult<&[u8], Vec<AttributeValue<'_>>>
-    ensures steps { Gives (λ x. map attribute_value x.items) result
-        (step rules.attribute_list i.now) }
+    ensures steps { Steps rules.attribute_list (λ x. map attribute_value x.items) i.now result }
     ensures answer { Answers rules.attribute_list (λ x. map attribute_value x.items) i.now result }
 {
     let (q, values) = made!(kept_list(&Named { alloc, m: i }, alloc, i, 0));

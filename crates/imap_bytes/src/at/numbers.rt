@@ -1,7 +1,7 @@
 //! Numbers at a position. None takes memory.
 
-ghost use Rattle.std.specs.Prelude.{◌≡◌, ◌≤◌, ◌<◌, true, false, ◌+◌, ◌*◌, ◌-◌, ◌^◌, length, drop, nat_lt, position, IfSome};
-ghost use Rattle.imap_grammar.specs.Positions.{AnswersAt, ExactlyAt, Ahead};
+ghost use Rattle.std.specs.Prelude.{◌≡◌, ◌≤◌, ◌<◌, true, false, ◌+◌, ◌*◌, ◌-◌, ◌^◌, length, nat_lt, position, IfSome};
+ghost use Rattle.imap_grammar.specs.Positions.{AnswersAt, Ahead, StepsExactlyAt};
 ghost use Rattle.imap_grammar.specs.Memory.{NeverFails};
 ghost use Rattle.imap_grammar.specs.Step.{step};
 ghost use Rattle.imap_grammar.specs.Meaning.{outside};
@@ -113,7 +113,7 @@ fn digits_in_front_64(i: &[u8]) -> Option<(usize, Option<u64>)>
 #[inline(always)]
 pub fn number(m: &[u8], p: usize) -> Reached<u32>
     requires { p ≤ length m.now }
-    ensures steps { ExactlyAt (λ x. x) m.now result (step numbers.number (drop p m.now)) }
+    ensures steps { StepsExactlyAt numbers.number (λ x. x) m.now p result }
     ensures answer { AnswersAt numbers.number (λ x. x) m.now p result }
     ensures ahead { Ahead m.now p result }
     ensures no_failure { NeverFails result }
@@ -121,15 +121,9 @@ pub fn number(m: &[u8], p: usize) -> Reached<u32>
     let (_, i) = m.split_at(p);
     match digits_in_front(i) {
         None => Err(Err::Incomplete(Needed::Unknown)),
-        Some((count, number)) => {
-            if count == 0 {
-                return Err(Err::Error);
-            }
-            match number {
-                None => Err(Err::Error),
-                Some(n) => Ok((p + count, n)),
-            }
-        }
+        Some((0, _)) => Err(Err::Error),
+        Some((_, None)) => Err(Err::Error),
+        Some((count, Some(n))) => Ok((p + count, n)),
     }
 }
 
@@ -139,7 +133,7 @@ pub fn number(m: &[u8], p: usize) -> Reached<u32>
 #[tactic(auto, using(imap_grammar::proofs::Agreement::exact_answered_at))]
 pub fn number_64(m: &[u8], p: usize) -> Reached<u64>
     requires { p ≤ length m.now }
-    ensures steps { ExactlyAt (λ x. x) m.now result (step numbers.number_64 (drop p m.now)) }
+    ensures steps { StepsExactlyAt numbers.number_64 (λ x. x) m.now p result }
     ensures answer { AnswersAt numbers.number_64 (λ x. x) m.now p result }
     ensures ahead { Ahead m.now p result }
     ensures no_failure { NeverFails result }
@@ -147,14 +141,8 @@ pub fn number_64(m: &[u8], p: usize) -> Reached<u64>
     let (_, i) = m.split_at(p);
     match digits_in_front_64(i) {
         None => Err(Err::Incomplete(Needed::Unknown)),
-        Some((count, number)) => {
-            if count == 0 {
-                return Err(Err::Error);
-            }
-            match number {
-                None => Err(Err::Error),
-                Some(n) => Ok((p + count, n)),
-            }
-        }
+        Some((0, _)) => Err(Err::Error),
+        Some((_, None)) => Err(Err::Error),
+        Some((count, Some(n))) => Ok((p + count, n)),
     }
 }

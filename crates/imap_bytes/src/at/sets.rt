@@ -1,13 +1,9 @@
 //! Sequence sets at a position.
 
-ghost use Rattle.std.specs.Prelude.{◌≤◌, length, drop, map};
-ghost use Rattle.imap_grammar.specs.Positions.{AnswersAt, ExactlyAt, GivesAt, Ahead};
+ghost use Rattle.std.specs.Prelude.{◌≤◌, length, map};
+ghost use Rattle.imap_grammar.specs.Positions.{AnswersAt, Ahead, StepsAt, StepsExactlyAt};
 ghost use Rattle.imap_grammar.specs.Memory.{NeverFails};
-ghost use Rattle.imap_grammar.specs.Step.{step};
 ghost use Rattle.imap_grammar.specs.Ranges.{range_of};
-ghost use Rattle.imap_grammar.specs.Rule.{◌▹◌};
-ghost use Rattle.imap_grammar.specs.Tags as tags;
-ghost use Rattle.imap_bytes.specs.Numbers as numbers;
 ghost use Rattle.imap_bytes.specs.Sets as sets;
 
 use crate::at::numbers::number;
@@ -24,9 +20,8 @@ use std::ops::RangeInclusive;
 #[tactic(auto, using(imap_grammar::proofs::Agreement::exact_answered_at), unfolding(crate::specs::Sets::sequence_range))]
 pub fn sequence_range(m: &[u8], p: usize) -> Reached<RangeInclusive<u32>>
     requires { p ≤ length m.now }
-    ensures steps { ExactlyAt (λ x. range_of x) m.now result
-        (step sets.sequence_range (drop p m.now)) }
-    ensures answer { AnswersAt sets.sequence_range (λ x. range_of x) m.now p result }
+    ensures steps { StepsExactlyAt sets.sequence_range range_of m.now p result }
+    ensures answer { AnswersAt sets.sequence_range range_of m.now p result }
     ensures ahead { Ahead m.now p result }
     ensures no_failure { NeverFails result }
 {
@@ -39,8 +34,7 @@ pub fn sequence_range(m: &[u8], p: usize) -> Reached<RangeInclusive<u32>>
 // A colon and the number behind it.
 fn range_end(m: &[u8], p: usize) -> Reached<u32>
     requires { p ≤ length m.now }
-    ensures steps { ExactlyAt (λ x. x) m.now result
-        (step (tags.tag ":" ▹ numbers.number) (drop p m.now)) }
+    ensures steps { StepsExactlyAt sets.range_end (λ x. x) m.now p result }
     ensures ahead { Ahead m.now p result }
 {
     let (p, _) = tag(b":", m, p)?;
@@ -52,8 +46,7 @@ fn range_end(m: &[u8], p: usize) -> Reached<u32>
 /// It ends before a colon behind which `number` denies. A number past 32 bits in front is `Error`.
 pub(crate) fn sequence_item(m: &[u8], p: usize) -> Reached<RangeInclusive<u32>>
     requires { p ≤ length m.now }
-    ensures steps { ExactlyAt (λ x. range_of x) m.now result
-        (step sets.sequence_item (drop p m.now)) }
+    ensures steps { StepsExactlyAt sets.sequence_item range_of m.now p result }
     ensures ahead { Ahead m.now p result }
     ensures no_failure { NeverFails result }
 {
@@ -70,16 +63,13 @@ pub(crate) fn sequence_item(m: &[u8], p: usize) -> Reached<RangeInclusive<u32>>
 /// memory for the list.
 pub fn sequence_set(alloc: Global, m: &[u8], p: usize) -> Reached<Vec<RangeInclusive<u32>>>
     requires { p ≤ length m.now }
-    ensures steps { GivesAt (λ x. map (λ r. range_of r) x.items) m.now result
-        (step sets.sequence_set (drop p m.now)) }
-    ensures answer { AnswersAt sets.sequence_set (λ x. map (λ r. range_of r) x.items) m.now p
-        result }
+    ensures steps { StepsAt sets.sequence_set (λ x. map range_of x.items) m.now p result }
+    ensures answer { AnswersAt sets.sequence_set (λ x. map range_of x.items) m.now p result }
     ensures ahead { Ahead m.now p result }
 {
     let item = |k: usize|
         requires { k ≤ length m.now }
-        ensures steps { ExactlyAt (λ x. range_of x) m.entry.now result
-            (step sets.sequence_item (drop k m.entry.now)) }
+        ensures steps { StepsExactlyAt sets.sequence_item range_of m.entry.now k result }
         ensures ahead { Ahead m.entry.now k result }
     { sequence_item(m, k) };
     separated(alloc, Separator::Comma, item, m, p)

@@ -1,7 +1,7 @@
 //! Strings at a position, as spans of their content. None takes memory.
 
 ghost use Rattle.std.specs.Prelude.{◌≡◌, ◌==◌, ◌≤◌, ◌+◌, length, drop, IfOk, IfSome, Ok};
-ghost use Rattle.imap_grammar.specs.Positions.{AnswersAt, ExactlyAt, Ahead, Inside, MaybeInside, Lies, maybe_in, named_in};
+ghost use Rattle.imap_grammar.specs.Positions.{AnswersAt, ExactlyAt, Ahead, Inside, MaybeInside, Lies, maybe_in, named_in, StepsExactlyAt};
 ghost use Rattle.imap_grammar.specs.Memory.{NeverFails};
 ghost use Rattle.imap_grammar.specs.Step.{step, take_step};
 ghost use Rattle.imap_grammar.specs.Meaning.{begins};
@@ -23,8 +23,7 @@ use imap_grammar::{Err, Needed, first, maybe};
 #[inline(always)]
 fn plain(m: &[u8], p: usize) -> Reached<Span>
     requires { p ≤ length m.now }
-    ensures steps { ExactlyAt (λ x. named_in m.now x) m.now result
-        (step (run1 classes.is_quoted_char) (drop p m.now)) }
+    ensures steps { StepsExactlyAt (run1 classes.is_quoted_char) (named_in m.now) m.now p result }
     ensures inside { Inside m.now p result }
 {
     let (_, i) = m.split_at(p);
@@ -35,8 +34,7 @@ fn plain(m: &[u8], p: usize) -> Reached<Span>
 #[inline(always)]
 fn quoted_part(m: &[u8], p: usize) -> Reached<Span>
     requires { p ≤ length m.now }
-    ensures steps { ExactlyAt (λ x. named_in m.now x) m.now result
-        (step strings.quoted_part (drop p m.now)) }
+    ensures steps { StepsExactlyAt strings.quoted_part (named_in m.now) m.now p result }
     ensures inside { Inside m.now p result }
 {
     first!(plain(m, p));
@@ -47,8 +45,7 @@ fn quoted_part(m: &[u8], p: usize) -> Reached<Span>
 #[inline(always)]
 fn next_part(m: &[u8], p: usize) -> Reached<Option<Span>>
     requires { p ≤ length m.now }
-    ensures steps { ExactlyAt (λ x. maybe_in m.now x) m.now result
-        (step (opt strings.quoted_part) (drop p m.now)) }
+    ensures steps { StepsExactlyAt (opt strings.quoted_part) (maybe_in m.now) m.now p result }
     ensures ahead { Ahead m.now p result }
 {
     maybe!(quoted_part(m, p), p)
@@ -58,8 +55,7 @@ fn next_part(m: &[u8], p: usize) -> Reached<Option<Span>>
 #[inline(always)]
 fn quoted_content(m: &[u8], p: usize) -> Reached<Span>
     requires { p ≤ length m.now }
-    ensures steps { ExactlyAt (λ x. named_in m.now x) m.now result
-        (step strings.quoted_content (drop p m.now)) }
+    ensures steps { StepsExactlyAt strings.quoted_content (named_in m.now) m.now p result }
     ensures inside { Inside m.now p result }
     ensures no_failure { NeverFails result }
 {
@@ -86,9 +82,8 @@ fn quoted_content(m: &[u8], p: usize) -> Reached<Span>
 #[inline(never)]
 pub fn quoted(m: &[u8], p: usize) -> Reached<Span>
     requires { p ≤ length m.now }
-    ensures steps { ExactlyAt (λ x. named_in m.now x) m.now result
-        (step strings.quoted (drop p m.now)) }
-    ensures answer { AnswersAt strings.quoted (λ x. named_in m.now x) m.now p result }
+    ensures steps { StepsExactlyAt strings.quoted (named_in m.now) m.now p result }
+    ensures answer { AnswersAt strings.quoted (named_in m.now) m.now p result }
     ensures inside { Inside m.now p result }
     ensures no_failure { NeverFails result }
 {
@@ -101,7 +96,7 @@ pub fn quoted(m: &[u8], p: usize) -> Reached<Span>
 #[tactic(auto, unfolding(crate::specs::Strings::literal_header))]
 fn literal_header(m: &[u8], p: usize) -> Reached<u32>
     requires { p ≤ length m.now }
-    ensures steps { ExactlyAt (λ x. x) m.now result (step strings.literal_header (drop p m.now)) }
+    ensures steps { StepsExactlyAt strings.literal_header (λ x. x) m.now p result }
     ensures ahead { Ahead m.now p result }
     ensures no_failure { NeverFails result }
 {
@@ -116,8 +111,7 @@ fn literal_header(m: &[u8], p: usize) -> Reached<u32>
 #[tactic(auto, using(imap_grammar::proofs::Positions::stepped), unfolding(imap_grammar::specs::Step::take_step))]
 fn counted(count: usize, m: &[u8], p: usize) -> Reached<Span>
     requires { p ≤ length m.now }
-    ensures steps { ExactlyAt (λ x. named_in m.now x) m.now result
-        (take_step count (drop p m.now)) }
+    ensures steps { ExactlyAt (named_in m.now) m.now result (take_step count (drop p m.now)) }
     ensures inside { Inside m.now p result }
     ensures no_failure { NeverFails result }
 {
@@ -136,9 +130,8 @@ fn counted(count: usize, m: &[u8], p: usize) -> Reached<Span>
 #[inline(never)]
 pub fn literal(m: &[u8], p: usize) -> Reached<Span>
     requires { p ≤ length m.now }
-    ensures steps { ExactlyAt (λ x. named_in m.now x) m.now result
-        (step strings.literal (drop p m.now)) }
-    ensures answer { AnswersAt strings.literal (λ x. named_in m.now x) m.now p result }
+    ensures steps { StepsExactlyAt strings.literal (named_in m.now) m.now p result }
+    ensures answer { AnswersAt strings.literal (named_in m.now) m.now p result }
     ensures inside { Inside m.now p result }
     ensures no_failure { NeverFails result }
 {
@@ -178,8 +171,7 @@ fn plain_string(m: &[u8], p: usize) -> Option<(usize, Span)>
 #[inline(never)]
 fn any_string(m: &[u8], p: usize) -> Reached<Span>
     requires { p ≤ length m.now }
-    ensures steps { ExactlyAt (λ x. named_in m.now x) m.now result
-        (step strings.string (drop p m.now)) }
+    ensures steps { StepsExactlyAt strings.string (named_in m.now) m.now p result }
     ensures inside { Inside m.now p result }
     ensures no_failure { NeverFails result }
 {
@@ -195,9 +187,8 @@ fn any_string(m: &[u8], p: usize) -> Reached<Span>
 #[inline(always)]
 pub fn string(m: &[u8], p: usize) -> Reached<Span>
     requires { p ≤ length m.now }
-    ensures steps { ExactlyAt (λ x. named_in m.now x) m.now result
-        (step strings.string (drop p m.now)) }
-    ensures answer { AnswersAt strings.string (λ x. named_in m.now x) m.now p result }
+    ensures steps { StepsExactlyAt strings.string (named_in m.now) m.now p result }
+    ensures answer { AnswersAt strings.string (named_in m.now) m.now p result }
     ensures inside { Inside m.now p result }
     ensures no_failure { NeverFails result }
 {
@@ -210,8 +201,7 @@ pub fn string(m: &[u8], p: usize) -> Reached<Span>
 /// At least one astring-char (RFC 3501, section 9: ASTRING-CHAR). No memory.
 pub fn astring_chars(m: &[u8], p: usize) -> Reached<Span>
     requires { p ≤ length m.now }
-    ensures steps { ExactlyAt (λ x. named_in m.now x) m.now result
-        (step (run1 classes.is_astring_char) (drop p m.now)) }
+    ensures steps { StepsExactlyAt (run1 classes.is_astring_char) (named_in m.now) m.now p result }
     ensures inside { Inside m.now p result }
     ensures no_failure { NeverFails result }
 {
@@ -223,9 +213,8 @@ pub fn astring_chars(m: &[u8], p: usize) -> Reached<Span>
 #[tactic(auto, using(imap_grammar::proofs::Agreement::exact_answered_at), unfolding(crate::specs::Strings::astring))]
 pub fn astring(m: &[u8], p: usize) -> Reached<Span>
     requires { p ≤ length m.now }
-    ensures steps { ExactlyAt (λ x. named_in m.now x) m.now result
-        (step strings.astring (drop p m.now)) }
-    ensures answer { AnswersAt strings.astring (λ x. named_in m.now x) m.now p result }
+    ensures steps { StepsExactlyAt strings.astring (named_in m.now) m.now p result }
+    ensures answer { AnswersAt strings.astring (named_in m.now) m.now p result }
     ensures inside { Inside m.now p result }
     ensures no_failure { NeverFails result }
 {
@@ -237,9 +226,8 @@ pub fn astring(m: &[u8], p: usize) -> Reached<Span>
 #[tactic(auto, using(imap_grammar::proofs::Agreement::exact_answered_at), unfolding(crate::specs::Strings::nil))]
 pub fn nil(m: &[u8], p: usize) -> Reached<Span>
     requires { p ≤ length m.now }
-    ensures steps { ExactlyAt (λ x. named_in m.now x) m.now result
-        (step strings.nil (drop p m.now)) }
-    ensures answer { AnswersAt strings.nil (λ x. named_in m.now x) m.now p result }
+    ensures steps { StepsExactlyAt strings.nil (named_in m.now) m.now p result }
+    ensures answer { AnswersAt strings.nil (named_in m.now) m.now p result }
     ensures inside { Inside m.now p result }
     ensures no_failure { NeverFails result }
 {
@@ -251,9 +239,8 @@ pub fn nil(m: &[u8], p: usize) -> Reached<Span>
 #[inline(always)]
 pub fn nstring(m: &[u8], p: usize) -> Reached<Option<Span>>
     requires { p ≤ length m.now }
-    ensures steps { ExactlyAt (λ x. maybe_in m.now x) m.now result
-        (step strings.nstring (drop p m.now)) }
-    ensures answer { AnswersAt strings.nstring (λ x. maybe_in m.now x) m.now p result }
+    ensures steps { StepsExactlyAt strings.nstring (maybe_in m.now) m.now p result }
+    ensures answer { AnswersAt strings.nstring (maybe_in m.now) m.now p result }
     ensures ahead { Ahead m.now p result }
     ensures inside { MaybeInside p result }
     ensures no_failure { NeverFails result }
@@ -269,8 +256,7 @@ pub fn nstring(m: &[u8], p: usize) -> Reached<Option<Span>>
 /// Atom-chars, maybe none (RFC 3501, section 9: ATOM-CHAR). No memory.
 pub fn atom_chars0(m: &[u8], p: usize) -> Reached<Span>
     requires { p ≤ length m.now }
-    ensures steps { ExactlyAt (λ x. named_in m.now x) m.now result
-        (step (run0 classes.is_atom_char) (drop p m.now)) }
+    ensures steps { StepsExactlyAt (run0 classes.is_atom_char) (named_in m.now) m.now p result }
     ensures inside { Inside m.now p result }
     ensures no_failure { NeverFails result }
 {
@@ -281,8 +267,7 @@ pub fn atom_chars0(m: &[u8], p: usize) -> Reached<Span>
 // At least one atom-char (RFC 3501, section 9: ATOM-CHAR).
 fn atom_chars(m: &[u8], p: usize) -> Reached<Span>
     requires { p ≤ length m.now }
-    ensures steps { ExactlyAt (λ x. named_in m.now x) m.now result
-        (step (run1 classes.is_atom_char) (drop p m.now)) }
+    ensures steps { StepsExactlyAt (run1 classes.is_atom_char) (named_in m.now) m.now p result }
     ensures inside { Inside m.now p result }
     ensures no_failure { NeverFails result }
 {
@@ -294,9 +279,8 @@ fn atom_chars(m: &[u8], p: usize) -> Reached<Span>
 #[tactic(auto, using(imap_grammar::proofs::Positions::kept_self), unfolding(crate::specs::Strings::atom))]
 pub(crate) fn atom_text(m: &[u8], p: usize) -> Reached<(Span, &str)>
     requires { p ≤ length m.now }
-    ensures span { ExactlyAt (λ x. named_in m.now x.0) m.now result
-        (step strings.atom (drop p m.now)) }
-    ensures text { ExactlyAt (λ x. x.1.now) m.now result (step strings.atom (drop p m.now)) }
+    ensures span { StepsExactlyAt strings.atom (λ x. named_in m.now x.0) m.now p result }
+    ensures text { StepsExactlyAt strings.atom (λ x. x.1.now) m.now p result }
     ensures inside { IfOk result (λ x. Lies p x.1.0 x.0 × (x.0 ≤ length m.now)) }
     ensures no_failure { NeverFails result }
 {
@@ -311,9 +295,8 @@ pub(crate) fn atom_text(m: &[u8], p: usize) -> Reached<(Span, &str)>
 #[tactic(auto, using(imap_grammar::proofs::Agreement::exact_answered_at))]
 pub fn atom(m: &[u8], p: usize) -> Reached<Span>
     requires { p ≤ length m.now }
-    ensures steps { ExactlyAt (λ x. named_in m.now x) m.now result
-        (step strings.atom (drop p m.now)) }
-    ensures answer { AnswersAt strings.atom (λ x. named_in m.now x) m.now p result }
+    ensures steps { StepsExactlyAt strings.atom (named_in m.now) m.now p result }
+    ensures answer { AnswersAt strings.atom (named_in m.now) m.now p result }
     ensures inside { Inside m.now p result }
     ensures no_failure { NeverFails result }
 {

@@ -1,9 +1,8 @@
 //! The text of a line at a position. It takes no memory.
 
-ghost use Rattle.std.specs.Prelude.{◌≤◌, length, drop};
-ghost use Rattle.imap_grammar.specs.Positions.{AnswersAt, ExactlyAt, Inside, named_in};
+ghost use Rattle.std.specs.Prelude.{◌≤◌, length};
+ghost use Rattle.imap_grammar.specs.Positions.{AnswersAt, Inside, named_in, StepsExactlyAt};
 ghost use Rattle.imap_grammar.specs.Memory.{NeverFails};
-ghost use Rattle.imap_grammar.specs.Step.{step};
 ghost use Rattle.imap_grammar.specs.Rule.{run0};
 ghost use Rattle.imap_grammar.specs.Text.{decoded};
 ghost use Rattle.imap_grammar.specs.Classes as classes;
@@ -17,8 +16,7 @@ use imap_grammar::scanning::{TextChar, long_run_end};
 /// Text-chars, maybe none (RFC 3501, section 9: TEXT-CHAR). No memory.
 pub(crate) fn text_chars(m: &[u8], p: usize) -> Reached<Span>
     requires { p ≤ length m.now }
-    ensures steps { ExactlyAt (λ x. named_in m.now x) m.now result
-        (step (run0 classes.is_text_char) (drop p m.now)) }
+    ensures steps { StepsExactlyAt (run0 classes.is_text_char) (named_in m.now) m.now p result }
     ensures inside { Inside m.now p result }
     ensures no_failure { NeverFails result }
 {
@@ -30,8 +28,7 @@ pub(crate) fn text_chars(m: &[u8], p: usize) -> Reached<Span>
 #[tactic(auto, using(imap_grammar::proofs::Agreement::exact_answered_at), unfolding(crate::specs::Texts::text))]
 pub fn text(m: &[u8], p: usize) -> Reached<Span>
     requires { p ≤ length m.now }
-    ensures steps { ExactlyAt (λ x. decoded (named_in m.now x)) m.now result
-        (step texts.text (drop p m.now)) }
+    ensures steps { StepsExactlyAt texts.text (λ x. decoded (named_in m.now x)) m.now p result }
     ensures answer { AnswersAt texts.text (λ x. decoded (named_in m.now x)) m.now p result }
     ensures inside { Inside m.now p result }
     ensures no_failure { NeverFails result }

@@ -1,9 +1,8 @@
 //! METADATA, as data of a mailbox.
 
-ghost use Rattle.imap_grammar.specs.Answer.{Answers, Gives};
-ghost use Rattle.imap_grammar.specs.Step.{step};
+ghost use Rattle.imap_grammar.specs.Answer.{Answers, Steps};
 ghost use Rattle.imap_data.specs.Annotations as rules;
-ghost use Rattle.imap_data.specs.MailboxValues.{mailbox_value};
+ghost use Rattle.imap_data.specs.DatumValues.{datum_value};
 
 use crate::types::mailbox_data::MailboxDatum;
 use imap_bytes::IResult;
@@ -16,8 +15,8 @@ use std::alloc::Global;
 /// It takes memory for the list, for each entry and value, and for a mailbox that is not UTF-8.
 #[tactic(auto, using(imap_grammar::proofs::Agreement::answered), unfolding(crate::specs::Annotations::metadata_solicited))]
 pub fn metadata_solicited(alloc: Global, i: &[u8]) -> IResult<&[u8], MailboxDatum<'_>>
-    ensures steps { Gives (λ x. mailbox_value x) result (step rules.metadata_solicited i.now) }
-    ensures answer { Answers rules.metadata_solicited (λ x. mailbox_value x) i.now result }
+    ensures steps { Steps rules.metadata_solicited datum_value i.now result }
+    ensures answer { Answers rules.metadata_solicited datum_value i.now result }
 {
     let (rest, mailbox) = metadata_mailbox(alloc, i)?;
     let (rest, values) = annotations(alloc, rest)?;
@@ -30,8 +29,8 @@ pub fn metadata_solicited(alloc: Global, i: &[u8]) -> IResult<&[u8], MailboxDatu
 /// takes memory for the list, and for texts that are not UTF-8.
 #[tactic(auto, using(imap_grammar::proofs::Agreement::answered), unfolding(crate::specs::Annotations::metadata_unsolicited))]
 pub fn metadata_unsolicited(alloc: Global, i: &[u8]) -> IResult<&[u8], MailboxDatum<'_>>
-    ensures steps { Gives (λ x. mailbox_value x) result (step rules.metadata_unsolicited i.now) }
-    ensures answer { Answers rules.metadata_unsolicited (λ x. mailbox_value x) i.now result }
+    ensures steps { Steps rules.metadata_unsolicited datum_value i.now result }
+    ensures answer { Answers rules.metadata_unsolicited datum_value i.now result }
 {
     let (rest, mailbox) = metadata_mailbox(alloc, i)?;
     let (rest, values) = entries(alloc, rest)?;

@@ -1,9 +1,8 @@
 //! Response codes.
 
 ghost use Rattle.std.specs.Prelude.{◌⊎◌, map, IfOk};
-ghost use Rattle.imap_grammar.specs.Answer.{Answers, Exactly, Gives};
+ghost use Rattle.imap_grammar.specs.Answer.{Answers, Steps, StepsExactly};
 ghost use Rattle.imap_grammar.specs.Memory.{BeginsWord, FailsOnlyIf};
-ghost use Rattle.imap_grammar.specs.Step.{step};
 ghost use Rattle.imap_grammar.specs.Text.{text_of};
 ghost use Rattle.imap_data.specs.Codes as codes;
 ghost use Rattle.imap_data.specs.Codes.{code_value, HasOrderedUids, BeginsListWord, BeginsListCode};
@@ -22,17 +21,17 @@ use std::alloc::Global;
 use std::borrow::CowStr;
 
 fn charset_list(alloc: Global, i: &[u8]) -> IResult<&[u8], Vec<CowStr<'_>>>
-    ensures { Gives (λ x. map text_of x.items) result (step codes.charset_list i.now) }
+    ensures { Steps codes.charset_list (λ x. map text_of x.items) i.now result }
 {
     let charset = |i|
-        ensures { Gives (λ x. text_of x) result (step codes.charset i.entry.now) }
+        ensures { Steps codes.charset text_of i.entry.now result }
     { astring_utf8(alloc, i) };
     parenthesized_nonempty_list(alloc, charset, i)
 }
 
 #[tactic(auto, unfolding(crate::specs::Codes::charsets))]
 fn charsets(alloc: Global, i: &[u8]) -> IResult<&[u8], Vec<CowStr<'_>>>
-    ensures steps { Gives (λ x. map text_of x.items) result (step codes.charsets i.now) }
+    ensures steps { Steps codes.charsets (λ x. map text_of x.items) i.now result }
     ensures memory { FailsOnlyIf (BeginsWord " " i.now) result }
 {
     let (rest, _) = tag(b" ", i)?;
@@ -41,7 +40,7 @@ fn charsets(alloc: Global, i: &[u8]) -> IResult<&[u8], Vec<CowStr<'_>>>
 
 #[tactic(auto, using(imap_grammar::proofs::Memory::word_never), unfolding(crate::specs::Codes::bad_charset))]
 fn bad_charset(alloc: Global, i: &[u8]) -> IResult<&[u8], ResponseCode<'_>>
-    ensures steps { Gives (λ x. code_value x) result (step codes.bad_charset i.now) }
+    ensures steps { Steps codes.bad_charset code_value i.now result }
     ensures memory { FailsOnlyIf (BeginsWord "BADCHARSET " i.now) result }
 {
     let (rest, _) = word(b"BADCHARSET", i)?;
@@ -53,7 +52,7 @@ fn bad_charset(alloc: Global, i: &[u8]) -> IResult<&[u8], ResponseCode<'_>>
 
 #[tactic(auto, unfolding(crate::specs::Codes::permanent_flags))]
 fn permanent_flags(alloc: Global, i: &[u8]) -> IResult<&[u8], ResponseCode<'_>>
-    ensures steps { Gives (λ x. code_value x) result (step codes.permanent_flags i.now) }
+    ensures steps { Steps codes.permanent_flags code_value i.now result }
     ensures memory { FailsOnlyIf (BeginsWord "PERMANENTFLAGS " i.now) result }
 {
     worded!(i: b"PERMANENTFLAGS ", flag_list(alloc) => ResponseCode::PermanentFlags)
@@ -61,7 +60,7 @@ fn permanent_flags(alloc: Global, i: &[u8]) -> IResult<&[u8], ResponseCode<'_>>
 
 #[tactic(auto, unfolding(crate::specs::Codes::capabilities))]
 fn capabilities(alloc: Global, i: &[u8]) -> IResult<&[u8], ResponseCode<'_>>
-    ensures steps { Gives (λ x. code_value x) result (step codes.capabilities i.now) }
+    ensures steps { Steps codes.capabilities code_value i.now result }
     ensures memory { FailsOnlyIf (BeginsWord "CAPABILITY" i.now) result }
 {
     let (rest, capabilities) = capability_data(alloc, i)?;
@@ -70,49 +69,49 @@ fn capabilities(alloc: Global, i: &[u8]) -> IResult<&[u8], ResponseCode<'_>>
 
 #[tactic(auto, unfolding(crate::specs::Codes::uid_validity))]
 fn uid_validity(i: &[u8]) -> IResult<&[u8], ResponseCode<'_>>
-    ensures { Exactly (λ x. code_value x) result (step codes.uid_validity i.now) }
+    ensures { StepsExactly codes.uid_validity code_value i.now result }
 {
     worded!(i: b"UIDVALIDITY ", number => ResponseCode::UidValidity)
 }
 
 #[tactic(auto, unfolding(crate::specs::Codes::uid_next))]
 fn uid_next(i: &[u8]) -> IResult<&[u8], ResponseCode<'_>>
-    ensures { Exactly (λ x. code_value x) result (step codes.uid_next i.now) }
+    ensures { StepsExactly codes.uid_next code_value i.now result }
 {
     worded!(i: b"UIDNEXT ", number => ResponseCode::UidNext)
 }
 
 #[tactic(auto, unfolding(crate::specs::Codes::unseen))]
 fn unseen(i: &[u8]) -> IResult<&[u8], ResponseCode<'_>>
-    ensures { Exactly (λ x. code_value x) result (step codes.unseen i.now) }
+    ensures { StepsExactly codes.unseen code_value i.now result }
 {
     worded!(i: b"UNSEEN ", number => ResponseCode::Unseen)
 }
 
 #[tactic(auto, unfolding(crate::specs::Codes::highest_mod_seq))]
 fn highest_mod_seq(i: &[u8]) -> IResult<&[u8], ResponseCode<'_>>
-    ensures { Exactly (λ x. code_value x) result (step codes.highest_mod_seq i.now) }
+    ensures { StepsExactly codes.highest_mod_seq code_value i.now result }
 {
     worded!(i: b"HIGHESTMODSEQ ", number_64 => ResponseCode::HighestModSeq)
 }
 
 #[tactic(auto, unfolding(crate::specs::Codes::long_entries))]
 fn long_entries(i: &[u8]) -> IResult<&[u8], ResponseCode<'_>>
-    ensures { Exactly (λ x. code_value x) result (step codes.long_entries i.now) }
+    ensures { StepsExactly codes.long_entries code_value i.now result }
 {
     worded!(i: b"METADATA LONGENTRIES ", number_64 => ResponseCode::MetadataLongEntries)
 }
 
 #[tactic(auto, unfolding(crate::specs::Codes::max_size))]
 fn max_size(i: &[u8]) -> IResult<&[u8], ResponseCode<'_>>
-    ensures { Exactly (λ x. code_value x) result (step codes.max_size i.now) }
+    ensures { StepsExactly codes.max_size code_value i.now result }
 {
     worded!(i: b"METADATA MAXSIZE ", number_64 => ResponseCode::MetadataMaxSize)
 }
 
 #[tactic(auto, unfolding(crate::specs::Codes::too_many))]
 fn too_many(i: &[u8]) -> IResult<&[u8], ResponseCode<'_>>
-    ensures { Exactly (λ x. code_value x) result (step codes.too_many i.now) }
+    ensures { StepsExactly codes.too_many code_value i.now result }
 {
     let (rest, _) = word(b"METADATA TOOMANY", i)?;
     Ok((rest, ResponseCode::MetadataTooMany))
@@ -120,7 +119,7 @@ fn too_many(i: &[u8]) -> IResult<&[u8], ResponseCode<'_>>
 
 #[tactic(auto, unfolding(crate::specs::Codes::no_private))]
 fn no_private(i: &[u8]) -> IResult<&[u8], ResponseCode<'_>>
-    ensures { Exactly (λ x. code_value x) result (step codes.no_private i.now) }
+    ensures { StepsExactly codes.no_private code_value i.now result }
 {
     let (rest, _) = word(b"METADATA NOPRIVATE", i)?;
     Ok((rest, ResponseCode::MetadataNoPrivate))
@@ -128,7 +127,7 @@ fn no_private(i: &[u8]) -> IResult<&[u8], ResponseCode<'_>>
 
 #[tactic(auto, unfolding(crate::specs::Codes::append_uid))]
 fn append_uid(alloc: Global, i: &[u8]) -> IResult<&[u8], ResponseCode<'_>>
-    ensures steps { Gives (λ x. code_value x) result (step codes.append_uid i.now) }
+    ensures steps { Steps codes.append_uid code_value i.now result }
     ensures memory { FailsOnlyIf (BeginsWord "APPENDUID " i.now) result }
 {
     let (rest, _) = word(b"APPENDUID ", i)?;
@@ -140,7 +139,7 @@ fn append_uid(alloc: Global, i: &[u8]) -> IResult<&[u8], ResponseCode<'_>>
 
 #[tactic(auto, unfolding(crate::specs::Codes::copy_uid))]
 fn copy_uid(alloc: Global, i: &[u8]) -> IResult<&[u8], ResponseCode<'_>>
-    ensures steps { Gives (λ x. code_value x) result (step codes.copy_uid i.now) }
+    ensures steps { Steps codes.copy_uid code_value i.now result }
     ensures memory { FailsOnlyIf (BeginsWord "COPYUID " i.now) result }
 {
     let (rest, _) = word(b"COPYUID ", i)?;
@@ -154,7 +153,7 @@ fn copy_uid(alloc: Global, i: &[u8]) -> IResult<&[u8], ResponseCode<'_>>
 
 #[tactic(auto, using(imap_grammar::proofs::Memory::word_never), unfolding(crate::specs::Codes::code_of_a))]
 fn code_of_a(alloc: Global, i: &[u8]) -> IResult<&[u8], ResponseCode<'_>>
-    ensures steps { Gives (λ x. code_value x) result (step codes.code_of_a i.now) }
+    ensures steps { Steps codes.code_of_a code_value i.now result }
     ensures memory { FailsOnlyIf (BeginsWord "APPENDUID " i.now) result }
 {
     named!(b"ALERT", i, ResponseCode::Alert);
@@ -163,7 +162,7 @@ fn code_of_a(alloc: Global, i: &[u8]) -> IResult<&[u8], ResponseCode<'_>>
 
 #[tactic(auto, unfolding(crate::specs::Codes::code_of_c))]
 fn code_of_c(alloc: Global, i: &[u8]) -> IResult<&[u8], ResponseCode<'_>>
-    ensures steps { Gives (λ x. code_value x) result (step codes.code_of_c i.now) }
+    ensures steps { Steps codes.code_of_c code_value i.now result }
     ensures memory { FailsOnlyIf (BeginsWord "CAPABILITY" i.now ⊎ BeginsWord "COPYUID " i.now)
         result }
 {
@@ -173,7 +172,7 @@ fn code_of_c(alloc: Global, i: &[u8]) -> IResult<&[u8], ResponseCode<'_>>
 
 #[tactic(auto, using(imap_grammar::proofs::Memory::word_never), unfolding(crate::specs::Codes::code_of_p))]
 fn code_of_p(alloc: Global, i: &[u8]) -> IResult<&[u8], ResponseCode<'_>>
-    ensures steps { Gives (λ x. code_value x) result (step codes.code_of_p i.now) }
+    ensures steps { Steps codes.code_of_p code_value i.now result }
     ensures memory { FailsOnlyIf (BeginsWord "PERMANENTFLAGS " i.now) result }
 {
     named!(b"PARSE", i, ResponseCode::Parse);
@@ -182,7 +181,7 @@ fn code_of_p(alloc: Global, i: &[u8]) -> IResult<&[u8], ResponseCode<'_>>
 
 #[tactic(auto, unfolding(crate::specs::Codes::code_of_u))]
 fn code_of_u(i: &[u8]) -> IResult<&[u8], ResponseCode<'_>>
-    ensures { Exactly (λ x. code_value x) result (step codes.code_of_u i.now) }
+    ensures { StepsExactly codes.code_of_u code_value i.now result }
 {
     first!(uid_validity(i));
     first!(uid_next(i));
@@ -193,7 +192,7 @@ fn code_of_u(i: &[u8]) -> IResult<&[u8], ResponseCode<'_>>
 
 #[tactic(auto, unfolding(crate::specs::Codes::code_of_r))]
 fn code_of_r(i: &[u8]) -> IResult<&[u8], ResponseCode<'_>>
-    ensures { Exactly (λ x. code_value x) result (step codes.code_of_r i.now) }
+    ensures { StepsExactly codes.code_of_r code_value i.now result }
 {
     named!(b"READ-ONLY", i, ResponseCode::ReadOnly);
     named!(b"READ-WRITE", i, ResponseCode::ReadWrite);
@@ -202,7 +201,7 @@ fn code_of_r(i: &[u8]) -> IResult<&[u8], ResponseCode<'_>>
 
 #[tactic(auto, unfolding(crate::specs::Codes::code_of_t))]
 fn code_of_t(i: &[u8]) -> IResult<&[u8], ResponseCode<'_>>
-    ensures { Exactly (λ x. code_value x) result (step codes.code_of_t i.now) }
+    ensures { StepsExactly codes.code_of_t code_value i.now result }
 {
     let (rest, _) = word(b"TRYCREATE", i)?;
     Ok((rest, ResponseCode::TryCreate))
@@ -210,7 +209,7 @@ fn code_of_t(i: &[u8]) -> IResult<&[u8], ResponseCode<'_>>
 
 #[tactic(auto, unfolding(crate::specs::Codes::metadata_code))]
 fn metadata_code(i: &[u8]) -> IResult<&[u8], ResponseCode<'_>>
-    ensures { Exactly (λ x. code_value x) result (step codes.metadata_code i.now) }
+    ensures { StepsExactly codes.metadata_code code_value i.now result }
 {
     first!(long_entries(i));
     first!(max_size(i));
@@ -221,7 +220,7 @@ fn metadata_code(i: &[u8]) -> IResult<&[u8], ResponseCode<'_>>
 // Of the codes those are tried, in order, that may start with the first byte.
 #[tactic(auto, using(crate::proofs::FirstBytes::code_none, crate::proofs::FirstBytes::code_is_of_a, crate::proofs::FirstBytes::code_is_bad_charset, crate::proofs::FirstBytes::code_is_of_c, crate::proofs::FirstBytes::code_is_highest_mod_seq, crate::proofs::FirstBytes::code_is_metadata, crate::proofs::FirstBytes::code_is_of_p, crate::proofs::FirstBytes::code_is_of_r, crate::proofs::FirstBytes::code_is_of_t, crate::proofs::FirstBytes::code_is_of_u, crate::proofs::FirstBytes::code_other))]
 fn any_code(alloc: Global, i: &[u8]) -> IResult<&[u8], ResponseCode<'_>>
-    ensures steps { Gives (λ x. code_value x) result (step codes.any_code i.now) }
+    ensures steps { Steps codes.any_code code_value i.now result }
     ensures memory { FailsOnlyIf (BeginsListWord i.now) result }
 {
     match i.first() {
@@ -247,8 +246,8 @@ fn any_code(alloc: Global, i: &[u8]) -> IResult<&[u8], ResponseCode<'_>>
 /// UTF-8.
 #[tactic(auto, using(imap_grammar::proofs::Agreement::answered), unfolding(crate::specs::Codes::response_code))]
 pub fn response_code(alloc: Global, i: &[u8]) -> IResult<&[u8], ResponseCode<'_>>
-    ensures steps { Gives (λ x. code_value x) result (step codes.response_code i.now) }
-    ensures answer { Answers codes.response_code (λ x. code_value x) i.now result }
+    ensures steps { Steps codes.response_code code_value i.now result }
+    ensures answer { Answers codes.response_code code_value i.now result }
     ensures ordered { IfOk result (λ x. HasOrderedUids x.1) }
     ensures memory { FailsOnlyIf (BeginsListCode i.now) result }
 {

@@ -1,7 +1,6 @@
 //! Items of STATUS, and numbers that were found.
 
-ghost use Rattle.imap_grammar.specs.Answer.{Exactly, Gives};
-ghost use Rattle.imap_grammar.specs.Step.{step};
+ghost use Rattle.imap_grammar.specs.Answer.{Steps, StepsExactly};
 ghost use Rattle.imap_grammar.specs.Rule.{many};
 ghost use Rattle.imap_data.specs.Counts as counts;
 
@@ -13,49 +12,49 @@ use std::alloc::Global;
 
 #[tactic(auto, unfolding(crate::specs::Counts::highest_mod_seq))]
 fn highest_mod_seq(i: &[u8]) -> IResult<&[u8], StatusAttribute>
-    ensures { Exactly (λ x. x) result (step counts.highest_mod_seq i.now) }
+    ensures { StepsExactly counts.highest_mod_seq (λ x. x) i.now result }
 {
     worded!(i: b"HIGHESTMODSEQ ", number_64 => StatusAttribute::HighestModSeq)
 }
 
 #[tactic(auto, unfolding(crate::specs::Counts::messages))]
 fn messages(i: &[u8]) -> IResult<&[u8], StatusAttribute>
-    ensures { Exactly (λ x. x) result (step counts.messages i.now) }
+    ensures { StepsExactly counts.messages (λ x. x) i.now result }
 {
     worded!(i: b"MESSAGES ", number => StatusAttribute::Messages)
 }
 
 #[tactic(auto, unfolding(crate::specs::Counts::recent))]
 fn recent(i: &[u8]) -> IResult<&[u8], StatusAttribute>
-    ensures { Exactly (λ x. x) result (step counts.recent i.now) }
+    ensures { StepsExactly counts.recent (λ x. x) i.now result }
 {
     worded!(i: b"RECENT ", number => StatusAttribute::Recent)
 }
 
 #[tactic(auto, unfolding(crate::specs::Counts::uid_next))]
 fn uid_next(i: &[u8]) -> IResult<&[u8], StatusAttribute>
-    ensures { Exactly (λ x. x) result (step counts.uid_next i.now) }
+    ensures { StepsExactly counts.uid_next (λ x. x) i.now result }
 {
     worded!(i: b"UIDNEXT ", number => StatusAttribute::UidNext)
 }
 
 #[tactic(auto, unfolding(crate::specs::Counts::uid_validity))]
 fn uid_validity(i: &[u8]) -> IResult<&[u8], StatusAttribute>
-    ensures { Exactly (λ x. x) result (step counts.uid_validity i.now) }
+    ensures { StepsExactly counts.uid_validity (λ x. x) i.now result }
 {
     worded!(i: b"UIDVALIDITY ", number => StatusAttribute::UidValidity)
 }
 
 #[tactic(auto, unfolding(crate::specs::Counts::unseen))]
 fn unseen(i: &[u8]) -> IResult<&[u8], StatusAttribute>
-    ensures { Exactly (λ x. x) result (step counts.unseen i.now) }
+    ensures { StepsExactly counts.unseen (λ x. x) i.now result }
 {
     worded!(i: b"UNSEEN ", number => StatusAttribute::Unseen)
 }
 
 #[tactic(auto, unfolding(crate::specs::Counts::item_of_u))]
 fn item_of_u(i: &[u8]) -> IResult<&[u8], StatusAttribute>
-    ensures { Exactly (λ x. x) result (step counts.item_of_u i.now) }
+    ensures { StepsExactly counts.item_of_u (λ x. x) i.now result }
 {
     first!(uid_next(i));
     first!(uid_validity(i));
@@ -66,7 +65,7 @@ fn item_of_u(i: &[u8]) -> IResult<&[u8], StatusAttribute>
 /// status-att-val). No memory.
 #[tactic(auto, using(crate::proofs::FirstBytes::item_none, crate::proofs::FirstBytes::item_is_highest_mod_seq, crate::proofs::FirstBytes::item_is_messages, crate::proofs::FirstBytes::item_is_recent, crate::proofs::FirstBytes::item_is_of_u, crate::proofs::FirstBytes::item_other))]
 pub(crate) fn status_item(i: &[u8]) -> IResult<&[u8], StatusAttribute>
-    ensures { Exactly (λ x. x) result (step counts.status_item i.now) }
+    ensures { StepsExactly counts.status_item (λ x. x) i.now result }
 {
     match i.first() {
         None => Err(Err::Incomplete(Needed::Unknown)),
@@ -80,7 +79,7 @@ pub(crate) fn status_item(i: &[u8]) -> IResult<&[u8], StatusAttribute>
 
 /// Items of STATUS in parentheses, maybe none.
 pub(crate) fn status_items(alloc: Global, i: &[u8]) -> IResult<&[u8], Vec<StatusAttribute>>
-    ensures { Gives (λ x. x.items) result (step counts.status_items i.now) }
+    ensures { Steps counts.status_items (λ x. x.items) i.now result }
 {
     parenthesized_list(alloc, status_item, i)
 }
@@ -88,14 +87,14 @@ pub(crate) fn status_items(alloc: Global, i: &[u8]) -> IResult<&[u8], Vec<Status
 /// A number behind a space. No memory.
 #[tactic(auto, unfolding(crate::specs::Counts::found_number))]
 pub(crate) fn found_number(i: &[u8]) -> IResult<&[u8], u32>
-    ensures { Exactly (λ x. x) result (step counts.found_number i.now) }
+    ensures { StepsExactly counts.found_number (λ x. x) i.now result }
 {
     let (rest, _) = tag(b" ", i)?;
     number(rest)
 }
 
 fn spaced_numbers(alloc: Global, i: &[u8]) -> IResult<&[u8], Vec<u32>>
-    ensures { Gives (λ x. x.items) result (step (many counts.found_number) i.now) }
+    ensures { Steps (many counts.found_number) (λ x. x.items) i.now result }
 {
     repeated(alloc, found_number, i)
 }
@@ -104,7 +103,7 @@ fn spaced_numbers(alloc: Global, i: &[u8]) -> IResult<&[u8], Vec<u32>>
 /// 5256, section 5: sort-data).
 #[tactic(auto, unfolding(crate::specs::Counts::found_numbers))]
 pub(crate) fn found_numbers(alloc: Global, i: &[u8]) -> IResult<&[u8], Vec<u32>>
-    ensures { Gives (λ x. x.items) result (step counts.found_numbers i.now) }
+    ensures { Steps counts.found_numbers (λ x. x.items) i.now result }
 {
     let (rest, numbers) = spaced_numbers(alloc, i)?;
     let (rest, _) = maybe_space(rest)?;

@@ -1,10 +1,9 @@
 //! Data of a mailbox.
 
-ghost use Rattle.imap_grammar.specs.Answer.{Answers, Exactly, Gives};
+ghost use Rattle.imap_grammar.specs.Answer.{Answers, Steps, StepsExactly};
 ghost use Rattle.imap_grammar.specs.Memory.{BeginsWord, FailsOnlyIf, SucceedsFor};
-ghost use Rattle.imap_grammar.specs.Step.{step};
 ghost use Rattle.imap_data.specs.MailboxData as rules;
-ghost use Rattle.imap_data.specs.MailboxValues.{mailbox_value, IsNumber};
+ghost use Rattle.imap_data.specs.DatumValues.{datum_value, IsNumber};
 
 use super::counts::{found_numbers, status_items};
 use super::names::list_data;
@@ -19,7 +18,7 @@ use std::alloc::Global;
 #[tactic(auto, unfolding(crate::specs::MailboxData::flags))]
 #[inline(always)]
 fn flags(alloc: Global, i: &[u8]) -> IResult<&[u8], MailboxDatum<'_>>
-    ensures { Gives (λ x. mailbox_value x) result (step rules.flags i.now) }
+    ensures { Steps rules.flags datum_value i.now result }
 {
     worded!(i: b"FLAGS ", flag_list(alloc) => MailboxDatum::Flags)
 }
@@ -27,7 +26,7 @@ fn flags(alloc: Global, i: &[u8]) -> IResult<&[u8], MailboxDatum<'_>>
 #[tactic(auto, unfolding(crate::specs::MailboxData::list))]
 #[inline(always)]
 fn list(alloc: Global, i: &[u8]) -> IResult<&[u8], MailboxDatum<'_>>
-    ensures { Gives (λ x. mailbox_value x) result (step rules.list i.now) }
+    ensures { Steps rules.list datum_value i.now result }
 {
     worded!(i: b"LIST ", list_data(alloc) => MailboxDatum::List)
 }
@@ -35,7 +34,7 @@ fn list(alloc: Global, i: &[u8]) -> IResult<&[u8], MailboxDatum<'_>>
 #[tactic(auto, unfolding(crate::specs::MailboxData::lsub))]
 #[inline(always)]
 fn lsub(alloc: Global, i: &[u8]) -> IResult<&[u8], MailboxDatum<'_>>
-    ensures { Gives (λ x. mailbox_value x) result (step rules.lsub i.now) }
+    ensures { Steps rules.lsub datum_value i.now result }
 {
     worded!(i: b"LSUB ", list_data(alloc) => MailboxDatum::List)
 }
@@ -43,7 +42,7 @@ fn lsub(alloc: Global, i: &[u8]) -> IResult<&[u8], MailboxDatum<'_>>
 #[tactic(auto, unfolding(crate::specs::MailboxData::status))]
 #[inline(always)]
 fn status(alloc: Global, i: &[u8]) -> IResult<&[u8], MailboxDatum<'_>>
-    ensures { Gives (λ x. mailbox_value x) result (step rules.status i.now) }
+    ensures { Steps rules.status datum_value i.now result }
 {
     let (rest, _) = word(b"STATUS ", i)?;
     let (rest, mailbox) = mailbox(alloc, rest)?;
@@ -55,7 +54,7 @@ fn status(alloc: Global, i: &[u8]) -> IResult<&[u8], MailboxDatum<'_>>
 #[tactic(auto, unfolding(crate::specs::MailboxData::search))]
 #[inline(always)]
 fn search(alloc: Global, i: &[u8]) -> IResult<&[u8], MailboxDatum<'_>>
-    ensures { Gives (λ x. mailbox_value x) result (step rules.search i.now) }
+    ensures { Steps rules.search datum_value i.now result }
 {
     worded!(i: b"SEARCH", found_numbers(alloc) => MailboxDatum::Search)
 }
@@ -63,7 +62,7 @@ fn search(alloc: Global, i: &[u8]) -> IResult<&[u8], MailboxDatum<'_>>
 #[tactic(auto, unfolding(crate::specs::MailboxData::labels))]
 #[inline(always)]
 fn labels(alloc: Global, i: &[u8]) -> IResult<&[u8], MailboxDatum<'_>>
-    ensures steps { Gives (λ x. mailbox_value x) result (step rules.labels i.now) }
+    ensures steps { Steps rules.labels datum_value i.now result }
     ensures memory { FailsOnlyIf (BeginsWord "X-GM-LABELS " i.now) result }
 {
     let (rest, labels) = gmail_label_list(alloc, i)?;
@@ -73,7 +72,7 @@ fn labels(alloc: Global, i: &[u8]) -> IResult<&[u8], MailboxDatum<'_>>
 #[tactic(auto, unfolding(crate::specs::MailboxData::msgid))]
 #[inline(always)]
 fn msgid(i: &[u8]) -> IResult<&[u8], MailboxDatum<'_>>
-    ensures { Exactly (λ x. mailbox_value x) result (step rules.msgid i.now) }
+    ensures { StepsExactly rules.msgid datum_value i.now result }
 {
     let (rest, number) = gmail_msgid(i)?;
     Ok((rest, MailboxDatum::GmailMsgId(number)))
@@ -82,7 +81,7 @@ fn msgid(i: &[u8]) -> IResult<&[u8], MailboxDatum<'_>>
 #[tactic(auto, unfolding(crate::specs::MailboxData::thrid))]
 #[inline(always)]
 fn thrid(i: &[u8]) -> IResult<&[u8], MailboxDatum<'_>>
-    ensures { Exactly (λ x. mailbox_value x) result (step rules.thrid i.now) }
+    ensures { StepsExactly rules.thrid datum_value i.now result }
 {
     let (rest, number) = gmail_thrid(i)?;
     Ok((rest, MailboxDatum::GmailThrId(number)))
@@ -91,7 +90,7 @@ fn thrid(i: &[u8]) -> IResult<&[u8], MailboxDatum<'_>>
 #[tactic(auto, unfolding(crate::specs::MailboxData::sort))]
 #[inline(always)]
 fn sort(alloc: Global, i: &[u8]) -> IResult<&[u8], MailboxDatum<'_>>
-    ensures { Gives (λ x. mailbox_value x) result (step rules.sort i.now) }
+    ensures { Steps rules.sort datum_value i.now result }
 {
     worded!(i: b"SORT", found_numbers(alloc) => MailboxDatum::Sort)
 }
@@ -100,7 +99,7 @@ fn sort(alloc: Global, i: &[u8]) -> IResult<&[u8], MailboxDatum<'_>>
 #[tactic(auto, unfolding(crate::specs::MailboxData::datum_of_number, crate::specs::MailboxData::exists, crate::specs::MailboxData::recent))]
 #[inline(always)]
 fn datum_of_number(i: &[u8]) -> IResult<&[u8], MailboxDatum<'_>>
-    ensures { Exactly (λ x. mailbox_value x) result (step rules.datum_of_number i.now) }
+    ensures { StepsExactly rules.datum_of_number datum_value i.now result }
 {
     let (rest, count) = number(i)?;
     named!(b" EXISTS", rest, MailboxDatum::Exists(count));
@@ -115,8 +114,8 @@ fn datum_of_number(i: &[u8]) -> IResult<&[u8], MailboxDatum<'_>>
 #[tactic(auto, using(imap_grammar::proofs::Agreement::answered), unfolding(crate::specs::MailboxData::list_or_lsub))]
 #[inline(always)]
 pub fn list_or_lsub(alloc: Global, i: &[u8]) -> IResult<&[u8], MailboxDatum<'_>>
-    ensures steps { Gives (λ x. mailbox_value x) result (step rules.list_or_lsub i.now) }
-    ensures answer { Answers rules.list_or_lsub (λ x. mailbox_value x) i.now result }
+    ensures steps { Steps rules.list_or_lsub datum_value i.now result }
+    ensures answer { Answers rules.list_or_lsub datum_value i.now result }
 {
     first!(list(alloc, i));
     lsub(alloc, i)
@@ -125,7 +124,7 @@ pub fn list_or_lsub(alloc: Global, i: &[u8]) -> IResult<&[u8], MailboxDatum<'_>>
 #[tactic(auto, unfolding(crate::specs::MailboxData::datum_of_s))]
 #[inline(always)]
 fn datum_of_s(alloc: Global, i: &[u8]) -> IResult<&[u8], MailboxDatum<'_>>
-    ensures { Gives (λ x. mailbox_value x) result (step rules.datum_of_s i.now) }
+    ensures { Steps rules.datum_of_s datum_value i.now result }
 {
     first!(status(alloc, i));
     first!(search(alloc, i));
@@ -135,7 +134,7 @@ fn datum_of_s(alloc: Global, i: &[u8]) -> IResult<&[u8], MailboxDatum<'_>>
 #[tactic(auto, using(imap_grammar::proofs::Memory::never_memory), unfolding(crate::specs::MailboxData::datum_of_x))]
 #[inline(always)]
 fn datum_of_x(alloc: Global, i: &[u8]) -> IResult<&[u8], MailboxDatum<'_>>
-    ensures steps { Gives (λ x. mailbox_value x) result (step rules.datum_of_x i.now) }
+    ensures steps { Steps rules.datum_of_x datum_value i.now result }
     ensures memory { FailsOnlyIf (BeginsWord "X-GM-LABELS " i.now) result }
 {
     first!(labels(alloc, i));
@@ -147,7 +146,7 @@ fn datum_of_x(alloc: Global, i: &[u8]) -> IResult<&[u8], MailboxDatum<'_>>
 #[tactic(auto, using(crate::proofs::FirstBytes::datum_none, crate::proofs::FirstBytes::datum_is_flags, crate::proofs::FirstBytes::datum_is_list_or_lsub, crate::proofs::FirstBytes::datum_is_of_s, crate::proofs::FirstBytes::datum_is_of_x, crate::proofs::FirstBytes::datum_is_of_number, crate::proofs::FirstBytes::datum_other))]
 #[inline(always)]
 fn datum(alloc: Global, i: &[u8]) -> IResult<&[u8], MailboxDatum<'_>>
-    ensures steps { Gives (λ x. mailbox_value x) result (step rules.mailbox_datum i.now) }
+    ensures steps { Steps rules.mailbox_datum datum_value i.now result }
     ensures memory { SucceedsFor IsNumber rules.mailbox_datum i.now result }
 {
     match i.first() {
@@ -169,8 +168,8 @@ fn datum(alloc: Global, i: &[u8]) -> IResult<&[u8], MailboxDatum<'_>>
 #[tactic(auto, using(imap_grammar::proofs::Agreement::answered))]
 #[inline(always)]
 pub fn mailbox_datum(alloc: Global, i: &[u8]) -> IResult<&[u8], MailboxDatum<'_>>
-    ensures steps { Gives (λ x. mailbox_value x) result (step rules.mailbox_datum i.now) }
-    ensures answer { Answers rules.mailbox_datum (λ x. mailbox_value x) i.now result }
+    ensures steps { Steps rules.mailbox_datum datum_value i.now result }
+    ensures answer { Answers rules.mailbox_datum datum_value i.now result }
     ensures memory { SucceedsFor IsNumber rules.mailbox_datum i.now result }
 {
     datum(alloc, i)

@@ -2,8 +2,7 @@
 
 ghost use Rattle.std.specs.Prelude.{◌≡◌, map, slice_get};
 ghost use Rattle.std.specs.Option.{option_map, option_copied};
-ghost use Rattle.imap_grammar.specs.Answer.{Exactly, Gives};
-ghost use Rattle.imap_grammar.specs.Step.{step};
+ghost use Rattle.imap_grammar.specs.Answer.{Steps, StepsExactly};
 ghost use Rattle.imap_grammar.specs.Text.{text_of};
 ghost use Rattle.imap_data.specs.NameGroups as groups;
 ghost use Rattle.imap_data.specs.Names as names;
@@ -19,7 +18,7 @@ use std::borrow::CowStr;
 
 #[tactic(auto, unfolding(crate::specs::NameGroups::extension))]
 fn extension(i: &[u8]) -> IResult<&[u8], NameAttribute<'_>>
-    ensures { Exactly (λ x. attribute_value x) result (step groups.extension i.now) }
+    ensures { StepsExactly groups.extension attribute_value i.now result }
 {
     let (rest, text) = backslashed_text(i)?;
     Ok((rest, NameAttribute::Extension(CowStr::Borrowed(text))))
@@ -27,7 +26,7 @@ fn extension(i: &[u8]) -> IResult<&[u8], NameAttribute<'_>>
 
 #[tactic(auto, unfolding(crate::specs::NameGroups::attribute_of_n))]
 fn attribute_of_n(i: &[u8]) -> IResult<&[u8], NameAttribute<'_>>
-    ensures { Exactly (λ x. attribute_value x) result (step groups.attribute_of_n i.now) }
+    ensures { StepsExactly groups.attribute_of_n attribute_value i.now result }
 {
     named!(b"\\Noinferiors", i, NameAttribute::NoInferiors);
     named!(b"\\Noselect", i, NameAttribute::NoSelect);
@@ -36,7 +35,7 @@ fn attribute_of_n(i: &[u8]) -> IResult<&[u8], NameAttribute<'_>>
 
 #[tactic(auto, unfolding(crate::specs::NameGroups::attribute_of_m_u))]
 fn attribute_of_m_u(i: &[u8]) -> IResult<&[u8], NameAttribute<'_>>
-    ensures { Exactly (λ x. attribute_value x) result (step groups.attribute_of_m_u i.now) }
+    ensures { StepsExactly groups.attribute_of_m_u attribute_value i.now result }
 {
     named!(b"\\Marked", i, NameAttribute::Marked);
     named!(b"\\Unmarked", i, NameAttribute::Unmarked);
@@ -45,7 +44,7 @@ fn attribute_of_m_u(i: &[u8]) -> IResult<&[u8], NameAttribute<'_>>
 
 #[tactic(auto, unfolding(crate::specs::NameGroups::attribute_of_a))]
 fn attribute_of_a(i: &[u8]) -> IResult<&[u8], NameAttribute<'_>>
-    ensures { Exactly (λ x. attribute_value x) result (step groups.attribute_of_a i.now) }
+    ensures { StepsExactly groups.attribute_of_a attribute_value i.now result }
 {
     named!(b"\\All", i, NameAttribute::All);
     named!(b"\\Archive", i, NameAttribute::Archive);
@@ -54,7 +53,7 @@ fn attribute_of_a(i: &[u8]) -> IResult<&[u8], NameAttribute<'_>>
 
 #[tactic(auto, unfolding(crate::specs::NameGroups::attribute_of_d_f_j))]
 fn attribute_of_d_f_j(i: &[u8]) -> IResult<&[u8], NameAttribute<'_>>
-    ensures { Exactly (λ x. attribute_value x) result (step groups.attribute_of_d_f_j i.now) }
+    ensures { StepsExactly groups.attribute_of_d_f_j attribute_value i.now result }
 {
     named!(b"\\Drafts", i, NameAttribute::Drafts);
     named!(b"\\Flagged", i, NameAttribute::Flagged);
@@ -64,7 +63,7 @@ fn attribute_of_d_f_j(i: &[u8]) -> IResult<&[u8], NameAttribute<'_>>
 
 #[tactic(auto, unfolding(crate::specs::NameGroups::attribute_of_s_t))]
 fn attribute_of_s_t(i: &[u8]) -> IResult<&[u8], NameAttribute<'_>>
-    ensures { Exactly (λ x. attribute_value x) result (step groups.attribute_of_s_t i.now) }
+    ensures { StepsExactly groups.attribute_of_s_t attribute_value i.now result }
 {
     named!(b"\\Sent", i, NameAttribute::Sent);
     named!(b"\\Trash", i, NameAttribute::Trash);
@@ -84,7 +83,7 @@ fn second(i: &[u8]) -> Option<&u8>
 /// All begin with a backslash, so the byte behind it tells which are tried.
 #[tactic(auto, using(crate::proofs::SecondBytes::attribute_alone, crate::proofs::SecondBytes::attribute_is_of_n, crate::proofs::SecondBytes::attribute_is_of_m_u, crate::proofs::SecondBytes::attribute_is_of_a, crate::proofs::SecondBytes::attribute_is_of_d_f_j, crate::proofs::SecondBytes::attribute_is_of_s_t, crate::proofs::SecondBytes::attribute_is_other))]
 pub(crate) fn name_attribute(i: &[u8]) -> IResult<&[u8], NameAttribute<'_>>
-    ensures { Exactly (λ x. attribute_value x) result (step names.name_attribute i.now) }
+    ensures { StepsExactly names.name_attribute attribute_value i.now result }
 {
     match second(i) {
         None => extension(i),
@@ -98,13 +97,13 @@ pub(crate) fn name_attribute(i: &[u8]) -> IResult<&[u8], NameAttribute<'_>>
 }
 
 fn name_attributes(alloc: Global, i: &[u8]) -> IResult<&[u8], Vec<NameAttribute<'_>>>
-    ensures { Gives (λ x. map attribute_value x.items) result (step names.name_attributes i.now) }
+    ensures { Steps names.name_attributes (λ x. map attribute_value x.items) i.now result }
 {
     parenthesized_list(alloc, name_attribute, i)
 }
 
 fn some_delimiter(alloc: Global, i: &[u8]) -> IResult<&[u8], Option<CowStr<'_>>>
-    ensures { Gives (λ x. option_map text_of x) result (step names.some_delimiter i.now) }
+    ensures { Steps names.some_delimiter (option_map text_of) i.now result }
 {
     let (rest, text) = quoted_utf8(alloc, i)?;
     Ok((rest, Some(text)))
@@ -113,7 +112,7 @@ fn some_delimiter(alloc: Global, i: &[u8]) -> IResult<&[u8], Option<CowStr<'_>>>
 // The hierarchy delimiter, `None` for NIL.
 #[tactic(auto, unfolding(crate::specs::Names::delimiter))]
 fn delimiter(alloc: Global, i: &[u8]) -> IResult<&[u8], Option<CowStr<'_>>>
-    ensures { Gives (λ x. option_map text_of x) result (step names.delimiter i.now) }
+    ensures { Steps names.delimiter (option_map text_of) i.now result }
 {
     first!(some_delimiter(alloc, i));
     let (rest, _) = nil(i)?;
@@ -124,7 +123,7 @@ fn delimiter(alloc: Global, i: &[u8]) -> IResult<&[u8], Option<CowStr<'_>>>
 #[tactic(auto, unfolding(crate::specs::Names::list_data))]
 #[inline(always)]
 pub(crate) fn list_data(alloc: Global, i: &[u8]) -> IResult<&[u8], MailboxListData<'_>>
-    ensures { Gives (λ x. list_value x) result (step names.list_data i.now) }
+    ensures { Steps names.list_data list_value i.now result }
 {
     let (rest, name_attributes) = name_attributes(alloc, i)?;
     let (rest, _) = tag(b" ", rest)?;

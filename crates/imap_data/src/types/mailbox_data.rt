@@ -1,8 +1,8 @@
 //! Data of a mailbox.
 
 ghost use Rattle.std.specs.Prelude.{◌≡◌, IfOk, IsOk};
-ghost use Rattle.imap_data.specs.MailboxValues.{mailbox_value, IsNumber};
-ghost use Rattle.imap_data.specs.Owned.{owned_mailbox};
+ghost use Rattle.imap_data.specs.DatumValues.{datum_value, IsNumber};
+ghost use Rattle.imap_data.specs.Owned.{owned_datum};
 
 use super::counts::StatusAttribute;
 use super::names::MailboxListData;
@@ -71,8 +71,8 @@ fn copied_items(items: &Vec<StatusAttribute>) -> Result<Vec<StatusAttribute>, Al
 impl<'a> MailboxDatum<'a> {
     /// A copy. It takes memory for lists and for owned texts; `Err`: memory ran out.
     pub fn clone(&self) -> Result<Self, AllocError>
-        ensures same { IfOk result (λ c. mailbox_value c ≡ mailbox_value self.now) }
-        ensures memory { IsNumber (mailbox_value self.now) → IsOk result }
+        ensures same { IfOk result (λ c. datum_value c ≡ datum_value self.now) }
+        ensures memory { IsNumber (datum_value self.now) → IsOk result }
     {
         Ok(match self {
             MailboxDatum::Exists(count) => MailboxDatum::Exists(*count),
@@ -106,7 +106,7 @@ impl<'a> MailboxDatum<'a> {
     /// The same data with all texts owned. It takes memory for lists of texts and of attributes, and for borrowed
     /// texts; `Err`: memory ran out.
     pub fn into_owned(self, alloc: Global) -> Result<MailboxDatum<'static>, AllocError>
-        ensures { IfOk result (λ d. mailbox_value d ≡ owned_mailbox (mailbox_value self.entry)) }
+        ensures { IfOk result (λ d. datum_value d ≡ owned_datum (datum_value self.entry)) }
     {
         Ok(match self {
             MailboxDatum::Exists(count) => MailboxDatum::Exists(count),

@@ -2,11 +2,10 @@
 
 ghost use Rattle.std.specs.Prelude.{◌≡◌, ◌==◌, ◌≤◌, length, drop, map};
 ghost use Rattle.std.specs.Option.{option_map};
-ghost use Rattle.imap_grammar.specs.Positions.{ExactlyAt, GivesAt, Ahead, named_in};
+ghost use Rattle.imap_grammar.specs.Positions.{Ahead, named_in, StepsAt, StepsExactlyAt};
 ghost use Rattle.imap_grammar.specs.Ascii.{open_parenthesis};
 ghost use Rattle.imap_grammar.specs.Meaning.{begins};
 ghost use Rattle.imap_grammar.specs.Memory.{NeverFails};
-ghost use Rattle.imap_grammar.specs.Step.{step};
 ghost use Rattle.imap_envelopes.specs.Envelopes as envelopes;
 ghost use Rattle.imap_envelopes.specs.Envelopes.{spaced, last_fields_seen};
 ghost use Rattle.imap_shapes.specs.EnvelopeValues.{address_seen, addresses_seen, envelope_seen};
@@ -16,10 +15,10 @@ use crate::Keep;
 use crate::at::lists::ROOM;
 use crate::at::texts::{byte_string, spaced_byte_string};
 use crate::kept::kept_bytes;
+use imap_bytes::Err;
 use imap_bytes::at::Reached;
 use imap_bytes::at::strings::nil;
-use imap_bytes::at::tags::tag;
-use imap_bytes::{Err, first};
+use imap_bytes::at::tags::{maybe_space, tag};
 use imap_shapes::shapes::envelopes::{Address, Envelope};
 use std::alloc::Global;
 
@@ -38,10 +37,10 @@ struct LastFields<B> {
 fn kept_string<K: Keep>(keep: &K, m: &[u8], p: usize) -> Reached<Option<K::Bytes>>
     requires start { p ≤ length m.now }
     requires serves { K.serves keep.now m.now }
-    ensures steps { ExactlyAt (λ x. option_map (K.bytes_said (named_in m.now)) x) m.now result
-        (step envelopes.byte_string (drop p m.now)) }
+    ensures steps { StepsExactlyAt envelopes.byte_string
+        (option_map (K.bytes_said (named_in m.now))) m.now p result }
     ensures ahead { Ahead m.now p result }
-    ensures rests { RestsOn (λ n x. option_map (K.bytes_said n) x) result }
+    ensures rests { RestsOn (λ n. option_map (K.bytes_said n)) result }
     ensures no_failure { NeverFails result }
 {
     let (q, bytes) = byte_string(m, p)?;
@@ -53,10 +52,10 @@ fn kept_string<K: Keep>(keep: &K, m: &[u8], p: usize) -> Reached<Option<K::Bytes
 fn spaced_string<K: Keep>(keep: &K, m: &[u8], p: usize) -> Reached<Option<K::Bytes>>
     requires start { p ≤ length m.now }
     requires serves { K.serves keep.now m.now }
-    ensures steps { ExactlyAt (λ x. option_map (K.bytes_said (named_in m.now)) x) m.now result
-        (step (spaced envelopes.byte_string) (drop p m.now)) }
+    ensures steps { StepsExactlyAt (spaced envelopes.byte_string)
+        (option_map (K.bytes_said (named_in m.now))) m.now p result }
     ensures ahead { Ahead m.now p result }
-    ensures rests { RestsOn (λ n x. option_map (K.bytes_said n) x) result }
+    ensures rests { RestsOn (λ n. option_map (K.bytes_said n)) result }
     ensures no_failure { NeverFails result }
 {
     let (q, bytes) = spaced_byte_string(m, p)?;
@@ -68,10 +67,10 @@ fn spaced_string<K: Keep>(keep: &K, m: &[u8], p: usize) -> Reached<Option<K::Byt
 pub fn address<K: Keep>(keep: &K, m: &[u8], p: usize) -> Reached<Address<K::Bytes>>
     requires start { p ≤ length m.now }
     requires serves { K.serves keep.now m.now }
-    ensures steps { ExactlyAt (λ x. address_seen (K.bytes_said (named_in m.now)) x) m.now result
-        (step envelopes.address (drop p m.now)) }
+    ensures steps { StepsExactlyAt envelopes.address (address_seen (K.bytes_said (named_in m.now)))
+        m.now p result }
     ensures ahead { Ahead m.now p result }
-    ensures rests { RestsOn (λ n x. address_seen (K.bytes_said n) x) result }
+    ensures rests { RestsOn (λ n. address_seen (K.bytes_said n)) result }
     ensures no_failure { NeverFails result }
 {
     let (p, _) = tag(b"(", m, p)?;
@@ -96,13 +95,13 @@ pub fn address<K: Keep>(keep: &K, m: &[u8], p: usize) -> Reached<Address<K::Byte
 fn listed_address<K: Keep>(keep: &K, m: &[u8], p: usize) -> Reached<Address<K::Bytes>>
     requires start { p ≤ length m.now }
     requires serves { K.serves keep.now m.now }
-    ensures steps { ExactlyAt (λ x. address_seen (K.bytes_said (named_in m.now)) x) m.now result
-        (step envelopes.listed_address (drop p m.now)) }
+    ensures steps { StepsExactlyAt envelopes.listed_address
+        (address_seen (K.bytes_said (named_in m.now))) m.now p result }
     ensures ahead { Ahead m.now p result }
-    ensures rests { RestsOn (λ n x. address_seen (K.bytes_said n) x) result }
+    ensures rests { RestsOn (λ n. address_seen (K.bytes_said n)) result }
 {
     let (q, address) = address(keep, m, p)?;
-    first!(tag(b" ", m, q), _ => address);
+    let (q, _) = maybe_space(m, q)?;
     Ok((q, address))
 }
 
@@ -115,8 +114,8 @@ fn some_addresses<K: Keep>(
 ) -> Reached<Vec<Address<K::Bytes>>>
     requires start { p ≤ length m.now }
     requires serves { K.serves keep.now m.now }
-    ensures steps { GivesAt (λ x. map (address_seen (K.bytes_said (named_in m.now))) x.items) m.now
-        result (step envelopes.some_addresses (drop p m.now)) }
+    ensures steps { StepsAt envelopes.some_addresses
+        (λ x. map (address_seen (K.bytes_said (named_in m.now))) x.items) m.now p result }
     ensures ahead { Ahead m.now p result }
     ensures rests { RestsOn (λ n x. map (address_seen (K.bytes_said n)) x.items) result }
 {
@@ -160,10 +159,10 @@ fn addresses<K: Keep>(
 ) -> Reached<Option<Vec<Address<K::Bytes>>>>
     requires start { p ≤ length m.now }
     requires serves { K.serves keep.now m.now }
-    ensures steps { GivesAt (λ x. addresses_seen (K.bytes_said (named_in m.now)) x) m.now result
-        (step envelopes.addresses (drop p m.now)) }
+    ensures steps { StepsAt envelopes.addresses (addresses_seen (K.bytes_said (named_in m.now)))
+        m.now p result }
     ensures ahead { Ahead m.now p result }
-    ensures rests { RestsOn (λ n x. addresses_seen (K.bytes_said n) x) result }
+    ensures rests { RestsOn (λ n. addresses_seen (K.bytes_said n)) result }
 {
     if !list_opens(m, p) {
         let (q, _) = nil(m, p)?;
@@ -183,10 +182,10 @@ fn spaced_addresses<K: Keep>(
 ) -> Reached<Option<Vec<Address<K::Bytes>>>>
     requires start { p ≤ length m.now }
     requires serves { K.serves keep.now m.now }
-    ensures steps { GivesAt (λ x. addresses_seen (K.bytes_said (named_in m.now)) x) m.now result
-        (step (spaced envelopes.addresses) (drop p m.now)) }
+    ensures steps { StepsAt (spaced envelopes.addresses)
+        (addresses_seen (K.bytes_said (named_in m.now))) m.now p result }
     ensures ahead { Ahead m.now p result }
-    ensures rests { RestsOn (λ n x. addresses_seen (K.bytes_said n) x) result }
+    ensures rests { RestsOn (λ n. addresses_seen (K.bytes_said n)) result }
 {
     let (p, _) = tag(b" ", m, p)?;
     addresses(keep, alloc, m, p)
@@ -204,10 +203,10 @@ fn last_fields<K: Keep>(
 ) -> Reached<LastFields<K::Bytes>>
     requires start { p ≤ length m.now }
     requires serves { K.serves keep.now m.now }
-    ensures steps { GivesAt (λ x. last_fields_seen (K.bytes_said (named_in m.now)) x) m.now result
-        (step envelopes.last_fields (drop p m.now)) }
+    ensures steps { StepsAt envelopes.last_fields (last_fields_seen (K.bytes_said (named_in m.now)))
+        m.now p result }
     ensures ahead { Ahead m.now p result }
-    ensures rests { RestsOn (λ n x. last_fields_seen (K.bytes_said n) x) result }
+    ensures rests { RestsOn (λ n. last_fields_seen (K.bytes_said n)) result }
 {
     let (p, to) = spaced_addresses(keep, alloc, m, p)?;
     let (p, cc) = spaced_addresses(keep, alloc, m, p)?;
@@ -232,10 +231,10 @@ fn last_fields<K: Keep>(
 pub fn envelope<K: Keep>(keep: &K, alloc: Global, m: &[u8], p: usize) -> Reached<Envelope<K::Bytes>>
     requires start { p ≤ length m.now }
     requires serves { K.serves keep.now m.now }
-    ensures steps { GivesAt (λ x. envelope_seen (K.bytes_said (named_in m.now)) x) m.now result
-        (step envelopes.envelope (drop p m.now)) }
+    ensures steps { StepsAt envelopes.envelope (envelope_seen (K.bytes_said (named_in m.now))) m.now
+        p result }
     ensures ahead { Ahead m.now p result }
-    ensures rests { RestsOn (λ n x. envelope_seen (K.bytes_said n) x) result }
+    ensures rests { RestsOn (λ n. envelope_seen (K.bytes_said n)) result }
 {
     let (p, _) = tag(b"(", m, p)?;
     let (p, date) = kept_string(keep, m, p)?;

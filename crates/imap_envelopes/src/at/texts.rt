@@ -1,9 +1,8 @@
 //! Strings at a position, each as a byte string or as a text to be decoded. None takes memory.
 
-ghost use Rattle.std.specs.Prelude.{◌≤◌, length, drop};
-ghost use Rattle.imap_grammar.specs.Positions.{ExactlyAt, Ahead, MaybeInside, named_in};
+ghost use Rattle.std.specs.Prelude.{◌≤◌, length};
+ghost use Rattle.imap_grammar.specs.Positions.{Ahead, MaybeInside, named_in, StepsExactlyAt};
 ghost use Rattle.imap_grammar.specs.Memory.{NeverFails};
-ghost use Rattle.imap_grammar.specs.Step.{step};
 ghost use Rattle.imap_bytes.specs.Numbers as numbers;
 ghost use Rattle.imap_bytes.specs.Texts as texts;
 ghost use Rattle.imap_envelopes.specs.Envelopes as envelopes;
@@ -23,8 +22,8 @@ use imap_shapes::spans::{Span, SpannedText};
 #[inline(always)]
 pub fn byte_string(m: &[u8], p: usize) -> Reached<Option<Span>>
     requires { p ≤ length m.now }
-    ensures steps { ExactlyAt (λ x. maybe_bytes_in (named_in m.now) x) m.now result
-        (step envelopes.byte_string (drop p m.now)) }
+    ensures steps { StepsExactlyAt envelopes.byte_string (maybe_bytes_in (named_in m.now)) m.now p
+        result }
     ensures ahead { Ahead m.now p result }
     ensures inside { MaybeInside p result }
     ensures rests { RestsOn maybe_bytes_in result }
@@ -38,8 +37,8 @@ pub fn byte_string(m: &[u8], p: usize) -> Reached<Option<Span>>
 #[inline(always)]
 pub fn spaced_byte_string(m: &[u8], p: usize) -> Reached<Option<Span>>
     requires { p ≤ length m.now }
-    ensures steps { ExactlyAt (λ x. maybe_bytes_in (named_in m.now) x) m.now result
-        (step (spaced envelopes.byte_string) (drop p m.now)) }
+    ensures steps { StepsExactlyAt (spaced envelopes.byte_string) (maybe_bytes_in (named_in m.now))
+        m.now p result }
     ensures ahead { Ahead m.now p result }
     ensures inside { MaybeInside p result }
     ensures rests { RestsOn maybe_bytes_in result }
@@ -54,8 +53,7 @@ pub fn spaced_byte_string(m: &[u8], p: usize) -> Reached<Option<Span>>
 #[inline(always)]
 pub fn string_text(m: &[u8], p: usize) -> Reached<SpannedText>
     requires { p ≤ length m.now }
-    ensures steps { ExactlyAt (λ x. text_in (named_in m.now) x) m.now result
-        (step texts.string_utf8 (drop p m.now)) }
+    ensures steps { StepsExactlyAt texts.string_utf8 (text_in (named_in m.now)) m.now p result }
     ensures ahead { Ahead m.now p result }
     ensures rests { RestsOn text_in result }
     ensures no_failure { NeverFails result }
@@ -68,8 +66,8 @@ pub fn string_text(m: &[u8], p: usize) -> Reached<SpannedText>
 #[inline(always)]
 pub fn spaced_string_text(m: &[u8], p: usize) -> Reached<SpannedText>
     requires { p ≤ length m.now }
-    ensures steps { ExactlyAt (λ x. text_in (named_in m.now) x) m.now result
-        (step (spaced texts.string_utf8) (drop p m.now)) }
+    ensures steps { StepsExactlyAt (spaced texts.string_utf8) (text_in (named_in m.now)) m.now p
+        result }
     ensures ahead { Ahead m.now p result }
     ensures rests { RestsOn text_in result }
     ensures no_failure { NeverFails result }
@@ -83,8 +81,8 @@ pub fn spaced_string_text(m: &[u8], p: usize) -> Reached<SpannedText>
 #[tactic(auto, unfolding(imap_bytes::specs::Texts::nstring_utf8))]
 pub fn nstring_text(m: &[u8], p: usize) -> Reached<Option<SpannedText>>
     requires { p ≤ length m.now }
-    ensures steps { ExactlyAt (λ x. maybe_text_in (named_in m.now) x) m.now result
-        (step texts.nstring_utf8 (drop p m.now)) }
+    ensures steps { StepsExactlyAt texts.nstring_utf8 (maybe_text_in (named_in m.now)) m.now p
+        result }
     ensures ahead { Ahead m.now p result }
     ensures rests { RestsOn maybe_text_in result }
     ensures no_failure { NeverFails result }
@@ -98,8 +96,8 @@ pub fn nstring_text(m: &[u8], p: usize) -> Reached<Option<SpannedText>>
 #[inline(always)]
 pub fn spaced_nstring_text(m: &[u8], p: usize) -> Reached<Option<SpannedText>>
     requires { p ≤ length m.now }
-    ensures steps { ExactlyAt (λ x. maybe_text_in (named_in m.now) x) m.now result
-        (step (spaced texts.nstring_utf8) (drop p m.now)) }
+    ensures steps { StepsExactlyAt (spaced texts.nstring_utf8) (maybe_text_in (named_in m.now))
+        m.now p result }
     ensures ahead { Ahead m.now p result }
     ensures rests { RestsOn maybe_text_in result }
     ensures no_failure { NeverFails result }
@@ -112,7 +110,7 @@ pub fn spaced_nstring_text(m: &[u8], p: usize) -> Reached<Option<SpannedText>>
 #[inline(always)]
 pub fn spaced_number(m: &[u8], p: usize) -> Reached<u32>
     requires { p ≤ length m.now }
-    ensures steps { ExactlyAt (λ x. x) m.now result (step (spaced numbers.number) (drop p m.now)) }
+    ensures steps { StepsExactlyAt (spaced numbers.number) (λ x. x) m.now p result }
     ensures ahead { Ahead m.now p result }
     ensures no_failure { NeverFails result }
 {

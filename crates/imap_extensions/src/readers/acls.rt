@@ -1,8 +1,7 @@
 //! Access control lists.
 
 ghost use Rattle.std.specs.Prelude.{◌≡◌, map, IfOk};
-ghost use Rattle.imap_grammar.specs.Answer.{Answers, Gives};
-ghost use Rattle.imap_grammar.specs.Step.{step};
+ghost use Rattle.imap_grammar.specs.Answer.{Answers, Steps};
 ghost use Rattle.imap_items.specs.Rights as letters;
 ghost use Rattle.imap_extensions.specs.Acls as rules;
 ghost use Rattle.imap_extensions.specs.Acls.{acl_entry_value, acl_value, list_rights_value, my_rights_value};
@@ -19,7 +18,7 @@ use std::alloc::{AllocError, Global};
 /// An identifier and its rights.
 #[tactic(auto, unfolding(crate::specs::Acls::acl_entry))]
 pub(crate) fn acl_entry(alloc: Global, i: &[u8]) -> IResult<&[u8], AclEntry<'_>>
-    ensures { Gives (λ x. acl_entry_value x) result (step rules.acl_entry i.now) }
+    ensures { Steps rules.acl_entry acl_entry_value i.now result }
 {
     let (rest, identifier) = astring_utf8(alloc, i)?;
     let (rest, _) = blanks1(rest)?;
@@ -28,10 +27,10 @@ pub(crate) fn acl_entry(alloc: Global, i: &[u8]) -> IResult<&[u8], AclEntry<'_>>
 }
 
 fn acl_entries(alloc: Global, i: &[u8]) -> IResult<&[u8], Vec<AclEntry<'_>>>
-    ensures { Gives (λ x. map acl_entry_value x.items) result (step rules.acl_entries i.now) }
+    ensures { Steps rules.acl_entries (λ x. map acl_entry_value x.items) i.now result }
 {
     let entry = |i|
-        ensures { Gives (λ x. acl_entry_value x) result (step rules.acl_entry i.entry.now) }
+        ensures { Steps rules.acl_entry acl_entry_value i.entry.now result }
     { acl_entry(alloc, i) };
     maybe_separated(alloc, Separator::Blanks, entry, i)
 }
@@ -42,8 +41,8 @@ fn acl_entries(alloc: Global, i: &[u8]) -> IResult<&[u8], Vec<AclEntry<'_>>>
 /// them, and for texts that are not UTF-8.
 #[tactic(auto, using(imap_grammar::proofs::Agreement::answered), unfolding(crate::specs::Acls::acl))]
 pub fn acl(alloc: Global, i: &[u8]) -> IResult<&[u8], Acl<'_>>
-    ensures steps { Gives (λ x. acl_value x) result (step rules.acl i.now) }
-    ensures answer { Answers rules.acl (λ x. acl_value x) i.now result }
+    ensures steps { Steps rules.acl acl_value i.now result }
+    ensures answer { Answers rules.acl acl_value i.now result }
 {
     let (rest, _) = word(b"ACL", i)?;
     let (rest, _) = blanks1(rest)?;
@@ -54,11 +53,10 @@ pub fn acl(alloc: Global, i: &[u8]) -> IResult<&[u8], Acl<'_>>
 }
 
 fn right_groups(alloc: Global, i: &[u8]) -> IResult<&[u8], Vec<Vec<AclRight>>>
-    ensures { Gives (λ x. map (λ group. group.items) x.items) result
-        (step rules.right_groups i.now) }
+    ensures { Steps rules.right_groups (λ x. map (λ group. group.items) x.items) i.now result }
 {
     let group = |i|
-        ensures { Gives (λ x. x.items) result (step letters.rights i.entry.now) }
+        ensures { Steps letters.rights (λ x. x.items) i.entry.now result }
     { rights(alloc, i) };
     maybe_separated(alloc, Separator::Blanks, group, i)
 }
@@ -75,7 +73,7 @@ fn joined(alloc: Global, groups: Vec<Vec<AclRight>>) -> Result<Vec<AclRight>, Al
 
 #[tactic(auto, unfolding(crate::specs::Acls::optional_rights))]
 fn optional_rights(alloc: Global, i: &[u8]) -> IResult<&[u8], Vec<AclRight>>
-    ensures { Gives (λ x. x.items) result (step rules.optional_rights i.now) }
+    ensures { Steps rules.optional_rights (λ x. x.items) i.now result }
 {
     let (rest, _) = blanks0(i)?;
     let (rest, groups) = right_groups(alloc, rest)?;
@@ -84,7 +82,7 @@ fn optional_rights(alloc: Global, i: &[u8]) -> IResult<&[u8], Vec<AclRight>>
 
 #[tactic(auto, unfolding(crate::specs::Acls::list_rights))]
 fn list_rights_parts(alloc: Global, i: &[u8]) -> IResult<&[u8], ListRights<'_>>
-    ensures { Gives (λ x. list_rights_value x) result (step rules.list_rights i.now) }
+    ensures { Steps rules.list_rights list_rights_value i.now result }
 {
     let (rest, _) = word(b"LISTRIGHTS", i)?;
     let (rest, _) = blanks1(rest)?;
@@ -111,15 +109,15 @@ fn list_rights_parts(alloc: Global, i: &[u8]) -> IResult<&[u8], ListRights<'_>>
 /// Any other word, or a part that is missing, is `Error`. It takes memory for them, and for texts that are not UTF-8.
 #[tactic(auto, using(imap_grammar::proofs::Agreement::answered))]
 pub fn list_rights(alloc: Global, i: &[u8]) -> IResult<&[u8], ListRights<'_>>
-    ensures steps { Gives (λ x. list_rights_value x) result (step rules.list_rights i.now) }
-    ensures answer { Answers rules.list_rights (λ x. list_rights_value x) i.now result }
+    ensures steps { Steps rules.list_rights list_rights_value i.now result }
+    ensures answer { Answers rules.list_rights list_rights_value i.now result }
 {
     list_rights_parts(alloc, i)
 }
 
 #[tactic(auto, unfolding(crate::specs::Acls::my_rights))]
 fn my_rights_parts(alloc: Global, i: &[u8]) -> IResult<&[u8], MyRights<'_>>
-    ensures { Gives (λ x. my_rights_value x) result (step rules.my_rights i.now) }
+    ensures { Steps rules.my_rights my_rights_value i.now result }
 {
     let (rest, _) = word(b"MYRIGHTS", i)?;
     let (rest, _) = blanks1(rest)?;
@@ -134,8 +132,8 @@ fn my_rights_parts(alloc: Global, i: &[u8]) -> IResult<&[u8], MyRights<'_>>
 /// Any other word, or a part that is missing, is `Error`. It takes memory for them, and for texts that are not UTF-8.
 #[tactic(auto, using(imap_grammar::proofs::Agreement::answered))]
 pub fn my_rights(alloc: Global, i: &[u8]) -> IResult<&[u8], MyRights<'_>>
-    ensures steps { Gives (λ x. my_rights_value x) result (step rules.my_rights i.now) }
-    ensures answer { Answers rules.my_rights (λ x. my_rights_value x) i.now result }
+    ensures steps { Steps rules.my_rights my_rights_value i.now result }
+    ensures answer { Answers rules.my_rights my_rights_value i.now result }
 {
     my_rights_parts(alloc, i)
 }

@@ -3,8 +3,7 @@
 ghost use Rattle.std.specs.Prelude.{◌≡◌, map, option_map, IfOk};
 ghost use Rattle.std.specs.List.{list_all};
 ghost use Rattle.std.specs.String.{string_bytes};
-ghost use Rattle.imap_grammar.specs.Answer.{Answers, Exactly, Gives};
-ghost use Rattle.imap_grammar.specs.Step.{step};
+ghost use Rattle.imap_grammar.specs.Answer.{Answers, Steps, StepsExactly};
 ghost use Rattle.imap_grammar.specs.Text.{text_of};
 ghost use Rattle.imap_extensions.specs.Annotations as rules;
 ghost use Rattle.imap_extensions.specs.Annotations.{metadata_value};
@@ -124,7 +123,7 @@ fn is_entry_name(bytes: &[u8]) -> bool
 // An astring that is an entry's name.
 #[tactic(auto, unfolding(crate::specs::Annotations::entry))]
 fn entry(i: &[u8]) -> IResult<&[u8], &[u8]>
-    ensures { Exactly (λ x. x.now) result (step rules.entry i.now) }
+    ensures { StepsExactly rules.entry (λ x. x.now) i.now result }
 {
     let (rest, name) = astring(i)?;
     if !is_entry_name(name) {
@@ -136,7 +135,7 @@ fn entry(i: &[u8]) -> IResult<&[u8], &[u8]>
 // An entry's name as text; any other astring is denied.
 #[tactic(auto, unfolding(crate::specs::Annotations::entry_utf8))]
 fn entry_utf8(alloc: Global, i: &[u8]) -> IResult<&[u8], CowStr<'_>>
-    ensures { Gives (λ x. text_of x) result (step rules.entry_utf8 i.now) }
+    ensures { Steps rules.entry_utf8 text_of i.now result }
 {
     let (rest, name) = entry(i)?;
     Ok((rest, decode(alloc, name)?))
@@ -161,7 +160,7 @@ fn owned_value(alloc: Global, value: Option<CowStr<'_>>) -> Result<Option<String
 // An entry and its value, both owned.
 #[tactic(auto, unfolding(crate::specs::Annotations::annotation))]
 fn annotation(alloc: Global, i: &[u8]) -> IResult<&[u8], Metadata>
-    ensures { Gives (λ x. metadata_value x) result (step rules.annotation i.now) }
+    ensures { Steps rules.annotation metadata_value i.now result }
 {
     let (rest, entry) = entry_utf8(alloc, i)?;
     let (rest, _) = tag(b" ", rest)?;
@@ -173,7 +172,7 @@ fn annotation(alloc: Global, i: &[u8]) -> IResult<&[u8], Metadata>
 
 #[tactic(auto, unfolding(crate::specs::Annotations::metadata_mailbox))]
 fn metadata_mailbox_parts(alloc: Global, i: &[u8]) -> IResult<&[u8], CowStr<'_>>
-    ensures { Gives (λ x. text_of x) result (step rules.metadata_mailbox i.now) }
+    ensures { Steps rules.metadata_mailbox text_of i.now result }
 {
     let (rest, _) = word(b"METADATA ", i)?;
     let (rest, mailbox) = quoted_utf8(alloc, rest)?;
@@ -188,8 +187,8 @@ fn metadata_mailbox_parts(alloc: Global, i: &[u8]) -> IResult<&[u8], CowStr<'_>>
 /// is not UTF-8.
 #[tactic(auto, using(imap_grammar::proofs::Agreement::answered))]
 pub fn metadata_mailbox(alloc: Global, i: &[u8]) -> IResult<&[u8], CowStr<'_>>
-    ensures steps { Gives (λ x. text_of x) result (step rules.metadata_mailbox i.now) }
-    ensures answer { Answers rules.metadata_mailbox (λ x. text_of x) i.now result }
+    ensures steps { Steps rules.metadata_mailbox text_of i.now result }
+    ensures answer { Answers rules.metadata_mailbox text_of i.now result }
 {
     metadata_mailbox_parts(alloc, i)
 }
@@ -202,11 +201,11 @@ pub fn metadata_mailbox(alloc: Global, i: &[u8]) -> IResult<&[u8], CowStr<'_>>
 ///
 /// It takes memory for the list, and for each entry and value.
 pub fn annotations(alloc: Global, i: &[u8]) -> IResult<&[u8], Vec<Metadata>>
-    ensures steps { Gives (λ x. map metadata_value x.items) result (step rules.annotations i.now) }
+    ensures steps { Steps rules.annotations (λ x. map metadata_value x.items) i.now result }
     ensures answer { Answers rules.annotations (λ x. map metadata_value x.items) i.now result }
 {
     let item = |i|
-        ensures { Gives (λ x. metadata_value x) result (step rules.annotation i.entry.now) }
+        ensures { Steps rules.annotation metadata_value i.entry.now result }
     { annotation(alloc, i) };
     parenthesized_nonempty_list(alloc, item, i)
 }
@@ -216,11 +215,11 @@ pub fn annotations(alloc: Global, i: &[u8]) -> IResult<&[u8], Vec<Metadata>>
 /// It ends before a name that `annotations` denies, and before the space in front of that name. It takes memory for the
 /// list, and for texts that are not UTF-8.
 pub fn entries(alloc: Global, i: &[u8]) -> IResult<&[u8], Vec<CowStr<'_>>>
-    ensures steps { Gives (λ x. map text_of x.items) result (step rules.entries i.now) }
+    ensures steps { Steps rules.entries (λ x. map text_of x.items) i.now result }
     ensures answer { Answers rules.entries (λ x. map text_of x.items) i.now result }
 {
     let item = |i|
-        ensures { Gives (λ x. text_of x) result (step rules.entry_utf8 i.entry.now) }
+        ensures { Steps rules.entry_utf8 text_of i.entry.now result }
     { entry_utf8(alloc, i) };
     maybe_separated(alloc, Separator::Space, item, i)
 }

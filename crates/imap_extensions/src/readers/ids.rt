@@ -2,10 +2,9 @@
 
 ghost use Rattle.std.specs.FinMap.{empty};
 ghost use Rattle.std.specs.Prelude.{◌≡◌, Some, option_map, OnOk};
-ghost use Rattle.imap_grammar.specs.Answer.{Answers, Gives};
+ghost use Rattle.imap_grammar.specs.Answer.{Answers, Steps};
 ghost use Rattle.imap_grammar.specs.Memory.{BeginsWord, FailsOnlyIf, SucceedsFor};
 ghost use Rattle.imap_grammar.specs.Rule.{gives, opt};
-ghost use Rattle.imap_grammar.specs.Step.{step};
 ghost use Rattle.imap_extensions.specs.Ids as ids;
 ghost use Rattle.imap_extensions.specs.Ids.{id_value, pair_value, put_pair as put_value, map_of_pairs};
 
@@ -23,7 +22,7 @@ type IdPair<'a> = (CowStr<'a>, Option<CowStr<'a>>);
 #[tactic(auto, unfolding(crate::specs::Ids::id_pair))]
 #[inline(always)]
 fn id_pair(alloc: Global, i: &[u8]) -> IResult<&[u8], IdPair<'_>>
-    ensures { Gives pair_value result (step ids.id_pair i.now) }
+    ensures { Steps ids.id_pair pair_value i.now result }
 {
     let (rest, key) = string_utf8(alloc, i)?;
     let (rest, _) = blanks1(rest)?;
@@ -34,14 +33,14 @@ fn id_pair(alloc: Global, i: &[u8]) -> IResult<&[u8], IdPair<'_>>
 // A pair behind blanks, if there is one.
 #[tactic(auto, unfolding(crate::specs::Ids::next_pair))]
 fn next_pair(alloc: Global, i: &[u8]) -> IResult<&[u8], IdPair<'_>>
-    ensures { Gives pair_value result (step ids.next_pair i.now) }
+    ensures { Steps ids.next_pair pair_value i.now result }
 {
     let (rest, _) = blanks1(i)?;
     id_pair(alloc, rest)
 }
 
 fn maybe_next_pair(alloc: Global, i: &[u8]) -> IResult<&[u8], Option<IdPair<'_>>>
-    ensures { Gives (option_map pair_value) result (step (opt ids.next_pair) i.now) }
+    ensures { Steps (opt ids.next_pair) (option_map pair_value) i.now result }
 {
     maybe!(next_pair(alloc, i), i)
 }
@@ -60,7 +59,7 @@ fn put_pair<'a>(map: &mut IdMap<'a>, pair: IdPair<'a>) -> Result<(), AllocError>
 // Pairs, put into an empty map as they are read: of equal fields the last counts.
 fn put_pairs<'a>(alloc: Global, map: &mut IdMap<'a>, i: &'a [u8]) -> IResult<&'a [u8], ()>
     requires { id_value map.old ≡ empty }
-    ensures { Gives (λ x. id_value map.new) result (step (gives map_of_pairs ids.id_pairs) i.now) }
+    ensures { Steps (gives map_of_pairs ids.id_pairs) (λ x. id_value map.new) i.now result }
 {
     let (mut rest, mut pair) = id_pair(alloc, i)?;
     'pairs: loop {
@@ -77,7 +76,7 @@ fn put_pairs<'a>(alloc: Global, map: &mut IdMap<'a>, i: &'a [u8]) -> IResult<&'a
 #[tactic(auto, unfolding(crate::specs::Ids::id_map))]
 fn put_list<'a>(alloc: Global, map: &mut IdMap<'a>, i: &'a [u8]) -> IResult<&'a [u8], ()>
     requires { id_value map.old ≡ empty }
-    ensures steps { Gives (λ x. id_value map.new) result (step ids.id_map i.now) }
+    ensures steps { Steps ids.id_map (λ x. id_value map.new) i.now result }
     ensures memory { FailsOnlyIf (BeginsWord "(" i.now) result }
 {
     let (rest, _) = tag(b"(", i)?;
@@ -90,7 +89,7 @@ fn put_list<'a>(alloc: Global, map: &mut IdMap<'a>, i: &'a [u8]) -> IResult<&'a 
 #[tactic(auto, using(crate::proofs::IdPairs::some_params_is))]
 fn some_params<'a>(alloc: Global, map: &mut IdMap<'a>, i: &'a [u8]) -> IResult<&'a [u8], ()>
     requires { id_value map.old ≡ empty }
-    ensures steps { Gives (λ x. Some (id_value map.new)) result (step ids.some_params i.now) }
+    ensures steps { Steps ids.some_params (λ x. Some (id_value map.new)) i.now result }
     ensures memory { FailsOnlyIf (BeginsWord "(" i.now) result }
 {
     put_list(alloc, map, i)
@@ -99,7 +98,7 @@ fn some_params<'a>(alloc: Global, map: &mut IdMap<'a>, i: &'a [u8]) -> IResult<&
 // The map is made here and filled where it stands, since each move of it is dear. An empty one takes no memory.
 #[tactic(auto, unfolding(crate::specs::Ids::id_params))]
 fn id_params(alloc: Global, i: &[u8]) -> IResult<&[u8], Option<IdMap<'_>>>
-    ensures steps { Gives (option_map id_value) result (step ids.id_params i.now) }
+    ensures steps { Steps ids.id_params (option_map id_value) i.now result }
     ensures memory { SucceedsFor ids.IsNil ids.id_params i.now result }
 {
     let mut map = HashMap::new(alloc);
@@ -119,7 +118,7 @@ fn id_params(alloc: Global, i: &[u8]) -> IResult<&[u8], Option<IdMap<'_>>>
 /// for texts that are not UTF-8; for `NIL` none.
 #[tactic(auto, using(imap_grammar::proofs::Agreement::answered), unfolding(crate::specs::Ids::id))]
 pub fn id(alloc: Global, i: &[u8]) -> IResult<&[u8], Option<IdMap<'_>>>
-    ensures steps { Gives (option_map id_value) result (step ids.id i.now) }
+    ensures steps { Steps ids.id (option_map id_value) i.now result }
     ensures answer { Answers ids.id (option_map id_value) i.now result }
     ensures memory { SucceedsFor ids.IsNil ids.id i.now result }
 {

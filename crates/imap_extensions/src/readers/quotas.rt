@@ -1,8 +1,7 @@
 //! Quotas.
 
 ghost use Rattle.std.specs.Prelude.{map};
-ghost use Rattle.imap_grammar.specs.Answer.{Answers, Gives};
-ghost use Rattle.imap_grammar.specs.Step.{step};
+ghost use Rattle.imap_grammar.specs.Answer.{Answers, Steps};
 ghost use Rattle.imap_grammar.specs.Text.{text_of};
 ghost use Rattle.imap_extensions.specs.Quotas as quotas;
 ghost use Rattle.imap_extensions.specs.Quotas.{quota_resource_name_value, quota_resource_value, quota_value, quota_root_value};
@@ -16,8 +15,7 @@ use std::borrow::CowStr;
 
 #[tactic(auto, unfolding(crate::specs::Quotas::quota_resource_name))]
 fn quota_resource_name(alloc: Global, i: &[u8]) -> IResult<&[u8], QuotaResourceName<'_>>
-    ensures { Gives (λ x. quota_resource_name_value x) result
-        (step quotas.quota_resource_name i.now) }
+    ensures { Steps quotas.quota_resource_name quota_resource_name_value i.now result }
 {
     named!(b"STORAGE", i, QuotaResourceName::Storage);
     named!(b"MESSAGE", i, QuotaResourceName::Message);
@@ -27,7 +25,7 @@ fn quota_resource_name(alloc: Global, i: &[u8]) -> IResult<&[u8], QuotaResourceN
 
 #[tactic(auto, unfolding(crate::specs::Quotas::quota_resource))]
 fn quota_resource(alloc: Global, i: &[u8]) -> IResult<&[u8], QuotaResource<'_>>
-    ensures { Gives (λ x. quota_resource_value x) result (step quotas.quota_resource i.now) }
+    ensures { Steps quotas.quota_resource quota_resource_value i.now result }
 {
     let (rest, name) = quota_resource_name(alloc, i)?;
     let (rest, _) = blanks1(rest)?;
@@ -38,19 +36,17 @@ fn quota_resource(alloc: Global, i: &[u8]) -> IResult<&[u8], QuotaResource<'_>>
 }
 
 fn quota_resources(alloc: Global, i: &[u8]) -> IResult<&[u8], Vec<QuotaResource<'_>>>
-    ensures { Gives (λ x. map quota_resource_value x.items) result
-        (step quotas.quota_resources i.now) }
+    ensures { Steps quotas.quota_resources (λ x. map quota_resource_value x.items) i.now result }
 {
     let resource = |i|
-        ensures { Gives (λ x. quota_resource_value x) result
-            (step quotas.quota_resource i.entry.now) }
+        ensures { Steps quotas.quota_resource quota_resource_value i.entry.now result }
     { quota_resource(alloc, i) };
     maybe_separated(alloc, Separator::Blanks, resource, i)
 }
 
 #[tactic(auto, unfolding(crate::specs::Quotas::quota_list))]
 fn quota_list(alloc: Global, i: &[u8]) -> IResult<&[u8], Vec<QuotaResource<'_>>>
-    ensures { Gives (λ x. map quota_resource_value x.items) result (step quotas.quota_list i.now) }
+    ensures { Steps quotas.quota_list (λ x. map quota_resource_value x.items) i.now result }
 {
     let (rest, _) = tag(b"(", i)?;
     let (rest, resources) = quota_resources(alloc, rest)?;
@@ -60,7 +56,7 @@ fn quota_list(alloc: Global, i: &[u8]) -> IResult<&[u8], Vec<QuotaResource<'_>>>
 
 #[tactic(auto, unfolding(crate::specs::Quotas::quota))]
 fn quota_parts(alloc: Global, i: &[u8]) -> IResult<&[u8], Quota<'_>>
-    ensures { Gives (λ x. quota_value x) result (step quotas.quota i.now) }
+    ensures { Steps quotas.quota quota_value i.now result }
 {
     let (rest, _) = word(b"QUOTA", i)?;
     let (rest, _) = blanks1(rest)?;
@@ -81,32 +77,32 @@ fn quota_parts(alloc: Global, i: &[u8]) -> IResult<&[u8], Quota<'_>>
 /// A usage or limit past 64 bits is `Error`. It takes memory for the resources, and for texts that are not UTF-8.
 #[tactic(auto, using(imap_grammar::proofs::Agreement::answered))]
 pub fn quota(alloc: Global, i: &[u8]) -> IResult<&[u8], Quota<'_>>
-    ensures steps { Gives (λ x. quota_value x) result (step quotas.quota i.now) }
-    ensures answer { Answers quotas.quota (λ x. quota_value x) i.now result }
+    ensures steps { Steps quotas.quota quota_value i.now result }
+    ensures answer { Answers quotas.quota quota_value i.now result }
 {
     quota_parts(alloc, i)
 }
 
 #[tactic(auto, unfolding(crate::specs::Quotas::quota_root_name))]
 fn quota_root_name(alloc: Global, i: &[u8]) -> IResult<&[u8], CowStr<'_>>
-    ensures { Gives (λ x. text_of x) result (step quotas.quota_root_name i.now) }
+    ensures { Steps quotas.quota_root_name text_of i.now result }
 {
     let (rest, _) = blanks1(i)?;
     astring_utf8(alloc, rest)
 }
 
 fn quota_root_names(alloc: Global, i: &[u8]) -> IResult<&[u8], Vec<CowStr<'_>>>
-    ensures { Gives (λ x. map text_of x.items) result (step quotas.quota_root_names i.now) }
+    ensures { Steps quotas.quota_root_names (λ x. map text_of x.items) i.now result }
 {
     let name = |i|
-        ensures { Gives (λ x. text_of x) result (step quotas.quota_root_name i.entry.now) }
+        ensures { Steps quotas.quota_root_name text_of i.entry.now result }
     { quota_root_name(alloc, i) };
     repeated(alloc, name, i)
 }
 
 #[tactic(auto, unfolding(crate::specs::Quotas::quota_root))]
 fn quota_root_parts(alloc: Global, i: &[u8]) -> IResult<&[u8], QuotaRoot<'_>>
-    ensures { Gives (λ x. quota_root_value x) result (step quotas.quota_root i.now) }
+    ensures { Steps quotas.quota_root quota_root_value i.now result }
 {
     let (rest, _) = word(b"QUOTAROOT", i)?;
     let (rest, _) = blanks1(rest)?;
@@ -127,8 +123,8 @@ fn quota_root_parts(alloc: Global, i: &[u8]) -> IResult<&[u8], QuotaRoot<'_>>
 /// the roots, and for texts that are not UTF-8.
 #[tactic(auto, using(imap_grammar::proofs::Agreement::answered))]
 pub fn quota_root(alloc: Global, i: &[u8]) -> IResult<&[u8], QuotaRoot<'_>>
-    ensures steps { Gives (λ x. quota_root_value x) result (step quotas.quota_root i.now) }
-    ensures answer { Answers quotas.quota_root (λ x. quota_root_value x) i.now result }
+    ensures steps { Steps quotas.quota_root quota_root_value i.now result }
+    ensures answer { Answers quotas.quota_root quota_root_value i.now result }
 {
     quota_root_parts(alloc, i)
 }

@@ -1,7 +1,6 @@
 //! Messages that are gone.
 
-ghost use Rattle.imap_grammar.specs.Answer.{Answers, Exactly, Gives};
-ghost use Rattle.imap_grammar.specs.Step.{step};
+ghost use Rattle.imap_grammar.specs.Answer.{Answers, Steps, StepsExactly};
 ghost use Rattle.imap_extensions.specs.Vanishings as vanishings;
 ghost use Rattle.imap_extensions.specs.Vanishings.{vanished_value};
 
@@ -11,7 +10,7 @@ use std::alloc::Global;
 use std::ops::RangeInclusive;
 
 fn earlier_word(i: &[u8]) -> IResult<&[u8], bool>
-    ensures { Exactly (λ x. x) result (step vanishings.earlier_word i.now) }
+    ensures { StepsExactly vanishings.earlier_word (λ x. x) i.now result }
 {
     let (rest, _) = blanks1(i)?;
     let (rest, _) = word(b"(EARLIER)", rest)?;
@@ -20,7 +19,7 @@ fn earlier_word(i: &[u8]) -> IResult<&[u8], bool>
 
 #[tactic(auto, unfolding(crate::specs::Vanishings::earlier))]
 fn earlier(i: &[u8]) -> IResult<&[u8], bool>
-    ensures { Exactly (λ x. x) result (step vanishings.earlier i.now) }
+    ensures { StepsExactly vanishings.earlier (λ x. x) i.now result }
 {
     first!(earlier_word(i));
     Ok((i, false))
@@ -28,7 +27,7 @@ fn earlier(i: &[u8]) -> IResult<&[u8], bool>
 
 #[tactic(auto, unfolding(crate::specs::Vanishings::vanished))]
 fn vanished_parts(alloc: Global, i: &[u8]) -> IResult<&[u8], (bool, Vec<RangeInclusive<u32>>)>
-    ensures { Gives vanished_value result (step vanishings.vanished i.now) }
+    ensures { Steps vanishings.vanished vanished_value i.now result }
 {
     let (rest, _) = word(b"VANISHED", i)?;
     let (rest, earlier) = earlier(rest)?;
@@ -44,7 +43,7 @@ fn vanished_parts(alloc: Global, i: &[u8]) -> IResult<&[u8], (bool, Vec<RangeInc
 /// `Error`. It takes memory for the ranges.
 #[tactic(auto, using(imap_grammar::proofs::Agreement::answered))]
 pub fn vanished(alloc: Global, i: &[u8]) -> IResult<&[u8], (bool, Vec<RangeInclusive<u32>>)>
-    ensures steps { Gives vanished_value result (step vanishings.vanished i.now) }
+    ensures steps { Steps vanishings.vanished vanished_value i.now result }
     ensures answer { Answers vanishings.vanished vanished_value i.now result }
 {
     vanished_parts(alloc, i)

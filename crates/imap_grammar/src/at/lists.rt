@@ -1,10 +1,9 @@
 //! Lists at a position, over a reader of positions that is passed: f takes a position of m, and answers one that is
 //! not before it, and not past m's end.
 
-ghost use Rattle.std.specs.Prelude.{◌≤◌, ℕ, length, drop};
-ghost use Rattle.imap_grammar.specs.Positions.{ExactlyAt, Ahead, named_in};
+ghost use Rattle.std.specs.Prelude.{◌≤◌, ℕ, length};
+ghost use Rattle.imap_grammar.specs.Positions.{Ahead, named_in, StepsExactlyAt};
 ghost use Rattle.imap_grammar.specs.PositionLists.{FollowsAt, Advances, KeepsAhead, Onward};
-ghost use Rattle.imap_grammar.specs.Step.{step};
 ghost use Rattle.imap_grammar.specs.Rule.{meaning};
 ghost use Rattle.imap_grammar.specs.Meaning.{many_means};
 ghost use Rattle.imap_grammar.specs.Lists.{or_memory, separator as separator_rule, behind_means, list1_means, list0_means, list_means, nonempty_list_means, delimited_means, opt_opt_means};
@@ -21,8 +20,7 @@ const ROOM: usize = 8;
 
 fn read_separator(between: Separator, m: &[u8], p: usize) -> Reached<Span>
     requires { p ≤ length m.now }
-    ensures steps { ExactlyAt (λ x. named_in m.now x) m.now result
-        (step (separator_rule between) (drop p m.now)) }
+    ensures steps { StepsExactlyAt (separator_rule between) (named_in m.now) m.now p result }
     ensures ahead { Ahead m.now p result }
 {
     match between {

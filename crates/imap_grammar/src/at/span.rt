@@ -77,7 +77,7 @@ pub fn rest(m: &[u8], p: usize) -> &[u8]
 pub fn sliced(m: &[u8], reached: Reached<Span>) -> IResult<&[u8], &[u8]>
     requires { Inside m.now 0 reached }
     ensures steps { (s : Step (List ℕ)) →
-        ExactlyAt (λ x. named_in m.now x) m.now reached s →
+        ExactlyAt (named_in m.now) m.now reached s →
         Exactly (λ x. x.now) result s }
     ensures no_failure { NeverFails reached → NeverFails result }
 {

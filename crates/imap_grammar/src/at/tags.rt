@@ -4,8 +4,7 @@ ghost use Rattle.std.specs.Prelude.{◌≡◌, ◌==◌, ◌≤◌, ◌<◌, ◌
 ghost use Rattle.std.specs.Option.{ForSome};
 ghost use Rattle.std.specs.List.{zip, list_all};
 ghost use Rattle.imap_grammar.specs.Memory.{NeverFails};
-ghost use Rattle.imap_grammar.specs.Positions.{ExactlyAt, Ahead, Inside, MaybeInside, named_in, maybe_in};
-ghost use Rattle.imap_grammar.specs.Step.{step};
+ghost use Rattle.imap_grammar.specs.Positions.{Ahead, Inside, MaybeInside, named_in, maybe_in, StepsExactlyAt};
 ghost use Rattle.imap_grammar.specs.Meaning.{outside};
 ghost use Rattle.imap_grammar.specs.Rule.{tag_by, run0, run1};
 ghost use Rattle.imap_grammar.specs.Classes as classes;
@@ -43,8 +42,7 @@ fn agrees_in_any_case(word: &[u8], i: &[u8]) -> bool
 #[inline(always)]
 pub fn tag(text: &[u8], m: &[u8], p: usize) -> Reached<Span>
     requires { p ≤ length m.now }
-    ensures steps { ExactlyAt (λ x. named_in m.now x) m.now result
-        (step (tag_by ◌==◌ text.now) (drop p m.now)) }
+    ensures steps { StepsExactlyAt (tag_by ◌==◌ text.now) (named_in m.now) m.now p result }
     ensures inside { Inside m.now p result }
     ensures no_failure { NeverFails result }
 {
@@ -67,8 +65,7 @@ pub fn tag(text: &[u8], m: &[u8], p: usize) -> Reached<Span>
 #[tactic(auto, using(crate::proofs::Positions::stepped, crate::proofs::Positions::zip_cut), unfolding(crate::specs::Step::tag_step))]
 pub fn word(text: &[u8], m: &[u8], p: usize) -> Reached<Span>
     requires { p ≤ length m.now }
-    ensures steps { ExactlyAt (λ x. named_in m.now x) m.now result
-        (step (tag_by same_letter text.now) (drop p m.now)) }
+    ensures steps { StepsExactlyAt (tag_by same_letter text.now) (named_in m.now) m.now p result }
     ensures inside { Inside m.now p result }
     ensures no_failure { NeverFails result }
 {
@@ -90,8 +87,7 @@ pub fn word(text: &[u8], m: &[u8], p: usize) -> Reached<Span>
 /// A space, or nothing. No memory.
 pub fn maybe_space(m: &[u8], p: usize) -> Reached<Option<Span>>
     requires { p ≤ length m.now }
-    ensures steps { ExactlyAt (λ x. maybe_in m.now x) m.now result
-        (step tags.maybe_space (drop p m.now)) }
+    ensures steps { StepsExactlyAt tags.maybe_space (maybe_in m.now) m.now p result }
     ensures ahead { Ahead m.now p result }
     ensures inside { MaybeInside p result }
     ensures no_failure { NeverFails result }
@@ -108,7 +104,7 @@ pub fn cut0(end: Option<usize>, m: &[u8], p: usize) -> Reached<Span>
     requires { ForSome end (λ n. p + n < length m.now) }
     ensures steps { (class : ℕ → Bool) →
         end ≡ position (outside class) (drop p m.now) →
-        ExactlyAt (λ x. named_in m.now x) m.now result (step (run0 class) (drop p m.now)) }
+        StepsExactlyAt (run0 class) (named_in m.now) m.now p result }
     ensures inside { Inside m.now p result }
     ensures no_failure { NeverFails result }
 {
@@ -130,7 +126,7 @@ pub fn cut1(end: Option<usize>, m: &[u8], p: usize) -> Reached<Span>
     requires { ForSome end (λ n. p + n < length m.now) }
     ensures steps { (class : ℕ → Bool) →
         end ≡ position (outside class) (drop p m.now) →
-        ExactlyAt (λ x. named_in m.now x) m.now result (step (run1 class) (drop p m.now)) }
+        StepsExactlyAt (run1 class) (named_in m.now) m.now p result }
     ensures inside { Inside m.now p result }
     ensures no_failure { NeverFails result }
 {
@@ -154,8 +150,7 @@ fn blanks_end(i: &[u8]) -> Option<usize>
 /// Spaces and tabs, maybe none. No memory.
 pub fn blanks0(m: &[u8], p: usize) -> Reached<Span>
     requires { p ≤ length m.now }
-    ensures steps { ExactlyAt (λ x. named_in m.now x) m.now result
-        (step tags.blanks0 (drop p m.now)) }
+    ensures steps { StepsExactlyAt tags.blanks0 (named_in m.now) m.now p result }
     ensures inside { Inside m.now p result }
     ensures no_failure { NeverFails result }
 {
@@ -166,8 +161,7 @@ pub fn blanks0(m: &[u8], p: usize) -> Reached<Span>
 /// Spaces and tabs, at least one. No memory.
 pub fn blanks1(m: &[u8], p: usize) -> Reached<Span>
     requires { p ≤ length m.now }
-    ensures steps { ExactlyAt (λ x. named_in m.now x) m.now result
-        (step tags.blanks1 (drop p m.now)) }
+    ensures steps { StepsExactlyAt tags.blanks1 (named_in m.now) m.now p result }
     ensures inside { Inside m.now p result }
     ensures no_failure { NeverFails result }
 {

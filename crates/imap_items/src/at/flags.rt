@@ -1,9 +1,8 @@
 //! Flags at a position, as texts; lists of them as the spans of these.
 
-ghost use Rattle.std.specs.Prelude.{◌≤◌, length, drop, codes, map};
-ghost use Rattle.imap_grammar.specs.Positions.{AnswersAt, ExactlyAt, GivesAt, Ahead, Inside, EachInside, named_in};
+ghost use Rattle.std.specs.Prelude.{◌≤◌, length, codes, map};
+ghost use Rattle.imap_grammar.specs.Positions.{AnswersAt, Ahead, Inside, EachInside, named_in, StepsAt, StepsExactlyAt};
 ghost use Rattle.imap_grammar.specs.Memory.{NeverFails};
-ghost use Rattle.imap_grammar.specs.Step.{step};
 ghost use Rattle.imap_grammar.specs.Tags.{exactly_names};
 ghost use Rattle.imap_items.specs.Flags as flags;
 ghost use Rattle.imap_items.specs.Spanned.{decoded_in};
@@ -20,8 +19,7 @@ use std::alloc::Global;
 #[inline(always)]
 fn backslashed(m: &[u8], p: usize) -> Reached<Span>
     requires { p ≤ length m.now }
-    ensures steps { ExactlyAt (λ x. named_in m.now x) m.now result
-        (step flags.backslashed (drop p m.now)) }
+    ensures steps { StepsExactlyAt flags.backslashed (named_in m.now) m.now p result }
     ensures inside { Inside m.now p result }
     ensures no_failure { NeverFails result }
 {
@@ -34,8 +32,7 @@ fn backslashed(m: &[u8], p: usize) -> Reached<Span>
 #[inline(always)]
 pub(crate) fn backslashed_text(m: &[u8], p: usize) -> Reached<&str>
     requires { p ≤ length m.now }
-    ensures steps { ExactlyAt (λ x. x.now) m.now result
-        (step flags.backslashed_text (drop p m.now)) }
+    ensures steps { StepsExactlyAt flags.backslashed_text (λ x. x.now) m.now p result }
     ensures ahead { Ahead m.now p result }
     ensures no_failure { NeverFails result }
 {
@@ -50,7 +47,7 @@ pub(crate) fn backslashed_text(m: &[u8], p: usize) -> Reached<&str>
 #[inline(always)]
 fn keyword(m: &[u8], p: usize) -> Reached<&str>
     requires { p ≤ length m.now }
-    ensures steps { ExactlyAt (λ x. x.now) m.now result (step flags.keyword (drop p m.now)) }
+    ensures steps { StepsExactlyAt flags.keyword (λ x. x.now) m.now p result }
     ensures ahead { Ahead m.now p result }
     ensures no_failure { NeverFails result }
 {
@@ -65,7 +62,7 @@ fn keyword(m: &[u8], p: usize) -> Reached<&str>
 #[inline(always)]
 pub(crate) fn flag(m: &[u8], p: usize) -> Reached<&str>
     requires { p ≤ length m.now }
-    ensures steps { ExactlyAt (λ x. x.now) m.now result (step flags.flag (drop p m.now)) }
+    ensures steps { StepsExactlyAt flags.flag (λ x. x.now) m.now p result }
     ensures ahead { Ahead m.now p result }
     ensures no_failure { NeverFails result }
 {
@@ -76,8 +73,7 @@ pub(crate) fn flag(m: &[u8], p: usize) -> Reached<&str>
 #[inline(always)]
 fn star(m: &[u8], p: usize) -> Reached<&str>
     requires { p ≤ length m.now }
-    ensures steps { ExactlyAt (λ x. x.now) m.now result
-        (step (exactly_names "\\*" (codes "\\*")) (drop p m.now)) }
+    ensures steps { StepsExactlyAt (exactly_names "\\*" (codes "\\*")) (λ x. x.now) m.now p result }
     ensures ahead { Ahead m.now p result }
     ensures no_failure { NeverFails result }
 {
@@ -89,7 +85,7 @@ fn star(m: &[u8], p: usize) -> Reached<&str>
 #[inline(always)]
 pub(crate) fn flag_perm(m: &[u8], p: usize) -> Reached<&str>
     requires { p ≤ length m.now }
-    ensures steps { ExactlyAt (λ x. x.now) m.now result (step flags.flag_perm (drop p m.now)) }
+    ensures steps { StepsExactlyAt flags.flag_perm (λ x. x.now) m.now p result }
     ensures ahead { Ahead m.now p result }
     ensures no_failure { NeverFails result }
 {
@@ -101,8 +97,7 @@ pub(crate) fn flag_perm(m: &[u8], p: usize) -> Reached<&str>
 #[tactic(auto, using(crate::proofs::Spanned::flag_perm_there), unfolding(crate::specs::Flags::flag_text))]
 fn flag_text(m: &[u8], p: usize) -> Reached<Span>
     requires { p ≤ length m.now }
-    ensures steps { ExactlyAt (λ x. decoded_in m.now x) m.now result
-        (step flags.flag_text (drop p m.now)) }
+    ensures steps { StepsExactlyAt flags.flag_text (decoded_in m.now) m.now p result }
     ensures inside { Inside m.now p result }
 {
     let (q, _) = flag_perm(m, p)?;
@@ -114,8 +109,7 @@ fn flag_text(m: &[u8], p: usize) -> Reached<Span>
 /// It takes memory for the list, and for no text. Bytes that are not UTF-8 are `Error`.
 pub fn flag_list(alloc: Global, m: &[u8], p: usize) -> Reached<Vec<Span>>
     requires { p ≤ length m.now }
-    ensures steps { GivesAt (λ x. map (decoded_in m.now) x.items) m.now result
-        (step flags.flag_list (drop p m.now)) }
+    ensures steps { StepsAt flags.flag_list (λ x. map (decoded_in m.now) x.items) m.now p result }
     ensures answer { AnswersAt flags.flag_list (λ x. map (decoded_in m.now) x.items) m.now p
         result }
     ensures ahead { Ahead m.now p result }
@@ -123,8 +117,8 @@ pub fn flag_list(alloc: Global, m: &[u8], p: usize) -> Reached<Vec<Span>>
 {
     let item = |k: usize|
         requires { k ≤ length m.now }
-        ensures steps { ExactlyAt (λ x. decoded_in m.entry.now x) m.entry.now result
-            (step flags.flag_text (drop k m.entry.now)) }
+        ensures steps { StepsExactlyAt flags.flag_text (decoded_in m.entry.now) m.entry.now k
+            result }
         ensures inside { Inside m.entry.now k result }
     { flag_text(m, k) };
     parenthesized_list(alloc, item, m, p)

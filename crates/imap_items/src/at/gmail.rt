@@ -1,9 +1,8 @@
 //! Gmail's items of a message at a position: labels as spans of their texts, and numbers.
 
-ghost use Rattle.std.specs.Prelude.{◌≤◌, length, drop, map};
-ghost use Rattle.imap_grammar.specs.Positions.{AnswersAt, ExactlyAt, GivesAt, Ahead, Inside, EachInside};
+ghost use Rattle.std.specs.Prelude.{◌≤◌, length, map};
+ghost use Rattle.imap_grammar.specs.Positions.{AnswersAt, Ahead, Inside, EachInside, StepsAt, StepsExactlyAt};
 ghost use Rattle.imap_grammar.specs.Memory.{NeverFails};
-ghost use Rattle.imap_grammar.specs.Step.{step};
 ghost use Rattle.imap_bytes.specs.Texts as texts;
 ghost use Rattle.imap_items.specs.Gmail as rules;
 ghost use Rattle.imap_items.specs.Spanned.{decoded_in};
@@ -19,8 +18,7 @@ use std::alloc::Global;
 #[tactic(auto, using(crate::proofs::Spanned::flag_there))]
 fn flag_label(m: &[u8], p: usize) -> Reached<Span>
     requires { p ≤ length m.now }
-    ensures steps { ExactlyAt (λ x. decoded_in m.now x) m.now result
-        (step rules.flag_label (drop p m.now)) }
+    ensures steps { StepsExactlyAt rules.flag_label (decoded_in m.now) m.now p result }
     ensures inside { Inside m.now p result }
 {
     let (q, _) = flag(m, p)?;
@@ -30,8 +28,7 @@ fn flag_label(m: &[u8], p: usize) -> Reached<Span>
 #[tactic(auto, unfolding(imap_bytes::specs::Texts::quoted_utf8))]
 fn quoted_label(m: &[u8], p: usize) -> Reached<Span>
     requires { p ≤ length m.now }
-    ensures steps { ExactlyAt (λ x. decoded_in m.now x) m.now result
-        (step texts.quoted_utf8 (drop p m.now)) }
+    ensures steps { StepsExactlyAt texts.quoted_utf8 (decoded_in m.now) m.now p result }
     ensures inside { Inside m.now p result }
 {
     quoted(m, p)
@@ -41,8 +38,7 @@ fn quoted_label(m: &[u8], p: usize) -> Reached<Span>
 #[tactic(auto, unfolding(crate::specs::Gmail::gmail_label))]
 pub(crate) fn gmail_label(m: &[u8], p: usize) -> Reached<Span>
     requires { p ≤ length m.now }
-    ensures steps { ExactlyAt (λ x. decoded_in m.now x) m.now result
-        (step rules.gmail_label (drop p m.now)) }
+    ensures steps { StepsExactlyAt rules.gmail_label (decoded_in m.now) m.now p result }
     ensures inside { Inside m.now p result }
 {
     first!(flag_label(m, p));
@@ -51,15 +47,15 @@ pub(crate) fn gmail_label(m: &[u8], p: usize) -> Reached<Span>
 
 fn gmail_labels(alloc: Global, m: &[u8], p: usize) -> Reached<Vec<Span>>
     requires { p ≤ length m.now }
-    ensures steps { GivesAt (λ x. map (decoded_in m.now) x.items) m.now result
-        (step rules.gmail_labels (drop p m.now)) }
+    ensures steps { StepsAt rules.gmail_labels (λ x. map (decoded_in m.now) x.items) m.now p
+        result }
     ensures ahead { Ahead m.now p result }
     ensures inside { EachInside p result }
 {
     let label = |k: usize|
         requires { k ≤ length m.now }
-        ensures steps { ExactlyAt (λ x. decoded_in m.entry.now x) m.entry.now result
-            (step rules.gmail_label (drop k m.entry.now)) }
+        ensures steps { StepsExactlyAt rules.gmail_label (decoded_in m.entry.now) m.entry.now k
+            result }
         ensures inside { Inside m.entry.now k result }
     { gmail_label(m, k) };
     parenthesized_list(alloc, label, m, p)
@@ -68,8 +64,8 @@ fn gmail_labels(alloc: Global, m: &[u8], p: usize) -> Reached<Vec<Span>>
 #[tactic(auto, unfolding(crate::specs::Gmail::gmail_label_list))]
 fn labels(alloc: Global, m: &[u8], p: usize) -> Reached<Vec<Span>>
     requires { p ≤ length m.now }
-    ensures steps { GivesAt (λ x. map (decoded_in m.now) x.items) m.now result
-        (step rules.gmail_label_list (drop p m.now)) }
+    ensures steps { StepsAt rules.gmail_label_list (λ x. map (decoded_in m.now) x.items) m.now p
+        result }
     ensures ahead { Ahead m.now p result }
     ensures inside { EachInside p result }
 {
@@ -84,8 +80,8 @@ fn labels(alloc: Global, m: &[u8], p: usize) -> Reached<Vec<Span>>
 #[tactic(auto, using(imap_grammar::proofs::Agreement::answered_at))]
 pub fn gmail_label_list(alloc: Global, m: &[u8], p: usize) -> Reached<Vec<Span>>
     requires { p ≤ length m.now }
-    ensures steps { GivesAt (λ x. map (decoded_in m.now) x.items) m.now result
-        (step rules.gmail_label_list (drop p m.now)) }
+    ensures steps { StepsAt rules.gmail_label_list (λ x. map (decoded_in m.now) x.items) m.now p
+        result }
     ensures answer { AnswersAt rules.gmail_label_list (λ x. map (decoded_in m.now) x.items) m.now p
         result }
     ensures ahead { Ahead m.now p result }
@@ -100,7 +96,7 @@ pub fn gmail_label_list(alloc: Global, m: &[u8], p: usize) -> Reached<Vec<Span>>
 #[tactic(auto, unfolding(crate::specs::Gmail::gmail_msgid))]
 pub fn gmail_msgid(m: &[u8], p: usize) -> Reached<u64>
     requires { p ≤ length m.now }
-    ensures steps { ExactlyAt (λ x. x) m.now result (step rules.gmail_msgid (drop p m.now)) }
+    ensures steps { StepsExactlyAt rules.gmail_msgid (λ x. x) m.now p result }
     ensures ahead { Ahead m.now p result }
     ensures no_failure { NeverFails result }
 {
@@ -114,7 +110,7 @@ pub fn gmail_msgid(m: &[u8], p: usize) -> Reached<u64>
 #[tactic(auto, unfolding(crate::specs::Gmail::gmail_thrid))]
 pub fn gmail_thrid(m: &[u8], p: usize) -> Reached<u64>
     requires { p ≤ length m.now }
-    ensures steps { ExactlyAt (λ x. x) m.now result (step rules.gmail_thrid (drop p m.now)) }
+    ensures steps { StepsExactlyAt rules.gmail_thrid (λ x. x) m.now p result }
     ensures ahead { Ahead m.now p result }
     ensures no_failure { NeverFails result }
 {

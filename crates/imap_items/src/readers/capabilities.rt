@@ -2,9 +2,8 @@
 
 ghost use Rattle.std.specs.Prelude.{◌≡◌, map};
 ghost use Rattle.std.specs.List.{list_any};
-ghost use Rattle.imap_grammar.specs.Answer.{Answers, Exactly, Gives};
+ghost use Rattle.imap_grammar.specs.Answer.{Answers, Steps, StepsExactly};
 ghost use Rattle.imap_grammar.specs.Memory.{BeginsWord, FailsOnlyIf};
-ghost use Rattle.imap_grammar.specs.Step.{step};
 ghost use Rattle.imap_items.specs.Capabilities as capabilities;
 ghost use Rattle.imap_items.specs.Capabilities.{capability_value};
 
@@ -17,7 +16,7 @@ use std::alloc::Global;
 use std::borrow::CowStr;
 
 fn auth(i: &[u8]) -> IResult<&[u8], Capability<'_>>
-    ensures { Exactly (λ x. capability_value x) result (step capabilities.auth i.now) }
+    ensures { StepsExactly capabilities.auth capability_value i.now result }
 {
     let (rest, _) = word(b"AUTH=", i)?;
     let (rest, mechanism) = atom(rest)?;
@@ -25,7 +24,7 @@ fn auth(i: &[u8]) -> IResult<&[u8], Capability<'_>>
 }
 
 fn name(i: &[u8]) -> IResult<&[u8], Capability<'_>>
-    ensures { Exactly (λ x. capability_value x) result (step capabilities.name i.now) }
+    ensures { StepsExactly capabilities.name capability_value i.now result }
 {
     let (rest, name) = atom(i)?;
     Ok((rest, Capability::Atom(CowStr::Borrowed(name))))
@@ -33,7 +32,7 @@ fn name(i: &[u8]) -> IResult<&[u8], Capability<'_>>
 
 #[tactic(auto, unfolding(crate::specs::Capabilities::capability))]
 fn capability(i: &[u8]) -> IResult<&[u8], Capability<'_>>
-    ensures { Exactly (λ x. capability_value x) result (step capabilities.capability i.now) }
+    ensures { StepsExactly capabilities.capability capability_value i.now result }
 {
     named!(b"IMAP4rev1", i, Capability::Imap4rev1);
     first!(auth(i));
@@ -43,7 +42,7 @@ fn capability(i: &[u8]) -> IResult<&[u8], Capability<'_>>
 /// A capability behind a space.
 #[tactic(auto, unfolding(crate::specs::Capabilities::spaced_capability))]
 pub(crate) fn spaced_capability(i: &[u8]) -> IResult<&[u8], Capability<'_>>
-    ensures { Exactly (λ x. capability_value x) result (step capabilities.spaced_capability i.now) }
+    ensures { StepsExactly capabilities.spaced_capability capability_value i.now result }
 {
     let (rest, _) = tag(b" ", i)?;
     capability(rest)
@@ -52,22 +51,21 @@ pub(crate) fn spaced_capability(i: &[u8]) -> IResult<&[u8], Capability<'_>>
 /// A name behind a space, as it stands.
 #[tactic(auto, unfolding(crate::specs::Capabilities::spaced_name))]
 pub(crate) fn spaced_name(i: &[u8]) -> IResult<&[u8], Capability<'_>>
-    ensures { Exactly (λ x. capability_value x) result (step capabilities.spaced_name i.now) }
+    ensures { StepsExactly capabilities.spaced_name capability_value i.now result }
 {
     let (rest, _) = tag(b" ", i)?;
     name(rest)
 }
 
 fn spaced_capabilities(alloc: Global, i: &[u8]) -> IResult<&[u8], Vec<Capability<'_>>>
-    ensures { Gives (λ x. map capability_value x.items) result
-        (step capabilities.spaced_capabilities i.now) }
+    ensures { Steps capabilities.spaced_capabilities (λ x. map capability_value x.items) i.now
+        result }
 {
     repeated(alloc, spaced_capability, i)
 }
 
 fn spaced_names(alloc: Global, i: &[u8]) -> IResult<&[u8], Vec<Capability<'_>>>
-    ensures { Gives (λ x. map capability_value x.items) result
-        (step capabilities.spaced_names i.now) }
+    ensures { Steps capabilities.spaced_names (λ x. map capability_value x.items) i.now result }
 {
     repeated(alloc, spaced_name, i)
 }
@@ -80,8 +78,8 @@ fn has_revision(items: &[Capability<'_>]) -> bool
 
 #[tactic(auto, unfolding(crate::specs::Capabilities::capability_data))]
 fn with_revision(alloc: Global, i: &[u8]) -> IResult<&[u8], Vec<Capability<'_>>>
-    ensures steps { Gives (λ x. map capability_value x.items) result
-        (step capabilities.capability_data i.now) }
+    ensures steps { Steps capabilities.capability_data (λ x. map capability_value x.items) i.now
+        result }
     ensures memory { FailsOnlyIf (BeginsWord "CAPABILITY" i.now) result }
 {
     let (rest, _) = word(b"CAPABILITY", i)?;
@@ -97,8 +95,8 @@ fn with_revision(alloc: Global, i: &[u8]) -> IResult<&[u8], Vec<Capability<'_>>>
 /// They are `Error` where none is `IMAP4rev1`. It takes memory for the list, and only behind `CAPABILITY`.
 #[tactic(auto, using(imap_grammar::proofs::Agreement::answered))]
 pub fn capability_data(alloc: Global, i: &[u8]) -> IResult<&[u8], Vec<Capability<'_>>>
-    ensures steps { Gives (λ x. map capability_value x.items) result
-        (step capabilities.capability_data i.now) }
+    ensures steps { Steps capabilities.capability_data (λ x. map capability_value x.items) i.now
+        result }
     ensures answer { Answers capabilities.capability_data (λ x. map capability_value x.items) i.now
         result }
     ensures memory { FailsOnlyIf (BeginsWord "CAPABILITY" i.now) result }
@@ -111,8 +109,8 @@ pub fn capability_data(alloc: Global, i: &[u8]) -> IResult<&[u8], Vec<Capability
 /// Any other word is `Error`. It takes memory for the list.
 #[tactic(auto, using(imap_grammar::proofs::Agreement::answered), unfolding(crate::specs::Capabilities::enabled_data))]
 pub fn enabled_data(alloc: Global, i: &[u8]) -> IResult<&[u8], Vec<Capability<'_>>>
-    ensures steps { Gives (λ x. map capability_value x.items) result
-        (step capabilities.enabled_data i.now) }
+    ensures steps { Steps capabilities.enabled_data (λ x. map capability_value x.items) i.now
+        result }
     ensures answer { Answers capabilities.enabled_data (λ x. map capability_value x.items) i.now
         result }
 {

@@ -1,9 +1,8 @@
 //! Flags.
 
 ghost use Rattle.std.specs.Prelude.{map};
-ghost use Rattle.imap_grammar.specs.Answer.{Answers, Exactly, Gives};
+ghost use Rattle.imap_grammar.specs.Answer.{Answers, Steps, StepsExactly};
 ghost use Rattle.imap_grammar.specs.Memory.{NeverFails};
-ghost use Rattle.imap_grammar.specs.Step.{step};
 ghost use Rattle.imap_grammar.specs.Text.{text_of};
 ghost use Rattle.imap_items.specs.Flags as flags;
 
@@ -18,7 +17,7 @@ use std::borrow::CowStr;
 /// Bytes that are not UTF-8 are `Error`.
 #[tactic(auto, using(imap_grammar::proofs::Agreement::exact_answered))]
 pub fn backslashed_text(i: &[u8]) -> IResult<&[u8], &str>
-    ensures steps { Exactly (λ x. x.now) result (step flags.backslashed_text i.now) }
+    ensures steps { StepsExactly flags.backslashed_text (λ x. x.now) i.now result }
     ensures answer { Answers flags.backslashed_text (λ x. x.now) i.now result }
     ensures no_failure { NeverFails result }
 {
@@ -32,7 +31,7 @@ pub fn backslashed_text(i: &[u8]) -> IResult<&[u8], &str>
 /// Bytes that are not UTF-8 are `Error`.
 #[tactic(auto, using(imap_grammar::proofs::Agreement::exact_answered))]
 pub fn flag(i: &[u8]) -> IResult<&[u8], &str>
-    ensures steps { Exactly (λ x. x.now) result (step flags.flag i.now) }
+    ensures steps { StepsExactly flags.flag (λ x. x.now) i.now result }
     ensures answer { Answers flags.flag (λ x. x.now) i.now result }
     ensures no_failure { NeverFails result }
 {
@@ -46,7 +45,7 @@ pub fn flag(i: &[u8]) -> IResult<&[u8], &str>
 #[tactic(auto, using(imap_grammar::proofs::Agreement::exact_answered))]
 #[inline(always)]
 pub fn flag_perm(i: &[u8]) -> IResult<&[u8], &str>
-    ensures steps { Exactly (λ x. x.now) result (step flags.flag_perm i.now) }
+    ensures steps { StepsExactly flags.flag_perm (λ x. x.now) i.now result }
     ensures answer { Answers flags.flag_perm (λ x. x.now) i.now result }
     ensures no_failure { NeverFails result }
 {
@@ -60,8 +59,8 @@ pub fn flag_perm(i: &[u8]) -> IResult<&[u8], &str>
 #[tactic(auto, using(imap_grammar::proofs::Agreement::exact_answered), unfolding(crate::specs::Flags::flag_text))]
 #[inline(always)]
 pub(crate) fn flag_text(i: &[u8]) -> IResult<&[u8], CowStr<'_>>
-    ensures steps { Exactly (λ x. text_of x) result (step flags.flag_text i.now) }
-    ensures answer { Answers flags.flag_text (λ x. text_of x) i.now result }
+    ensures steps { StepsExactly flags.flag_text text_of i.now result }
+    ensures answer { Answers flags.flag_text text_of i.now result }
     ensures no_failure { NeverFails result }
 {
     let (rest, text) = flag_perm(i)?;
@@ -72,7 +71,7 @@ pub(crate) fn flag_text(i: &[u8]) -> IResult<&[u8], CowStr<'_>>
 ///
 /// It takes memory for the list, and for no text. Bytes that are not UTF-8 are `Error`.
 pub fn flag_list(alloc: Global, i: &[u8]) -> IResult<&[u8], Vec<CowStr<'_>>>
-    ensures steps { Gives (λ x. map text_of x.items) result (step flags.flag_list i.now) }
+    ensures steps { Steps flags.flag_list (λ x. map text_of x.items) i.now result }
     ensures answer { Answers flags.flag_list (λ x. map text_of x.items) i.now result }
 {
     parenthesized_list(alloc, flag_text, i)

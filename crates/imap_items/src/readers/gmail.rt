@@ -1,9 +1,8 @@
 //! Gmail's items of a message.
 
 ghost use Rattle.std.specs.Prelude.{map};
-ghost use Rattle.imap_grammar.specs.Answer.{Answers, Exactly, Gives};
+ghost use Rattle.imap_grammar.specs.Answer.{Answers, Steps, StepsExactly};
 ghost use Rattle.imap_grammar.specs.Memory.{BeginsWord, FailsOnlyIf, NeverFails};
-ghost use Rattle.imap_grammar.specs.Step.{step};
 ghost use Rattle.imap_grammar.specs.Text.{text_of};
 ghost use Rattle.imap_items.specs.Gmail as rules;
 
@@ -16,7 +15,7 @@ use std::borrow::CowStr;
 
 // A label: a flag, or a quoted string.
 fn gmail_label(alloc: Global, i: &[u8]) -> IResult<&[u8], CowStr<'_>>
-    ensures { Gives (λ x. text_of x) result (step rules.gmail_label i.now) }
+    ensures { Steps rules.gmail_label text_of i.now result }
 {
     let (q, label) = at::gmail::gmail_label(i, 0)?;
     let text = label.text(alloc, i)?;
@@ -24,17 +23,17 @@ fn gmail_label(alloc: Global, i: &[u8]) -> IResult<&[u8], CowStr<'_>>
 }
 
 fn gmail_labels(alloc: Global, i: &[u8]) -> IResult<&[u8], Vec<CowStr<'_>>>
-    ensures { Gives (λ x. map text_of x.items) result (step rules.gmail_labels i.now) }
+    ensures { Steps rules.gmail_labels (λ x. map text_of x.items) i.now result }
 {
     let label = |i|
-        ensures { Gives (λ x. text_of x) result (step rules.gmail_label i.entry.now) }
+        ensures { Steps rules.gmail_label text_of i.entry.now result }
     { gmail_label(alloc, i) };
     parenthesized_list(alloc, label, i)
 }
 
 #[tactic(auto, unfolding(crate::specs::Gmail::gmail_label_list))]
 fn labels(alloc: Global, i: &[u8]) -> IResult<&[u8], Vec<CowStr<'_>>>
-    ensures steps { Gives (λ x. map text_of x.items) result (step rules.gmail_label_list i.now) }
+    ensures steps { Steps rules.gmail_label_list (λ x. map text_of x.items) i.now result }
     ensures memory { FailsOnlyIf (BeginsWord "X-GM-LABELS " i.now) result }
 {
     let (rest, _) = word(b"X-GM-LABELS ", i)?;
@@ -47,7 +46,7 @@ fn labels(alloc: Global, i: &[u8]) -> IResult<&[u8], Vec<CowStr<'_>>>
 /// list, and for texts that are not UTF-8.
 #[tactic(auto, using(imap_grammar::proofs::Agreement::answered))]
 pub fn gmail_label_list(alloc: Global, i: &[u8]) -> IResult<&[u8], Vec<CowStr<'_>>>
-    ensures steps { Gives (λ x. map text_of x.items) result (step rules.gmail_label_list i.now) }
+    ensures steps { Steps rules.gmail_label_list (λ x. map text_of x.items) i.now result }
     ensures answer { Answers rules.gmail_label_list (λ x. map text_of x.items) i.now result }
     ensures memory { FailsOnlyIf (BeginsWord "X-GM-LABELS " i.now) result }
 {
@@ -59,7 +58,7 @@ pub fn gmail_label_list(alloc: Global, i: &[u8]) -> IResult<&[u8], Vec<CowStr<'_
 /// A number past 64 bits is `Error`.
 #[tactic(auto, using(imap_grammar::proofs::Agreement::exact_answered))]
 pub fn gmail_msgid(i: &[u8]) -> IResult<&[u8], u64>
-    ensures steps { Exactly (λ x. x) result (step rules.gmail_msgid i.now) }
+    ensures steps { StepsExactly rules.gmail_msgid (λ x. x) i.now result }
     ensures answer { Answers rules.gmail_msgid (λ x. x) i.now result }
     ensures no_failure { NeverFails result }
 {
@@ -72,7 +71,7 @@ pub fn gmail_msgid(i: &[u8]) -> IResult<&[u8], u64>
 /// A number past 64 bits is `Error`.
 #[tactic(auto, using(imap_grammar::proofs::Agreement::exact_answered))]
 pub fn gmail_thrid(i: &[u8]) -> IResult<&[u8], u64>
-    ensures steps { Exactly (λ x. x) result (step rules.gmail_thrid i.now) }
+    ensures steps { StepsExactly rules.gmail_thrid (λ x. x) i.now result }
     ensures answer { Answers rules.gmail_thrid (λ x. x) i.now result }
     ensures no_failure { NeverFails result }
 {

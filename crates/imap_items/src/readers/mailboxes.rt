@@ -1,8 +1,7 @@
 //! Mailbox names.
 
 ghost use Rattle.std.specs.Prelude.{◌≡◌, codes};
-ghost use Rattle.imap_grammar.specs.Answer.{Answers, Gives};
-ghost use Rattle.imap_grammar.specs.Step.{step};
+ghost use Rattle.imap_grammar.specs.Answer.{Answers, Steps};
 ghost use Rattle.imap_grammar.specs.Meaning.{is_word};
 ghost use Rattle.imap_grammar.specs.Tags.{same_letter};
 ghost use Rattle.imap_grammar.specs.Text.{text_of, IsOwned};
@@ -35,8 +34,8 @@ fn mailbox_name(name: CowStr<'_>) -> CowStr<'_>
 /// What is no astring is `Error`. It takes memory only for bytes that are not UTF-8.
 #[tactic(auto, using(imap_grammar::proofs::Agreement::answered), unfolding(crate::specs::Mailboxes::mailbox))]
 pub fn mailbox(alloc: Global, i: &[u8]) -> IResult<&[u8], CowStr<'_>>
-    ensures steps { Gives (λ x. text_of x) result (step mailboxes.mailbox i.now) }
-    ensures answer { Answers mailboxes.mailbox (λ x. text_of x) i.now result }
+    ensures steps { Steps mailboxes.mailbox text_of i.now result }
+    ensures answer { Answers mailboxes.mailbox text_of i.now result }
     ensures memory { FailsForOwned IsOwned astring_rule i.now result }
 {
     let (rest, name) = astring_utf8(alloc, i)?;

@@ -1,8 +1,7 @@
 //! Rights, as letters.
 
 ghost use Rattle.std.specs.Prelude.{◌≡◌, IfOk};
-ghost use Rattle.imap_grammar.specs.Answer.{Answers, Gives};
-ghost use Rattle.imap_grammar.specs.Step.{step};
+ghost use Rattle.imap_grammar.specs.Answer.{Answers, Steps};
 ghost use Rattle.imap_items.specs.Rights as rule;
 ghost use Rattle.imap_items.specs.Rights.{rights_of};
 
@@ -22,7 +21,7 @@ fn rights_in(alloc: Global, text: &str) -> Result<Vec<AclRight>, AllocError>
 /// UTF-8.
 #[tactic(auto, using(imap_grammar::proofs::Agreement::answered), unfolding(crate::specs::Rights::rights))]
 pub fn rights(alloc: Global, i: &[u8]) -> IResult<&[u8], Vec<AclRight>>
-    ensures steps { Gives (λ x. x.items) result (step rule.rights i.now) }
+    ensures steps { Steps rule.rights (λ x. x.items) i.now result }
     ensures answer { Answers rule.rights (λ x. x.items) i.now result }
 {
     let (rest, text) = astring_utf8(alloc, i)?;

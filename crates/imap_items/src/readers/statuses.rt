@@ -1,8 +1,7 @@
 //! The status of a line.
 
-ghost use Rattle.imap_grammar.specs.Answer.{Answers, Exactly};
+ghost use Rattle.imap_grammar.specs.Answer.{Answers, StepsExactly};
 ghost use Rattle.imap_grammar.specs.Memory.{NeverFails};
-ghost use Rattle.imap_grammar.specs.Step.{step};
 ghost use Rattle.imap_items.specs.Statuses as rule;
 
 use crate::types::statuses::Status;
@@ -11,7 +10,7 @@ use imap_bytes::{Err, IResult, Needed, named};
 
 #[tactic(auto, unfolding(crate::specs::Statuses::ok_word))]
 fn ok_word(i: &[u8]) -> IResult<&[u8], Status>
-    ensures { Exactly (λ x. x) result (step rule.ok_word i.now) }
+    ensures { StepsExactly rule.ok_word (λ x. x) i.now result }
 {
     let (rest, _) = word(b"OK", i)?;
     Ok((rest, Status::Ok))
@@ -19,7 +18,7 @@ fn ok_word(i: &[u8]) -> IResult<&[u8], Status>
 
 #[tactic(auto, unfolding(crate::specs::Statuses::no_word))]
 fn no_word(i: &[u8]) -> IResult<&[u8], Status>
-    ensures { Exactly (λ x. x) result (step rule.no_word i.now) }
+    ensures { StepsExactly rule.no_word (λ x. x) i.now result }
 {
     let (rest, _) = word(b"NO", i)?;
     Ok((rest, Status::No))
@@ -27,7 +26,7 @@ fn no_word(i: &[u8]) -> IResult<&[u8], Status>
 
 #[tactic(auto, unfolding(crate::specs::Statuses::bad_or_bye))]
 fn bad_or_bye(i: &[u8]) -> IResult<&[u8], Status>
-    ensures { Exactly (λ x. x) result (step rule.bad_or_bye i.now) }
+    ensures { StepsExactly rule.bad_or_bye (λ x. x) i.now result }
 {
     named!(b"BAD", i, Status::Bad);
     named!(b"BYE", i, Status::Bye);
@@ -36,7 +35,7 @@ fn bad_or_bye(i: &[u8]) -> IResult<&[u8], Status>
 
 #[tactic(auto, unfolding(crate::specs::Statuses::preauth_word))]
 fn preauth_word(i: &[u8]) -> IResult<&[u8], Status>
-    ensures { Exactly (λ x. x) result (step rule.preauth_word i.now) }
+    ensures { StepsExactly rule.preauth_word (λ x. x) i.now result }
 {
     let (rest, _) = word(b"PREAUTH", i)?;
     Ok((rest, Status::PreAuth))
@@ -46,7 +45,7 @@ fn preauth_word(i: &[u8]) -> IResult<&[u8], Status>
 #[tactic(auto, using(crate::proofs::FirstBytes::status_none, crate::proofs::FirstBytes::status_is_ok, crate::proofs::FirstBytes::status_is_no, crate::proofs::FirstBytes::status_is_bad_or_bye, crate::proofs::FirstBytes::status_is_preauth, crate::proofs::FirstBytes::status_other))]
 #[inline(always)]
 fn status_word(i: &[u8]) -> IResult<&[u8], Status>
-    ensures { Exactly (λ x. x) result (step rule.status i.now) }
+    ensures { StepsExactly rule.status (λ x. x) i.now result }
 {
     match i.first() {
         None => Err(Err::Incomplete(Needed::Unknown)),
@@ -64,7 +63,7 @@ fn status_word(i: &[u8]) -> IResult<&[u8], Status>
 #[tactic(auto, using(imap_grammar::proofs::Agreement::exact_answered, imap_grammar::proofs::Memory::exactly_never))]
 #[inline(always)]
 pub fn status(i: &[u8]) -> IResult<&[u8], Status>
-    ensures steps { Exactly (λ x. x) result (step rule.status i.now) }
+    ensures steps { StepsExactly rule.status (λ x. x) i.now result }
     ensures answer { Answers rule.status (λ x. x) i.now result }
     ensures no_failure { NeverFails result }
 {

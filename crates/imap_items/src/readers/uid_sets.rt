@@ -2,11 +2,9 @@
 
 ghost use Rattle.std.specs.Prelude.{◌≡◌, map, IfOk};
 ghost use Rattle.std.specs.List.{All};
-ghost use Rattle.imap_grammar.specs.Answer.{Answers, Exactly, Gives};
-ghost use Rattle.imap_grammar.specs.Step.{step};
-ghost use Rattle.imap_grammar.specs.Rule.{opt, ◌▹◌};
-ghost use Rattle.imap_grammar.specs.Tags.{tag as colon};
-ghost use Rattle.imap_bytes.specs.Numbers.{number as number_rule};
+ghost use Rattle.imap_grammar.specs.Answer.{Answers, Steps, StepsExactly};
+ghost use Rattle.imap_grammar.specs.Rule.{opt};
+ghost use Rattle.imap_bytes.specs.Sets as ranges;
 ghost use Rattle.imap_items.specs.UidSets as sets;
 ghost use Rattle.imap_items.specs.UidSets.{member_value, member_of, IsOrdered};
 
@@ -19,21 +17,21 @@ use std::alloc::Global;
 
 // A colon and the number behind it.
 fn range_end(i: &[u8]) -> IResult<&[u8], u32>
-    ensures { Exactly (λ x. x) result (step (colon ":" ▹ number_rule) i.now) }
+    ensures { StepsExactly ranges.range_end (λ x. x) i.now result }
 {
     let (rest, _) = tag(b":", i)?;
     number(rest)
 }
 
 fn maybe_range_end(i: &[u8]) -> IResult<&[u8], Option<u32>>
-    ensures { Exactly (λ x. x) result (step (opt (colon ":" ▹ number_rule)) i.now) }
+    ensures { StepsExactly (opt ranges.range_end) (λ x. x) i.now result }
 {
     maybe!(range_end(i), i)
 }
 
 #[tactic(auto, unfolding(crate::specs::UidSets::maybe_range))]
 fn maybe_range(i: &[u8]) -> IResult<&[u8], (u32, Option<u32>)>
-    ensures { Exactly (λ x. x) result (step sets.maybe_range i.now) }
+    ensures { StepsExactly sets.maybe_range (λ x. x) i.now result }
 {
     let (rest, first) = number(i)?;
     let (rest, last) = maybe_range_end(rest)?;
@@ -54,7 +52,7 @@ fn member(first: u32, last: Option<u32>) -> UidSetMember
 /// The number in front is read once.
 #[tactic(auto, using(crate::proofs::UidSets::member_is))]
 pub(crate) fn uid_set_member(i: &[u8]) -> IResult<&[u8], UidSetMember>
-    ensures { Exactly (λ x. member_value x) result (step sets.uid_set_member i.now) }
+    ensures { StepsExactly sets.uid_set_member member_value i.now result }
 {
     let (rest, (first, last)) = maybe_range(i)?;
     Ok((rest, member(first, last)))
@@ -65,7 +63,7 @@ pub(crate) fn uid_set_member(i: &[u8]) -> IResult<&[u8], UidSetMember>
 /// Each range starts not above its end. It ends before a colon or a comma behind which `number` denies. A number
 /// past 32 bits in front is `Error`. It takes memory for the list.
 pub fn uid_set(alloc: Global, i: &[u8]) -> IResult<&[u8], Vec<UidSetMember>>
-    ensures steps { Gives (λ x. map member_value x.items) result (step sets.uid_set i.now) }
+    ensures steps { Steps sets.uid_set (λ x. map member_value x.items) i.now result }
     ensures answer { Answers sets.uid_set (λ x. map member_value x.items) i.now result }
     ensures ordered { IfOk result (λ x. All IsOrdered x.1.items) }
 {

@@ -1,10 +1,9 @@
 //! Sections at a position.
 
-ghost use Rattle.std.specs.Prelude.{◌≤◌, length, drop};
+ghost use Rattle.std.specs.Prelude.{◌≤◌, length};
 ghost use Rattle.std.specs.Option.{option_map};
-ghost use Rattle.imap_grammar.specs.Positions.{ExactlyAt, GivesAt, Ahead, named_in};
+ghost use Rattle.imap_grammar.specs.Positions.{Ahead, named_in, StepsAt, StepsExactlyAt};
 ghost use Rattle.imap_grammar.specs.Memory.{NeverFails};
-ghost use Rattle.imap_grammar.specs.Step.{step};
 ghost use Rattle.imap_grammar.specs.Rule.{opt, otherwise, ◌▹◌};
 ghost use Rattle.imap_grammar.specs.Tags as tags;
 ghost use Rattle.imap_bytes.specs.Strings as strings;
@@ -27,8 +26,7 @@ use std::alloc::Global;
 
 fn spaced_name(m: &[u8], p: usize) -> Reached<Span>
     requires { p ≤ length m.now }
-    ensures steps { ExactlyAt (λ x. named_in m.now x) m.now result
-        (step (spaced strings.astring) (drop p m.now)) }
+    ensures steps { StepsExactlyAt (spaced strings.astring) (named_in m.now) m.now p result }
     ensures ahead { Ahead m.now p result }
 {
     let (p, _) = tag(b" ", m, p)?;
@@ -39,7 +37,7 @@ fn spaced_name(m: &[u8], p: usize) -> Reached<Span>
 #[tactic(auto, unfolding(crate::specs::Sections::header_names))]
 fn header_names(m: &[u8], p: usize) -> Reached<()>
     requires { p ≤ length m.now }
-    ensures steps { ExactlyAt (λ x. tt) m.now result (step sections.header_names (drop p m.now)) }
+    ensures steps { StepsExactlyAt sections.header_names (λ x. tt) m.now p result }
     ensures ahead { Ahead m.now p result }
 {
     let (mut q, _) = astring(m, p)?;
@@ -51,8 +49,7 @@ fn header_names(m: &[u8], p: usize) -> Reached<()>
 
 fn maybe_header_names(m: &[u8], p: usize) -> Reached<()>
     requires { p ≤ length m.now }
-    ensures steps { ExactlyAt (λ x. tt) m.now result
-        (step (otherwise sections.header_names tt) (drop p m.now)) }
+    ensures steps { StepsExactlyAt (otherwise sections.header_names tt) (λ x. tt) m.now p result }
     ensures ahead { Ahead m.now p result }
 {
     match header_names(m, p) {
@@ -64,7 +61,7 @@ fn maybe_header_names(m: &[u8], p: usize) -> Reached<()>
 #[tactic(auto, unfolding(crate::specs::Sections::header_list))]
 fn header_list(m: &[u8], p: usize) -> Reached<()>
     requires { p ≤ length m.now }
-    ensures steps { ExactlyAt (λ x. tt) m.now result (step sections.header_list (drop p m.now)) }
+    ensures steps { StepsExactlyAt sections.header_list (λ x. tt) m.now p result }
     ensures ahead { Ahead m.now p result }
 {
     let (p, _) = tag(b"(", m, p)?;
@@ -77,8 +74,7 @@ fn header_list(m: &[u8], p: usize) -> Reached<()>
 #[tactic(auto, unfolding(crate::specs::Sections::fields_word))]
 fn fields_word(m: &[u8], p: usize) -> Reached<Span>
     requires { p ≤ length m.now }
-    ensures steps { ExactlyAt (λ x. named_in m.now x) m.now result
-        (step sections.fields_word (drop p m.now)) }
+    ensures steps { StepsExactlyAt sections.fields_word (named_in m.now) m.now p result }
     ensures ahead { Ahead m.now p result }
 {
     word(b"HEADER.FIELDS", m, p)
@@ -87,8 +83,8 @@ fn fields_word(m: &[u8], p: usize) -> Reached<Span>
 #[tactic(auto, unfolding(crate::specs::Sections::not_word))]
 fn maybe_not(m: &[u8], p: usize) -> Reached<Option<Span>>
     requires { p ≤ length m.now }
-    ensures steps { ExactlyAt (λ x. option_map (λ y. named_in m.now y) x) m.now result
-        (step (opt sections.not_word) (drop p m.now)) }
+    ensures steps { StepsExactlyAt (opt sections.not_word) (option_map (named_in m.now))
+        m.now p result }
     ensures ahead { Ahead m.now p result }
 {
     maybe!(word(b".NOT", m, p), p)
@@ -97,7 +93,7 @@ fn maybe_not(m: &[u8], p: usize) -> Reached<Option<Span>>
 #[tactic(auto, unfolding(crate::specs::Sections::header_fields))]
 fn header_fields(m: &[u8], p: usize) -> Reached<MessageSection>
     requires { p ≤ length m.now }
-    ensures steps { ExactlyAt (λ x. x) m.now result (step sections.header_fields (drop p m.now)) }
+    ensures steps { StepsExactlyAt sections.header_fields (λ x. x) m.now p result }
     ensures ahead { Ahead m.now p result }
 {
     let (p, _) = fields_word(m, p)?;
@@ -109,8 +105,7 @@ fn header_fields(m: &[u8], p: usize) -> Reached<MessageSection>
 
 fn header(m: &[u8], p: usize) -> Reached<MessageSection>
     requires { p ≤ length m.now }
-    ensures steps { ExactlyAt (λ x. x) m.now result
-        (step (tags.names "HEADER" what.Header) (drop p m.now)) }
+    ensures steps { StepsExactlyAt (tags.names "HEADER" what.Header) (λ x. x) m.now p result }
     ensures ahead { Ahead m.now p result }
 {
     let (p, _) = word(b"HEADER", m, p)?;
@@ -120,7 +115,7 @@ fn header(m: &[u8], p: usize) -> Reached<MessageSection>
 #[tactic(auto, unfolding(crate::specs::Sections::header_text))]
 fn header_text(m: &[u8], p: usize) -> Reached<MessageSection>
     requires { p ≤ length m.now }
-    ensures steps { ExactlyAt (λ x. x) m.now result (step sections.header_text (drop p m.now)) }
+    ensures steps { StepsExactlyAt sections.header_text (λ x. x) m.now p result }
     ensures ahead { Ahead m.now p result }
 {
     first!(header_fields(m, p));
@@ -130,7 +125,7 @@ fn header_text(m: &[u8], p: usize) -> Reached<MessageSection>
 #[tactic(auto, unfolding(crate::specs::Sections::body_text))]
 fn body_text(m: &[u8], p: usize) -> Reached<MessageSection>
     requires { p ≤ length m.now }
-    ensures steps { ExactlyAt (λ x. x) m.now result (step sections.body_text (drop p m.now)) }
+    ensures steps { StepsExactlyAt sections.body_text (λ x. x) m.now p result }
     ensures ahead { Ahead m.now p result }
 {
     let (p, _) = word(b"TEXT", m, p)?;
@@ -139,8 +134,7 @@ fn body_text(m: &[u8], p: usize) -> Reached<MessageSection>
 
 fn mime(m: &[u8], p: usize) -> Reached<MessageSection>
     requires { p ≤ length m.now }
-    ensures steps { ExactlyAt (λ x. x) m.now result
-        (step (tags.names "MIME" what.Mime) (drop p m.now)) }
+    ensures steps { StepsExactlyAt (tags.names "MIME" what.Mime) (λ x. x) m.now p result }
     ensures ahead { Ahead m.now p result }
     ensures no_failure { NeverFails result }
 {
@@ -154,7 +148,7 @@ fn mime(m: &[u8], p: usize) -> Reached<MessageSection>
 #[inline(always)]
 pub fn section_msgtext(m: &[u8], p: usize) -> Reached<MessageSection>
     requires { p ≤ length m.now }
-    ensures steps { ExactlyAt (λ x. x) m.now result (step sections.section_msgtext (drop p m.now)) }
+    ensures steps { StepsExactlyAt sections.section_msgtext (λ x. x) m.now p result }
     ensures ahead { Ahead m.now p result }
     ensures no_failure { NeverFails result }
 {
@@ -171,7 +165,7 @@ pub fn section_msgtext(m: &[u8], p: usize) -> Reached<MessageSection>
 #[tactic(auto, unfolding(crate::specs::Sections::section_text))]
 pub fn section_text(m: &[u8], p: usize) -> Reached<MessageSection>
     requires { p ≤ length m.now }
-    ensures steps { ExactlyAt (λ x. x) m.now result (step sections.section_text (drop p m.now)) }
+    ensures steps { StepsExactlyAt sections.section_text (λ x. x) m.now p result }
     ensures ahead { Ahead m.now p result }
     ensures no_failure { NeverFails result }
 {
@@ -181,8 +175,7 @@ pub fn section_text(m: &[u8], p: usize) -> Reached<MessageSection>
 
 fn dotted_number(m: &[u8], p: usize) -> Reached<u32>
     requires { p ≤ length m.now }
-    ensures steps { ExactlyAt (λ x. x) m.now result
-        (step (tags.tag "." ▹ numbers.number) (drop p m.now)) }
+    ensures steps { StepsExactlyAt (tags.tag "." ▹ numbers.number) (λ x. x) m.now p result }
     ensures ahead { Ahead m.now p result }
 {
     let (p, _) = tag(b".", m, p)?;
@@ -193,8 +186,7 @@ fn dotted_number(m: &[u8], p: usize) -> Reached<u32>
 #[tactic(auto, unfolding(crate::specs::Sections::section_part))]
 pub fn section_part(alloc: Global, m: &[u8], p: usize) -> Reached<Vec<u32>>
     requires { p ≤ length m.now }
-    ensures steps { GivesAt (λ x. x.items) m.now result
-        (step sections.section_part (drop p m.now)) }
+    ensures steps { StepsAt sections.section_part (λ x. x.items) m.now p result }
     ensures ahead { Ahead m.now p result }
 {
     let (mut q, first) = number(m, p)?;
@@ -209,7 +201,7 @@ pub fn section_part(alloc: Global, m: &[u8], p: usize) -> Reached<Vec<u32>>
 #[tactic(auto, unfolding(crate::specs::Sections::part_text))]
 fn part_text(m: &[u8], p: usize) -> Reached<MessageSection>
     requires { p ≤ length m.now }
-    ensures steps { ExactlyAt (λ x. x) m.now result (step sections.part_text (drop p m.now)) }
+    ensures steps { StepsExactlyAt sections.part_text (λ x. x) m.now p result }
     ensures ahead { Ahead m.now p result }
 {
     let (p, _) = tag(b".", m, p)?;
@@ -218,7 +210,7 @@ fn part_text(m: &[u8], p: usize) -> Reached<MessageSection>
 
 fn maybe_part_text(m: &[u8], p: usize) -> Reached<Option<MessageSection>>
     requires { p ≤ length m.now }
-    ensures steps { ExactlyAt (λ x. x) m.now result (step (opt sections.part_text) (drop p m.now)) }
+    ensures steps { StepsExactlyAt (opt sections.part_text) (λ x. x) m.now p result }
     ensures ahead { Ahead m.now p result }
 {
     maybe!(part_text(m, p), p)
@@ -227,8 +219,7 @@ fn maybe_part_text(m: &[u8], p: usize) -> Reached<Option<MessageSection>>
 #[tactic(auto, unfolding(crate::specs::Sections::part_path))]
 fn part_path(alloc: Global, m: &[u8], p: usize) -> Reached<SectionPath>
     requires { p ≤ length m.now }
-    ensures steps { GivesAt (λ x. path_value x) m.now result
-        (step sections.part_path (drop p m.now)) }
+    ensures steps { StepsAt sections.part_path path_value m.now p result }
     ensures ahead { Ahead m.now p result }
 {
     let (p, numbers) = section_part(alloc, m, p)?;
@@ -241,8 +232,7 @@ fn part_path(alloc: Global, m: &[u8], p: usize) -> Reached<SectionPath>
 #[tactic(auto, unfolding(crate::specs::Sections::section_spec))]
 pub fn section_spec(alloc: Global, m: &[u8], p: usize) -> Reached<SectionPath>
     requires { p ≤ length m.now }
-    ensures steps { GivesAt (λ x. path_value x) m.now result
-        (step sections.section_spec (drop p m.now)) }
+    ensures steps { StepsAt sections.section_spec path_value m.now p result }
     ensures ahead { Ahead m.now p result }
 {
     first!(section_msgtext(m, p), what => SectionPath::Full(what));
@@ -251,8 +241,7 @@ pub fn section_spec(alloc: Global, m: &[u8], p: usize) -> Reached<SectionPath>
 
 fn maybe_spec(alloc: Global, m: &[u8], p: usize) -> Reached<Option<SectionPath>>
     requires { p ≤ length m.now }
-    ensures steps { GivesAt (λ x. option_map path_value x) m.now result
-        (step (opt sections.section_spec) (drop p m.now)) }
+    ensures steps { StepsAt (opt sections.section_spec) (option_map path_value) m.now p result }
     ensures ahead { Ahead m.now p result }
 {
     maybe!(section_spec(alloc, m, p), p)
@@ -262,8 +251,7 @@ fn maybe_spec(alloc: Global, m: &[u8], p: usize) -> Reached<Option<SectionPath>>
 #[tactic(auto, unfolding(crate::specs::Sections::section))]
 pub fn section(alloc: Global, m: &[u8], p: usize) -> Reached<Option<SectionPath>>
     requires { p ≤ length m.now }
-    ensures steps { GivesAt (λ x. option_map path_value x) m.now result
-        (step sections.section (drop p m.now)) }
+    ensures steps { StepsAt sections.section (option_map path_value) m.now p result }
     ensures ahead { Ahead m.now p result }
 {
     let (p, _) = tag(b"[", m, p)?;

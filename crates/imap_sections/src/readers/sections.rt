@@ -1,9 +1,8 @@
 //! Sections.
 
 ghost use Rattle.std.specs.Option.{option_map};
-ghost use Rattle.imap_grammar.specs.Answer.{Answers, Exactly, Gives};
+ghost use Rattle.imap_grammar.specs.Answer.{Answers, Steps, StepsExactly};
 ghost use Rattle.imap_grammar.specs.Memory.{NeverFails};
-ghost use Rattle.imap_grammar.specs.Step.{step};
 ghost use Rattle.imap_sections.specs.Sections as sections;
 ghost use Rattle.imap_sections.specs.SectionValues.{path_value};
 
@@ -18,7 +17,7 @@ use std::alloc::Global;
 /// No digit in front, or a first number past 32 bits, is `Error`. It takes memory for the path.
 #[tactic(auto, using(imap_grammar::proofs::Agreement::answered))]
 pub fn section_part(alloc: Global, i: &[u8]) -> IResult<&[u8], Vec<u32>>
-    ensures steps { Gives (λ x. x.items) result (step sections.section_part i.now) }
+    ensures steps { Steps sections.section_part (λ x. x.items) i.now result }
     ensures answer { Answers sections.section_part (λ x. x.items) i.now result }
 {
     let (q, path) = at::sections::section_part(alloc, i, 0)?;
@@ -31,7 +30,7 @@ pub fn section_part(alloc: Global, i: &[u8]) -> IResult<&[u8], Vec<u32>>
 /// It takes no memory: the names are read and dropped. Where the names are denied, `HEADER` alone is read.
 #[tactic(auto, using(imap_grammar::proofs::Agreement::exact_answered))]
 pub fn section_msgtext(i: &[u8]) -> IResult<&[u8], MessageSection>
-    ensures steps { Exactly (λ x. x) result (step sections.section_msgtext i.now) }
+    ensures steps { StepsExactly sections.section_msgtext (λ x. x) i.now result }
     ensures answer { Answers sections.section_msgtext (λ x. x) i.now result }
     ensures no_failure { NeverFails result }
 {
@@ -44,8 +43,8 @@ pub fn section_msgtext(i: &[u8]) -> IResult<&[u8], MessageSection>
 /// No `[`, or what is no section in the brackets, is `Error`. It takes memory for the path of a part.
 #[tactic(auto, using(imap_grammar::proofs::Agreement::answered))]
 pub fn section(alloc: Global, i: &[u8]) -> IResult<&[u8], Option<SectionPath>>
-    ensures steps { Gives (λ x. option_map path_value x) result (step sections.section i.now) }
-    ensures answer { Answers sections.section (λ x. option_map path_value x) i.now result }
+    ensures steps { Steps sections.section (option_map path_value) i.now result }
+    ensures answer { Answers sections.section (option_map path_value) i.now result }
 {
     let (q, path) = at::sections::section(alloc, i, 0)?;
     Ok((rest(i, q), path))
@@ -55,7 +54,7 @@ impl MessageSection {
     /// What `section_msgtext` reads, or `MIME` (RFC 3501, section 9: section-text). It takes no memory.
     #[tactic(auto, using(imap_grammar::proofs::Agreement::exact_answered))]
     pub fn parse(i: &[u8]) -> IResult<&[u8], MessageSection>
-        ensures steps { Exactly (λ x. x) result (step sections.section_text i.now) }
+        ensures steps { StepsExactly sections.section_text (λ x. x) i.now result }
         ensures answer { Answers sections.section_text (λ x. x) i.now result }
         ensures no_failure { NeverFails result }
     {
@@ -70,8 +69,8 @@ impl SectionPath {
     /// It takes memory for the path of a part.
     #[tactic(auto, using(imap_grammar::proofs::Agreement::answered))]
     pub fn parse(alloc: Global, i: &[u8]) -> IResult<&[u8], SectionPath>
-        ensures steps { Gives (λ x. path_value x) result (step sections.section_spec i.now) }
-        ensures answer { Answers sections.section_spec (λ x. path_value x) i.now result }
+        ensures steps { Steps sections.section_spec path_value i.now result }
+        ensures answer { Answers sections.section_spec path_value i.now result }
     {
         let (q, path) = at::sections::section_spec(alloc, i, 0)?;
         Ok((rest(i, q), path))

@@ -1,8 +1,7 @@
 //! Structures of bodies at a position.
 
 ghost use Rattle.std.specs.Prelude.{◌≡◌, ◌≤◌, List, [], ◌∷◌, ◌++◌, IfOk, length, drop, map};
-ghost use Rattle.imap_grammar.specs.Positions.{ExactlyAt, GivesAt, Ahead, named_in};
-ghost use Rattle.imap_grammar.specs.Step.{step};
+ghost use Rattle.imap_grammar.specs.Positions.{Ahead, named_in, StepsAt, StepsExactlyAt};
 ghost use Rattle.imap_envelopes.specs.Envelopes as envelopes;
 ghost use Rattle.imap_envelopes.specs.Envelopes.{spaced};
 ghost use Rattle.imap_structure.specs.Bodies as bodies;
@@ -68,8 +67,8 @@ fn body_type_text<K: Keep>(
 ) -> Result<usize, Err>
     requires start { p ≤ length m.now }
     requires serves { K.serves keep.now m.now }
-    ensures puts { PutsAt (λ n x. body_seen (K.text_said n) (K.bytes_said n) x) m.now
-        others.old.items others.new.items result (step bodies.body_type_text (drop p m.now)) }
+    ensures puts { PutsAt bodies.body_type_text (λ n. body_seen (K.text_said n) (K.bytes_said n))
+        m.now p others.old.items others.new.items result }
     ensures leaves { Leaves others.old.items others.new.items result }
     ensures ahead { Reaches m.now p result }
 {
@@ -116,8 +115,8 @@ fn body_type_basic<K: Keep>(
 ) -> Result<usize, Err>
     requires start { p ≤ length m.now }
     requires serves { K.serves keep.now m.now }
-    ensures puts { PutsAt (λ n x. body_seen (K.text_said n) (K.bytes_said n) x) m.now
-        others.old.items others.new.items result (step bodies.body_type_basic (drop p m.now)) }
+    ensures puts { PutsAt bodies.body_type_basic (λ n. body_seen (K.text_said n) (K.bytes_said n))
+        m.now p others.old.items others.new.items result }
     ensures leaves { Leaves others.old.items others.new.items result }
     ensures ahead { Reaches m.now p result }
 {
@@ -159,10 +158,10 @@ fn spaced_envelope<K: Keep>(
 ) -> Reached<Envelope<K::Bytes>>
     requires start { p ≤ length m.now }
     requires serves { K.serves keep.now m.now }
-    ensures steps { GivesAt (λ x. envelope_seen (K.bytes_said (named_in m.now)) x) m.now result
-        (step (spaced envelopes.envelope) (drop p m.now)) }
+    ensures steps { StepsAt (spaced envelopes.envelope)
+        (envelope_seen (K.bytes_said (named_in m.now))) m.now p result }
     ensures ahead { Ahead m.now p result }
-    ensures rests { RestsOn (λ n x. envelope_seen (K.bytes_said n) x) result }
+    ensures rests { RestsOn (λ n. envelope_seen (K.bytes_said n)) result }
 {
     let (p, _) = tag(b" ", m, p)?;
     envelope(keep, alloc, m, p)
@@ -171,8 +170,7 @@ fn spaced_envelope<K: Keep>(
 #[tactic(auto, unfolding(crate::specs::Bodies::message_word))]
 fn message_word(m: &[u8], p: usize) -> Reached<Span>
     requires { p ≤ length m.now }
-    ensures steps { ExactlyAt (λ x. named_in m.now x) m.now result
-        (step bodies.message_word (drop p m.now)) }
+    ensures steps { StepsExactlyAt bodies.message_word (named_in m.now) m.now p result }
     ensures ahead { Ahead m.now p result }
 {
     word(b"\"MESSAGE\" \"RFC822\"", m, p)
@@ -194,8 +192,8 @@ pub fn body<K: Keep>(
 ) -> Result<usize, Err>
     requires start { p ≤ length m.now }
     requires serves { K.serves keep.now m.now }
-    ensures puts { PutsAt (λ n x. body_seen (K.text_said n) (K.bytes_said n) x) m.now
-        others.old.items others.new.items result (step (bodies.body level) (drop p m.now)) }
+    ensures puts { PutsAt (bodies.body level) (λ n. body_seen (K.text_said n) (K.bytes_said n))
+        m.now p others.old.items others.new.items result }
     ensures leaves { Leaves others.old.items others.new.items result }
     ensures ahead { Reaches m.now p result }
 {
@@ -217,9 +215,9 @@ fn bracketed_body<K: Keep>(
 ) -> Result<usize, Err>
     requires start { p ≤ length m.now }
     requires serves { K.serves keep.now m.now }
-    ensures puts { PutsAt (λ n x. body_seen (K.text_said n) (K.bytes_said n) x) m.now
-        others.old.items others.new.items result
-        (step (bodies.bracketed_body (bodies.body level)) (drop p m.now)) }
+    ensures puts { PutsAt (bodies.bracketed_body (bodies.body level))
+        (λ n. body_seen (K.text_said n) (K.bytes_said n)) m.now p others.old.items others.new.items
+        result }
     ensures leaves { Leaves others.old.items others.new.items result }
     ensures ahead { Reaches m.now p result }
 {
@@ -247,9 +245,9 @@ fn body_type<K: Keep>(
 ) -> Result<usize, Err>
     requires start { p ≤ length m.now }
     requires serves { K.serves keep.now m.now }
-    ensures puts { PutsAt (λ n x. body_seen (K.text_said n) (K.bytes_said n) x) m.now
-        others.old.items others.new.items result
-        (step (bodies.body_type (bodies.body level)) (drop p m.now)) }
+    ensures puts { PutsAt (bodies.body_type (bodies.body level))
+        (λ n. body_seen (K.text_said n) (K.bytes_said n)) m.now p others.old.items others.new.items
+        result }
     ensures leaves { Leaves others.old.items others.new.items result }
     ensures ahead { Reaches m.now p result }
 {
@@ -275,9 +273,9 @@ fn quoted_type<K: Keep>(
 ) -> Result<usize, Err>
     requires start { p ≤ length m.now }
     requires serves { K.serves keep.now m.now }
-    ensures puts { PutsAt (λ n x. body_seen (K.text_said n) (K.bytes_said n) x) m.now
-        others.old.items others.new.items result
-        (step (bodies.quoted_type (bodies.body level)) (drop p m.now)) }
+    ensures puts { PutsAt (bodies.quoted_type (bodies.body level))
+        (λ n. body_seen (K.text_said n) (K.bytes_said n)) m.now p others.old.items others.new.items
+        result }
     ensures leaves { Leaves others.old.items others.new.items result }
     ensures ahead { Reaches m.now p result }
 {
@@ -299,9 +297,9 @@ fn body_type_msg<K: Keep>(
 ) -> Result<usize, Err>
     requires start { p ≤ length m.now }
     requires serves { K.serves keep.now m.now }
-    ensures puts { PutsAt (λ n x. body_seen (K.text_said n) (K.bytes_said n) x) m.now
-        others.old.items others.new.items result
-        (step (bodies.body_type_msg (bodies.body level)) (drop p m.now)) }
+    ensures puts { PutsAt (bodies.body_type_msg (bodies.body level))
+        (λ n. body_seen (K.text_said n) (K.bytes_said n)) m.now p others.old.items others.new.items
+        result }
     ensures leaves { Leaves others.old.items others.new.items result }
     ensures ahead { Reaches m.now p result }
 {
@@ -350,11 +348,10 @@ fn spaced_body<K: Keep>(
 ) -> Reached<Boxed<K::Text, K::Bytes>>
     requires start { p ≤ length m.now }
     requires serves { K.serves keep.now m.now }
-    ensures steps { GivesAt
-        (λ x. boxed_seen (K.text_said (named_in m.now)) (K.bytes_said (named_in m.now)) x) m.now
-        result (step (spaced (bodies.body level)) (drop p m.now)) }
+    ensures steps { StepsAt (spaced (bodies.body level))
+        (boxed_seen (K.text_said (named_in m.now)) (K.bytes_said (named_in m.now))) m.now p result }
     ensures ahead { Ahead m.now p result }
-    ensures rests { RestsOn (λ n x. boxed_seen (K.text_said n) (K.bytes_said n) x) result }
+    ensures rests { RestsOn (λ n. boxed_seen (K.text_said n) (K.bytes_said n)) result }
 {
     let (p, _) = tag(b" ", m, p)?;
     one_body(keep, alloc, level, m, p)
@@ -373,9 +370,9 @@ fn body_type_mpart<K: Keep>(
 ) -> Result<usize, Err>
     requires start { p ≤ length m.now }
     requires serves { K.serves keep.now m.now }
-    ensures puts { PutsAt (λ n x. body_seen (K.text_said n) (K.bytes_said n) x) m.now
-        others.old.items others.new.items result
-        (step (bodies.body_type_mpart (bodies.body level)) (drop p m.now)) }
+    ensures puts { PutsAt (bodies.body_type_mpart (bodies.body level))
+        (λ n. body_seen (K.text_said n) (K.bytes_said n)) m.now p others.old.items others.new.items
+        result }
     ensures leaves { Leaves others.old.items others.new.items result }
     ensures ahead { Reaches m.now p result }
 {
@@ -413,10 +410,9 @@ fn some_bodies<K: Keep>(
 ) -> Reached<Vec<BodyStructure<K::Text, K::Bytes>>>
     requires start { p ≤ length m.now }
     requires serves { K.serves keep.now m.now }
-    ensures steps { GivesAt
-        (λ x.
+    ensures steps { StepsAt (bodies.some_bodies (bodies.body level)) (λ x.
         map (body_seen (K.text_said (named_in m.now)) (K.bytes_said (named_in m.now))) x.items)
-        m.now result (step (bodies.some_bodies (bodies.body level)) (drop p m.now)) }
+        m.now p result }
     ensures ahead { Ahead m.now p result }
     ensures rests { RestsOn (λ n x. map (body_seen (K.text_said n) (K.bytes_said n)) x.items)
         result }
@@ -447,11 +443,10 @@ fn one_body<K: Keep>(
 ) -> Reached<Boxed<K::Text, K::Bytes>>
     requires start { p ≤ length m.now }
     requires serves { K.serves keep.now m.now }
-    ensures steps { GivesAt
-        (λ x. boxed_seen (K.text_said (named_in m.now)) (K.bytes_said (named_in m.now)) x) m.now
-        result (step (bodies.body level) (drop p m.now)) }
+    ensures steps { StepsAt (bodies.body level)
+        (boxed_seen (K.text_said (named_in m.now)) (K.bytes_said (named_in m.now))) m.now p result }
     ensures ahead { Ahead m.now p result }
-    ensures rests { RestsOn (λ n x. boxed_seen (K.text_said n) (K.bytes_said n) x) result }
+    ensures rests { RestsOn (λ n. boxed_seen (K.text_said n) (K.bytes_said n)) result }
 {
     let mut bodies = Vec::with_capacity(alloc, 1)?;
     let p = made!(body(keep, alloc, level, m, p, &mut bodies), bodies);
@@ -468,11 +463,10 @@ pub fn body_structure<K: Keep>(
 ) -> Reached<Boxed<K::Text, K::Bytes>>
     requires start { p ≤ length m.now }
     requires serves { K.serves keep.now m.now }
-    ensures steps { GivesAt
-        (λ x. boxed_seen (K.text_said (named_in m.now)) (K.bytes_said (named_in m.now)) x) m.now
-        result (step bodies.body_structure (drop p m.now)) }
+    ensures steps { StepsAt bodies.body_structure
+        (boxed_seen (K.text_said (named_in m.now)) (K.bytes_said (named_in m.now))) m.now p result }
     ensures ahead { Ahead m.now p result }
-    ensures rests { RestsOn (λ n x. boxed_seen (K.text_said n) (K.bytes_said n) x) result }
+    ensures rests { RestsOn (λ n. boxed_seen (K.text_said n) (K.bytes_said n)) result }
 {
     one_body(keep, alloc, MAX_BODY_DEPTH, m, p)
 }

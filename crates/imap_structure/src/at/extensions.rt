@@ -1,10 +1,9 @@
 //! Extension data of bodies at a position.
 
-ghost use Rattle.std.specs.Prelude.{◌≡◌, ◌≤◌, length, drop, map, IfOk};
+ghost use Rattle.std.specs.Prelude.{◌≡◌, ◌≤◌, length, map, IfOk};
 ghost use Rattle.imap_grammar.specs.Text.{Text};
 ghost use Rattle.std.specs.Option.{option_map};
-ghost use Rattle.imap_grammar.specs.Positions.{ExactlyAt, GivesAt, Ahead, named_in};
-ghost use Rattle.imap_grammar.specs.Step.{step};
+ghost use Rattle.imap_grammar.specs.Positions.{Ahead, named_in, StepsAt, StepsExactlyAt};
 ghost use Rattle.imap_bytes.specs.Texts as texts;
 ghost use Rattle.imap_envelopes.specs.Envelopes.{spaced};
 ghost use Rattle.imap_structure.specs.Fields as fields;
@@ -44,10 +43,10 @@ fn spaced_params<K: Keep>(
 ) -> Reached<BodyParams<K::Text>>
     requires start { p ≤ length m.now }
     requires serves { K.serves keep.now m.now }
-    ensures steps { GivesAt (λ x. params_seen (K.text_said (named_in m.now)) x) m.now result
-        (step (spaced fields.body_fld_param) (drop p m.now)) }
+    ensures steps { StepsAt (spaced fields.body_fld_param)
+        (params_seen (K.text_said (named_in m.now))) m.now p result }
     ensures ahead { Ahead m.now p result }
-    ensures rests { RestsOn (λ n x. params_seen (K.text_said n) x) result }
+    ensures rests { RestsOn (λ n. params_seen (K.text_said n)) result }
 {
     let (p, _) = tag(b" ", m, p)?;
     body_fld_param(keep, alloc, m, p)
@@ -63,10 +62,10 @@ fn body_fld_dsp<K: Keep>(
 ) -> Reached<Option<ContentDisposition<K::Text>>>
     requires start { p ≤ length m.now }
     requires serves { K.serves keep.now m.now }
-    ensures steps { GivesAt (λ x. option_map (disposition_seen (K.text_said (named_in m.now))) x)
-        m.now result (step extensions.body_fld_dsp (drop p m.now)) }
+    ensures steps { StepsAt extensions.body_fld_dsp
+        (option_map (disposition_seen (K.text_said (named_in m.now)))) m.now p result }
     ensures ahead { Ahead m.now p result }
-    ensures rests { RestsOn (λ n x. option_map (disposition_seen (K.text_said n)) x) result }
+    ensures rests { RestsOn (λ n. option_map (disposition_seen (K.text_said n))) result }
 {
     first!(nil(m, p), _ => None);
     let (q, _) = tag(b"(", m, p)?;
@@ -83,8 +82,8 @@ fn body_fld_dsp<K: Keep>(
 fn some_languages<K: Keep>(keep: &K, alloc: Global, m: &[u8], p: usize) -> Reached<Vec<K::Text>>
     requires start { p ≤ length m.now }
     requires serves { K.serves keep.now m.now }
-    ensures steps { GivesAt (λ x. map (K.text_said (named_in m.now)) x.items) m.now result
-        (step extensions.some_languages (drop p m.now)) }
+    ensures steps { StepsAt extensions.some_languages
+        (λ x. map (K.text_said (named_in m.now)) x.items) m.now p result }
     ensures ahead { Ahead m.now p result }
     ensures rests { RestsOn (λ n x. map (K.text_said n) x.items) result }
 {
@@ -107,10 +106,10 @@ fn language_list<K: Keep>(
 ) -> Reached<Option<Vec<K::Text>>>
     requires start { p ≤ length m.now }
     requires serves { K.serves keep.now m.now }
-    ensures steps { GivesAt (λ x. languages_seen (K.text_said (named_in m.now)) x) m.now result
-        (step extensions.language_list (drop p m.now)) }
+    ensures steps { StepsAt extensions.language_list (languages_seen (K.text_said (named_in m.now)))
+        m.now p result }
     ensures ahead { Ahead m.now p result }
-    ensures rests { RestsOn (λ n x. languages_seen (K.text_said n) x) result }
+    ensures rests { RestsOn (λ n. languages_seen (K.text_said n)) result }
 {
     let (p, _) = tag(b"(", m, p)?;
     let (p, languages) = some_languages(keep, alloc, m, p)?;
@@ -120,9 +119,9 @@ fn language_list<K: Keep>(
 }
 
 // A list of one, where there is one.
-fn single<S: Drop>(alloc: Global, language: Option<S>) -> Result<Option<Vec<S>>, AllocError>
+fn one_language<S: Drop>(alloc: Global, language: Option<S>) -> Result<Option<Vec<S>>, AllocError>
     ensures { IfOk result (λ x.
-        (f : S → Text) → languages_seen f x ≡ extensions.single (option_map f language)) }
+        (f : S → Text) → languages_seen f x ≡ extensions.one_language (option_map f language)) }
 {
     match language {
         None => Ok(None),
@@ -140,12 +139,12 @@ fn body_fld_lang<K: Keep>(
 ) -> Reached<Option<Vec<K::Text>>>
     requires start { p ≤ length m.now }
     requires serves { K.serves keep.now m.now }
-    ensures steps { GivesAt (λ x. languages_seen (K.text_said (named_in m.now)) x) m.now result
-        (step extensions.body_fld_lang (drop p m.now)) }
+    ensures steps { StepsAt extensions.body_fld_lang (languages_seen (K.text_said (named_in m.now)))
+        m.now p result }
     ensures ahead { Ahead m.now p result }
-    ensures rests { RestsOn (λ n x. languages_seen (K.text_said n) x) result }
+    ensures rests { RestsOn (λ n. languages_seen (K.text_said n)) result }
 {
-    first!(nstring_text(m, p), language => single(alloc, kept_text(keep, m, language)?)?);
+    first!(nstring_text(m, p), language => one_language(alloc, kept_text(keep, m, language)?)?);
     language_list(keep, alloc, m, p)
 }
 
@@ -154,10 +153,10 @@ fn body_fld_lang<K: Keep>(
 #[tactic(auto, using(crate::proofs::Seeing::number_seen, crate::proofs::Seeing::number_rests), unfolding(crate::specs::Extensions::number_extension))]
 fn number_extension<K: Keep>(m: &[u8], p: usize) -> Reached<BodyExtension<K::Text>>
     requires { p ≤ length m.now }
-    ensures steps { ExactlyAt (λ x. extension_seen (K.text_said (named_in m.now)) x) m.now result
-        (step extensions.number_extension (drop p m.now)) }
+    ensures steps { StepsExactlyAt extensions.number_extension
+        (extension_seen (K.text_said (named_in m.now))) m.now p result }
     ensures ahead { Ahead m.now p result }
-    ensures rests { RestsOn (λ n x. extension_seen (K.text_said n) x) result }
+    ensures rests { RestsOn (λ n. extension_seen (K.text_said n)) result }
 {
     let (p, n) = number(m, p)?;
     Ok((p, BodyExtension::Num(n)))
@@ -167,10 +166,10 @@ fn number_extension<K: Keep>(m: &[u8], p: usize) -> Reached<BodyExtension<K::Tex
 fn string_extension<K: Keep>(keep: &K, m: &[u8], p: usize) -> Reached<BodyExtension<K::Text>>
     requires start { p ≤ length m.now }
     requires serves { K.serves keep.now m.now }
-    ensures steps { GivesAt (λ x. extension_seen (K.text_said (named_in m.now)) x) m.now result
-        (step extensions.string_extension (drop p m.now)) }
+    ensures steps { StepsAt extensions.string_extension
+        (extension_seen (K.text_said (named_in m.now))) m.now p result }
     ensures ahead { Ahead m.now p result }
-    ensures rests { RestsOn (λ n x. extension_seen (K.text_said n) x) result }
+    ensures rests { RestsOn (λ n. extension_seen (K.text_said n)) result }
 {
     let (p, text) = nstring_text(m, p)?;
     Ok((p, BodyExtension::Str(kept_text(keep, m, text)?)))
@@ -191,10 +190,10 @@ pub fn extension<K: Keep>(
 ) -> Reached<BodyExtension<K::Text>>
     requires start { p ≤ length m.now }
     requires serves { K.serves keep.now m.now }
-    ensures steps { GivesAt (λ x. extension_seen (K.text_said (named_in m.now)) x) m.now result
-        (step (extensions.extension level) (drop p m.now)) }
+    ensures steps { StepsAt (extensions.extension level)
+        (extension_seen (K.text_said (named_in m.now))) m.now p result }
     ensures ahead { Ahead m.now p result }
-    ensures rests { RestsOn (λ n x. extension_seen (K.text_said n) x) result }
+    ensures rests { RestsOn (λ n. extension_seen (K.text_said n)) result }
 {
     let (_, i) = m.split_at(p);
     match i.first() {
@@ -217,10 +216,10 @@ fn extension_list<K: Keep>(
 ) -> Reached<BodyExtension<K::Text>>
     requires start { p ≤ length m.now }
     requires serves { K.serves keep.now m.now }
-    ensures steps { GivesAt (λ x. extension_seen (K.text_said (named_in m.now)) x) m.now result
-        (step (extensions.extension_list level) (drop p m.now)) }
+    ensures steps { StepsAt (extensions.extension_list level)
+        (extension_seen (K.text_said (named_in m.now))) m.now p result }
     ensures ahead { Ahead m.now p result }
-    ensures rests { RestsOn (λ n x. extension_seen (K.text_said n) x) result }
+    ensures rests { RestsOn (λ n. extension_seen (K.text_said n)) result }
 {
     if level == 0 {
         return Err(Err::Error);
@@ -239,10 +238,10 @@ fn bracketed_extensions<K: Keep>(
 ) -> Reached<BodyExtension<K::Text>>
     requires start { p ≤ length m.now }
     requires serves { K.serves keep.now m.now }
-    ensures steps { GivesAt (λ x. extension_seen (K.text_said (named_in m.now)) x) m.now result
-        (step (extensions.bracketed_extensions (extensions.extension_list level)) (drop p m.now)) }
+    ensures steps { StepsAt (extensions.bracketed_extensions (extensions.extension_list level))
+        (extension_seen (K.text_said (named_in m.now))) m.now p result }
     ensures ahead { Ahead m.now p result }
-    ensures rests { RestsOn (λ n x. extension_seen (K.text_said n) x) result }
+    ensures rests { RestsOn (λ n. extension_seen (K.text_said n)) result }
 {
     let (p, _) = tag(b"(", m, p)?;
     let (p, members) = some_extensions(keep, alloc, level, m, p)?;
@@ -262,9 +261,8 @@ fn some_extensions<K: Keep>(
 ) -> Reached<Vec<BodyExtension<K::Text>>>
     requires start { p ≤ length m.now }
     requires serves { K.serves keep.now m.now }
-    ensures steps { GivesAt (λ x. map (extension_seen (K.text_said (named_in m.now))) x.items) m.now
-        result
-        (step (extensions.some_extensions (extensions.extension_list level)) (drop p m.now)) }
+    ensures steps { StepsAt (extensions.some_extensions (extensions.extension_list level))
+        (λ x. map (extension_seen (K.text_said (named_in m.now))) x.items) m.now p result }
     ensures ahead { Ahead m.now p result }
     ensures rests { RestsOn (λ n x. map (extension_seen (K.text_said n)) x.items) result }
 {
@@ -290,10 +288,10 @@ fn spaced_extension<K: Keep>(
 ) -> Reached<BodyExtension<K::Text>>
     requires start { p ≤ length m.now }
     requires serves { K.serves keep.now m.now }
-    ensures steps { GivesAt (λ x. extension_seen (K.text_said (named_in m.now)) x) m.now result
-        (step (spaced (extensions.extension level)) (drop p m.now)) }
+    ensures steps { StepsAt (spaced (extensions.extension level))
+        (extension_seen (K.text_said (named_in m.now))) m.now p result }
     ensures ahead { Ahead m.now p result }
-    ensures rests { RestsOn (λ n x. extension_seen (K.text_said n) x) result }
+    ensures rests { RestsOn (λ n. extension_seen (K.text_said n)) result }
 {
     let (p, _) = tag(b" ", m, p)?;
     extension(keep, alloc, level, m, p)
@@ -310,10 +308,10 @@ pub fn body_extension<K: Keep>(
 ) -> Reached<BodyExtension<K::Text>>
     requires start { p ≤ length m.now }
     requires serves { K.serves keep.now m.now }
-    ensures steps { GivesAt (λ x. extension_seen (K.text_said (named_in m.now)) x) m.now result
-        (step extensions.body_extension (drop p m.now)) }
+    ensures steps { StepsAt extensions.body_extension
+        (extension_seen (K.text_said (named_in m.now))) m.now p result }
     ensures ahead { Ahead m.now p result }
-    ensures rests { RestsOn (λ n x. extension_seen (K.text_said n) x) result }
+    ensures rests { RestsOn (λ n. extension_seen (K.text_said n)) result }
 {
     extension(keep, alloc, MAX_EXTENSION_DEPTH, m, p)
 }
@@ -323,8 +321,8 @@ pub fn body_extension<K: Keep>(
 #[inline(always)]
 fn maybe_nstring_text(m: &[u8], p: usize) -> Reached<Option<SpannedText>>
     requires { p ≤ length m.now }
-    ensures steps { ExactlyAt (λ x. maybe_text_in (named_in m.now) x) m.now result
-        (step (maybe_spaced texts.nstring_utf8) (drop p m.now)) }
+    ensures steps { StepsExactlyAt (maybe_spaced texts.nstring_utf8)
+        (maybe_text_in (named_in m.now)) m.now p result }
     ensures ahead { Ahead m.now p result }
     ensures rests { RestsOn maybe_text_in result }
 {
@@ -340,10 +338,10 @@ fn maybe_params<K: Keep>(
 ) -> Reached<BodyParams<K::Text>>
     requires start { p ≤ length m.now }
     requires serves { K.serves keep.now m.now }
-    ensures steps { GivesAt (λ x. params_seen (K.text_said (named_in m.now)) x) m.now result
-        (step (maybe_spaced fields.body_fld_param) (drop p m.now)) }
+    ensures steps { StepsAt (maybe_spaced fields.body_fld_param)
+        (params_seen (K.text_said (named_in m.now))) m.now p result }
     ensures ahead { Ahead m.now p result }
-    ensures rests { RestsOn (λ n x. params_seen (K.text_said n) x) result }
+    ensures rests { RestsOn (λ n. params_seen (K.text_said n)) result }
 {
     first!(spaced_params(keep, alloc, m, p));
     Ok((p, None))
@@ -357,10 +355,10 @@ fn spaced_disposition<K: Keep>(
 ) -> Reached<Option<ContentDisposition<K::Text>>>
     requires start { p ≤ length m.now }
     requires serves { K.serves keep.now m.now }
-    ensures steps { GivesAt (λ x. option_map (disposition_seen (K.text_said (named_in m.now))) x)
-        m.now result (step (spaced extensions.body_fld_dsp) (drop p m.now)) }
+    ensures steps { StepsAt (spaced extensions.body_fld_dsp)
+        (option_map (disposition_seen (K.text_said (named_in m.now)))) m.now p result }
     ensures ahead { Ahead m.now p result }
-    ensures rests { RestsOn (λ n x. option_map (disposition_seen (K.text_said n)) x) result }
+    ensures rests { RestsOn (λ n. option_map (disposition_seen (K.text_said n))) result }
 {
     let (p, _) = tag(b" ", m, p)?;
     body_fld_dsp(keep, alloc, m, p)
@@ -375,10 +373,10 @@ fn maybe_disposition<K: Keep>(
 ) -> Reached<Option<ContentDisposition<K::Text>>>
     requires start { p ≤ length m.now }
     requires serves { K.serves keep.now m.now }
-    ensures steps { GivesAt (λ x. option_map (disposition_seen (K.text_said (named_in m.now))) x)
-        m.now result (step (maybe_spaced extensions.body_fld_dsp) (drop p m.now)) }
+    ensures steps { StepsAt (maybe_spaced extensions.body_fld_dsp)
+        (option_map (disposition_seen (K.text_said (named_in m.now)))) m.now p result }
     ensures ahead { Ahead m.now p result }
-    ensures rests { RestsOn (λ n x. option_map (disposition_seen (K.text_said n)) x) result }
+    ensures rests { RestsOn (λ n. option_map (disposition_seen (K.text_said n))) result }
 {
     first!(spaced_disposition(keep, alloc, m, p));
     Ok((p, None))
@@ -392,10 +390,10 @@ fn spaced_languages<K: Keep>(
 ) -> Reached<Option<Vec<K::Text>>>
     requires start { p ≤ length m.now }
     requires serves { K.serves keep.now m.now }
-    ensures steps { GivesAt (λ x. languages_seen (K.text_said (named_in m.now)) x) m.now result
-        (step (spaced extensions.body_fld_lang) (drop p m.now)) }
+    ensures steps { StepsAt (spaced extensions.body_fld_lang)
+        (languages_seen (K.text_said (named_in m.now))) m.now p result }
     ensures ahead { Ahead m.now p result }
-    ensures rests { RestsOn (λ n x. languages_seen (K.text_said n) x) result }
+    ensures rests { RestsOn (λ n. languages_seen (K.text_said n)) result }
 {
     let (p, _) = tag(b" ", m, p)?;
     body_fld_lang(keep, alloc, m, p)
@@ -410,10 +408,10 @@ fn maybe_languages<K: Keep>(
 ) -> Reached<Option<Vec<K::Text>>>
     requires start { p ≤ length m.now }
     requires serves { K.serves keep.now m.now }
-    ensures steps { GivesAt (λ x. languages_seen (K.text_said (named_in m.now)) x) m.now result
-        (step (maybe_spaced extensions.body_fld_lang) (drop p m.now)) }
+    ensures steps { StepsAt (maybe_spaced extensions.body_fld_lang)
+        (languages_seen (K.text_said (named_in m.now))) m.now p result }
     ensures ahead { Ahead m.now p result }
-    ensures rests { RestsOn (λ n x. languages_seen (K.text_said n) x) result }
+    ensures rests { RestsOn (λ n. languages_seen (K.text_said n)) result }
 {
     first!(spaced_languages(keep, alloc, m, p));
     Ok((p, None))
@@ -429,10 +427,10 @@ fn last_extension<K: Keep>(
 ) -> Reached<Option<BodyExtension<K::Text>>>
     requires start { p ≤ length m.now }
     requires serves { K.serves keep.now m.now }
-    ensures steps { GivesAt (λ x. option_map (extension_seen (K.text_said (named_in m.now))) x)
-        m.now result (step extensions.last_extension (drop p m.now)) }
+    ensures steps { StepsAt extensions.last_extension
+        (option_map (extension_seen (K.text_said (named_in m.now)))) m.now p result }
     ensures ahead { Ahead m.now p result }
-    ensures rests { RestsOn (λ n x. option_map (extension_seen (K.text_said n)) x) result }
+    ensures rests { RestsOn (λ n. option_map (extension_seen (K.text_said n))) result }
 {
     maybe!(spaced_extension(keep, alloc, MAX_EXTENSION_DEPTH, m, p), p)
 }
@@ -450,10 +448,10 @@ pub fn body_ext_1part<K: Keep>(
 ) -> Reached<BodyExt1Part<K::Text>>
     requires start { p ≤ length m.now }
     requires serves { K.serves keep.now m.now }
-    ensures steps { GivesAt (λ x. ext_1part_seen (K.text_said (named_in m.now)) x) m.now result
-        (step extensions.body_ext_1part (drop p m.now)) }
+    ensures steps { StepsAt extensions.body_ext_1part
+        (ext_1part_seen (K.text_said (named_in m.now))) m.now p result }
     ensures ahead { Ahead m.now p result }
-    ensures rests { RestsOn (λ n x. ext_1part_seen (K.text_said n) x) result }
+    ensures rests { RestsOn (λ n. ext_1part_seen (K.text_said n)) result }
 {
     let (p, md5) = maybe_nstring_text(m, p)?;
     let (p, disposition) = maybe_disposition(keep, alloc, m, p)?;
@@ -485,10 +483,10 @@ pub fn body_ext_mpart<K: Keep>(
 ) -> Reached<BodyExtMPart<K::Text>>
     requires start { p ≤ length m.now }
     requires serves { K.serves keep.now m.now }
-    ensures steps { GivesAt (λ x. ext_mpart_seen (K.text_said (named_in m.now)) x) m.now result
-        (step extensions.body_ext_mpart (drop p m.now)) }
+    ensures steps { StepsAt extensions.body_ext_mpart
+        (ext_mpart_seen (K.text_said (named_in m.now))) m.now p result }
     ensures ahead { Ahead m.now p result }
-    ensures rests { RestsOn (λ n x. ext_mpart_seen (K.text_said n) x) result }
+    ensures rests { RestsOn (λ n. ext_mpart_seen (K.text_said n)) result }
 {
     let (p, param) = maybe_params(keep, alloc, m, p)?;
     let (p, disposition) = maybe_disposition(keep, alloc, m, p)?;

@@ -1,9 +1,8 @@
 //! Parameters, encodings and fields of bodies at a position.
 
-ghost use Rattle.std.specs.Prelude.{◌≤◌, length, drop, map};
-ghost use Rattle.imap_grammar.specs.Positions.{ExactlyAt, GivesAt, Ahead, named_in};
+ghost use Rattle.std.specs.Prelude.{◌≤◌, length, map};
+ghost use Rattle.imap_grammar.specs.Positions.{Ahead, named_in, StepsAt, StepsExactlyAt};
 ghost use Rattle.imap_grammar.specs.Memory.{NeverFails};
-ghost use Rattle.imap_grammar.specs.Step.{step};
 ghost use Rattle.imap_envelopes.specs.Envelopes.{spaced};
 ghost use Rattle.imap_structure.specs.Fields as fields;
 ghost use Rattle.imap_structure.specs.Spanned.{pair_in, encoding_in};
@@ -29,8 +28,7 @@ use std::alloc::Global;
 #[inline(always)]
 fn param(m: &[u8], p: usize) -> Reached<(SpannedText, SpannedText)>
     requires { p ≤ length m.now }
-    ensures steps { ExactlyAt (λ x. pair_in (named_in m.now) x) m.now result
-        (step fields.body_param (drop p m.now)) }
+    ensures steps { StepsExactlyAt fields.body_param (pair_in (named_in m.now)) m.now p result }
     ensures ahead { Ahead m.now p result }
     ensures rests { RestsOn pair_in result }
 {
@@ -42,8 +40,8 @@ fn param(m: &[u8], p: usize) -> Reached<(SpannedText, SpannedText)>
 #[inline(always)]
 fn spaced_param(m: &[u8], p: usize) -> Reached<(SpannedText, SpannedText)>
     requires { p ≤ length m.now }
-    ensures steps { ExactlyAt (λ x. pair_in (named_in m.now) x) m.now result
-        (step (spaced fields.body_param) (drop p m.now)) }
+    ensures steps { StepsExactlyAt (spaced fields.body_param) (pair_in (named_in m.now)) m.now p
+        result }
     ensures ahead { Ahead m.now p result }
     ensures rests { RestsOn pair_in result }
 {
@@ -60,8 +58,8 @@ fn some_params<K: Keep>(
 ) -> Reached<Vec<(K::Text, K::Text)>>
     requires start { p ≤ length m.now }
     requires serves { K.serves keep.now m.now }
-    ensures steps { GivesAt (λ x. map (pair_seen (K.text_said (named_in m.now))) x.items) m.now
-        result (step fields.some_params (drop p m.now)) }
+    ensures steps { StepsAt fields.some_params
+        (λ x. map (pair_seen (K.text_said (named_in m.now))) x.items) m.now p result }
     ensures ahead { Ahead m.now p result }
     ensures rests { RestsOn (λ n x. map (pair_seen (K.text_said n)) x.items) result }
 {
@@ -87,10 +85,10 @@ pub fn body_fld_param<K: Keep>(
 ) -> Reached<BodyParams<K::Text>>
     requires start { p ≤ length m.now }
     requires serves { K.serves keep.now m.now }
-    ensures steps { GivesAt (λ x. params_seen (K.text_said (named_in m.now)) x) m.now result
-        (step fields.body_fld_param (drop p m.now)) }
+    ensures steps { StepsAt fields.body_fld_param (params_seen (K.text_said (named_in m.now))) m.now
+        p result }
     ensures ahead { Ahead m.now p result }
-    ensures rests { RestsOn (λ n x. params_seen (K.text_said n) x) result }
+    ensures rests { RestsOn (λ n. params_seen (K.text_said n)) result }
 {
     first!(nil(m, p), _ => None);
     let (q, _) = tag(b"(", m, p)?;
@@ -103,8 +101,7 @@ pub fn body_fld_param<K: Keep>(
 #[tactic(auto, unfolding(crate::specs::Fields::seven_bit))]
 fn seven_bit(m: &[u8], p: usize) -> Reached<ContentEncoding<SpannedText>>
     requires { p ≤ length m.now }
-    ensures steps { ExactlyAt (λ x. encoding_in (named_in m.now) x) m.now result
-        (step fields.seven_bit (drop p m.now)) }
+    ensures steps { StepsExactlyAt fields.seven_bit (encoding_in (named_in m.now)) m.now p result }
     ensures ahead { Ahead m.now p result }
     ensures rests { RestsOn encoding_in result }
 {
@@ -115,8 +112,7 @@ fn seven_bit(m: &[u8], p: usize) -> Reached<ContentEncoding<SpannedText>>
 #[tactic(auto, unfolding(crate::specs::Fields::eight_bit))]
 fn eight_bit(m: &[u8], p: usize) -> Reached<ContentEncoding<SpannedText>>
     requires { p ≤ length m.now }
-    ensures steps { ExactlyAt (λ x. encoding_in (named_in m.now) x) m.now result
-        (step fields.eight_bit (drop p m.now)) }
+    ensures steps { StepsExactlyAt fields.eight_bit (encoding_in (named_in m.now)) m.now p result }
     ensures ahead { Ahead m.now p result }
     ensures rests { RestsOn encoding_in result }
 {
@@ -127,8 +123,8 @@ fn eight_bit(m: &[u8], p: usize) -> Reached<ContentEncoding<SpannedText>>
 #[tactic(auto, unfolding(crate::specs::Fields::binary_or_base64))]
 fn binary_or_base64(m: &[u8], p: usize) -> Reached<ContentEncoding<SpannedText>>
     requires { p ≤ length m.now }
-    ensures steps { ExactlyAt (λ x. encoding_in (named_in m.now) x) m.now result
-        (step fields.binary_or_base64 (drop p m.now)) }
+    ensures steps { StepsExactlyAt fields.binary_or_base64 (encoding_in (named_in m.now)) m.now p
+        result }
     ensures ahead { Ahead m.now p result }
     ensures rests { RestsOn encoding_in result }
 {
@@ -140,8 +136,8 @@ fn binary_or_base64(m: &[u8], p: usize) -> Reached<ContentEncoding<SpannedText>>
 #[tactic(auto, unfolding(crate::specs::Fields::quoted_printable))]
 fn quoted_printable(m: &[u8], p: usize) -> Reached<ContentEncoding<SpannedText>>
     requires { p ≤ length m.now }
-    ensures steps { ExactlyAt (λ x. encoding_in (named_in m.now) x) m.now result
-        (step fields.quoted_printable (drop p m.now)) }
+    ensures steps { StepsExactlyAt fields.quoted_printable (encoding_in (named_in m.now)) m.now p
+        result }
     ensures ahead { Ahead m.now p result }
     ensures rests { RestsOn encoding_in result }
 {
@@ -152,8 +148,8 @@ fn quoted_printable(m: &[u8], p: usize) -> Reached<ContentEncoding<SpannedText>>
 #[tactic(auto, using(crate::proofs::FirstBytes::name_none, crate::proofs::FirstBytes::name_is_seven_bit, crate::proofs::FirstBytes::name_is_eight_bit, crate::proofs::FirstBytes::name_is_binary_or_base64, crate::proofs::FirstBytes::name_is_quoted_printable, crate::proofs::FirstBytes::name_other))]
 fn encoding_name(m: &[u8], p: usize) -> Reached<ContentEncoding<SpannedText>>
     requires { p ≤ length m.now }
-    ensures steps { ExactlyAt (λ x. encoding_in (named_in m.now) x) m.now result
-        (step fields.encoding_name (drop p m.now)) }
+    ensures steps { StepsExactlyAt fields.encoding_name (encoding_in (named_in m.now)) m.now p
+        result }
     ensures ahead { Ahead m.now p result }
     ensures rests { RestsOn encoding_in result }
 {
@@ -171,8 +167,8 @@ fn encoding_name(m: &[u8], p: usize) -> Reached<ContentEncoding<SpannedText>>
 #[tactic(auto, unfolding(crate::specs::Fields::quoted_encoding))]
 fn quoted_encoding(m: &[u8], p: usize) -> Reached<ContentEncoding<SpannedText>>
     requires { p ≤ length m.now }
-    ensures steps { ExactlyAt (λ x. encoding_in (named_in m.now) x) m.now result
-        (step fields.quoted_encoding (drop p m.now)) }
+    ensures steps { StepsExactlyAt fields.quoted_encoding (encoding_in (named_in m.now)) m.now p
+        result }
     ensures ahead { Ahead m.now p result }
     ensures rests { RestsOn encoding_in result }
 {
@@ -185,8 +181,8 @@ fn quoted_encoding(m: &[u8], p: usize) -> Reached<ContentEncoding<SpannedText>>
 #[tactic(auto, unfolding(crate::specs::Fields::nil_encoding))]
 fn nil_encoding(m: &[u8], p: usize) -> Reached<ContentEncoding<SpannedText>>
     requires { p ≤ length m.now }
-    ensures steps { ExactlyAt (λ x. encoding_in (named_in m.now) x) m.now result
-        (step fields.nil_encoding (drop p m.now)) }
+    ensures steps { StepsExactlyAt fields.nil_encoding (encoding_in (named_in m.now)) m.now p
+        result }
     ensures ahead { Ahead m.now p result }
     ensures rests { RestsOn encoding_in result }
 {
@@ -197,8 +193,8 @@ fn nil_encoding(m: &[u8], p: usize) -> Reached<ContentEncoding<SpannedText>>
 #[tactic(auto, unfolding(crate::specs::Fields::other_encoding))]
 fn other_encoding(m: &[u8], p: usize) -> Reached<ContentEncoding<SpannedText>>
     requires { p ≤ length m.now }
-    ensures steps { ExactlyAt (λ x. encoding_in (named_in m.now) x) m.now result
-        (step fields.other_encoding (drop p m.now)) }
+    ensures steps { StepsExactlyAt fields.other_encoding (encoding_in (named_in m.now)) m.now p
+        result }
     ensures ahead { Ahead m.now p result }
     ensures rests { RestsOn encoding_in result }
 {
@@ -209,8 +205,8 @@ fn other_encoding(m: &[u8], p: usize) -> Reached<ContentEncoding<SpannedText>>
 #[tactic(auto, unfolding(crate::specs::Fields::encoding_in_quotes))]
 fn encoding_in_quotes(m: &[u8], p: usize) -> Reached<ContentEncoding<SpannedText>>
     requires { p ≤ length m.now }
-    ensures steps { ExactlyAt (λ x. encoding_in (named_in m.now) x) m.now result
-        (step fields.encoding_in_quotes (drop p m.now)) }
+    ensures steps { StepsExactlyAt fields.encoding_in_quotes (encoding_in (named_in m.now)) m.now p
+        result }
     ensures ahead { Ahead m.now p result }
     ensures rests { RestsOn encoding_in result }
 {
@@ -222,8 +218,8 @@ fn encoding_in_quotes(m: &[u8], p: usize) -> Reached<ContentEncoding<SpannedText
 #[tactic(auto, using(imap_grammar::proofs::Memory::exactly_never_at, crate::proofs::FirstBytes::encoding_none, crate::proofs::FirstBytes::encoding_is_in_quotes, crate::proofs::FirstBytes::encoding_is_literal, crate::proofs::FirstBytes::encoding_is_nil, crate::proofs::FirstBytes::encoding_other))]
 pub fn body_fld_enc(m: &[u8], p: usize) -> Reached<ContentEncoding<SpannedText>>
     requires { p ≤ length m.now }
-    ensures steps { ExactlyAt (λ x. encoding_in (named_in m.now) x) m.now result
-        (step fields.body_fld_enc (drop p m.now)) }
+    ensures steps { StepsExactlyAt fields.body_fld_enc (encoding_in (named_in m.now)) m.now p
+        result }
     ensures ahead { Ahead m.now p result }
     ensures rests { RestsOn encoding_in result }
     ensures no_failure { NeverFails result }
@@ -240,8 +236,8 @@ pub fn body_fld_enc(m: &[u8], p: usize) -> Reached<ContentEncoding<SpannedText>>
 
 fn spaced_encoding(m: &[u8], p: usize) -> Reached<ContentEncoding<SpannedText>>
     requires { p ≤ length m.now }
-    ensures steps { ExactlyAt (λ x. encoding_in (named_in m.now) x) m.now result
-        (step (spaced fields.body_fld_enc) (drop p m.now)) }
+    ensures steps { StepsExactlyAt (spaced fields.body_fld_enc) (encoding_in (named_in m.now)) m.now
+        p result }
     ensures ahead { Ahead m.now p result }
     ensures rests { RestsOn encoding_in result }
 {
@@ -261,10 +257,10 @@ pub fn body_fields<K: Keep>(
 ) -> Reached<BodyFields<K::Text>>
     requires start { p ≤ length m.now }
     requires serves { K.serves keep.now m.now }
-    ensures steps { GivesAt (λ x. fields_seen (K.text_said (named_in m.now)) x) m.now result
-        (step fields.body_fields (drop p m.now)) }
+    ensures steps { StepsAt fields.body_fields (fields_seen (K.text_said (named_in m.now))) m.now p
+        result }
     ensures ahead { Ahead m.now p result }
-    ensures rests { RestsOn (λ n x. fields_seen (K.text_said n) x) result }
+    ensures rests { RestsOn (λ n. fields_seen (K.text_said n)) result }
 {
     let (p, param) = body_fld_param(keep, alloc, m, p)?;
     let (p, id) = spaced_nstring_text(m, p)?;
@@ -294,10 +290,10 @@ pub fn spaced_fields<K: Keep>(
 ) -> Reached<BodyFields<K::Text>>
     requires start { p ≤ length m.now }
     requires serves { K.serves keep.now m.now }
-    ensures steps { GivesAt (λ x. fields_seen (K.text_said (named_in m.now)) x) m.now result
-        (step (spaced fields.body_fields) (drop p m.now)) }
+    ensures steps { StepsAt (spaced fields.body_fields) (fields_seen (K.text_said (named_in m.now)))
+        m.now p result }
     ensures ahead { Ahead m.now p result }
-    ensures rests { RestsOn (λ n x. fields_seen (K.text_said n) x) result }
+    ensures rests { RestsOn (λ n. fields_seen (K.text_said n)) result }
 {
     let (p, _) = tag(b" ", m, p)?;
     body_fields(keep, alloc, m, p)

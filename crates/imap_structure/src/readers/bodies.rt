@@ -1,7 +1,6 @@
 //! Structures of bodies.
 
-ghost use Rattle.imap_grammar.specs.Answer.{Answers, Gives};
-ghost use Rattle.imap_grammar.specs.Step.{step};
+ghost use Rattle.imap_grammar.specs.Answer.{Answers, Steps};
 ghost use Rattle.imap_grammar.specs.Text.{text_of};
 ghost use Rattle.imap_structure.specs.Bodies as bodies;
 ghost use Rattle.imap_shapes.specs.BodyValues.{body_seen};
@@ -19,10 +18,8 @@ use std::alloc::Global;
 /// A body inside `MAX_BODY_DEPTH` others is `Error`. It takes memory for the tree, and for texts that are not UTF-8.
 #[tactic(auto, using(imap_grammar::proofs::Agreement::answered))]
 pub fn body_structure(alloc: Global, i: &[u8]) -> IResult<&[u8], BodyStructure<'_>>
-    ensures steps { Gives (λ x. body_seen text_of bytes_of x) result
-        (step bodies.body_structure i.now) }
-    ensures answer { Answers bodies.body_structure (λ x. body_seen text_of bytes_of x) i.now
-        result }
+    ensures steps { Steps bodies.body_structure (body_seen text_of bytes_of) i.now result }
+    ensures answer { Answers bodies.body_structure (body_seen text_of bytes_of) i.now result }
 {
     let (q, body) = at::bodies::body_structure(&Named { alloc, m: i }, alloc, i, 0)?;
     Ok((rest(i, q), Box::into_inner(body)))

@@ -1,7 +1,6 @@
 //! Extension data of bodies.
 
-ghost use Rattle.imap_grammar.specs.Answer.{Answers, Gives};
-ghost use Rattle.imap_grammar.specs.Step.{step};
+ghost use Rattle.imap_grammar.specs.Answer.{Answers, Steps};
 ghost use Rattle.imap_grammar.specs.Text.{text_of};
 ghost use Rattle.imap_structure.specs.Extensions as extensions;
 ghost use Rattle.imap_shapes.specs.ExtensionValues.{extension_seen};
@@ -18,10 +17,8 @@ use std::alloc::Global;
 /// A list inside `MAX_EXTENSION_DEPTH` others is `Error`. It takes memory for lists, and for texts that are not UTF-8.
 #[tactic(auto, using(imap_grammar::proofs::Agreement::answered))]
 pub fn body_extension(alloc: Global, i: &[u8]) -> IResult<&[u8], BodyExtension<'_>>
-    ensures steps { Gives (λ x. extension_seen text_of x) result
-        (step extensions.body_extension i.now) }
-    ensures answer { Answers extensions.body_extension (λ x. extension_seen text_of x) i.now
-        result }
+    ensures steps { Steps extensions.body_extension (extension_seen text_of) i.now result }
+    ensures answer { Answers extensions.body_extension (extension_seen text_of) i.now result }
 {
     let (q, extension) = at::extensions::body_extension(&Named { alloc, m: i }, alloc, i, 0)?;
     Ok((rest(i, q), extension))

@@ -1,7 +1,6 @@
 //! Fields of bodies.
 
-ghost use Rattle.imap_grammar.specs.Answer.{Answers, Gives};
-ghost use Rattle.imap_grammar.specs.Step.{step};
+ghost use Rattle.imap_grammar.specs.Answer.{Answers, Steps};
 ghost use Rattle.imap_grammar.specs.Text.{text_of};
 ghost use Rattle.imap_structure.specs.Fields as fields;
 ghost use Rattle.imap_shapes.specs.FieldValues.{fields_seen};
@@ -19,8 +18,8 @@ use std::alloc::Global;
 /// are not UTF-8.
 #[tactic(auto, using(imap_grammar::proofs::Agreement::answered))]
 pub fn body_fields(alloc: Global, i: &[u8]) -> IResult<&[u8], BodyFields<'_>>
-    ensures steps { Gives (λ x. fields_seen text_of x) result (step fields.body_fields i.now) }
-    ensures answer { Answers fields.body_fields (λ x. fields_seen text_of x) i.now result }
+    ensures steps { Steps fields.body_fields (fields_seen text_of) i.now result }
+    ensures answer { Answers fields.body_fields (fields_seen text_of) i.now result }
 {
     let (q, fields) = at::fields::body_fields(&Named { alloc, m: i }, alloc, i, 0)?;
     Ok((rest(i, q), fields))

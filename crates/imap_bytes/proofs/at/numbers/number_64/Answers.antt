@@ -6,13 +6,6 @@ use Rattle.imap_bytes.specs.Numbers.{number_64}
 use Rattle.imap_bytes.proofs.Digits.{number_waits, no_number, number_read, number_none}
 use Rattle.imap_bytes.proofs.at.numbers.number_64.Goals as goal
 
-pub returns-then-count-eq0-clause-steps : goal.returns-then-count-eq0-clause-steps
-unfolding number_64
-returns-then-count-eq0-clause-steps c = rw (← c.split_at.ensures.back) (no_number (2 ^ 64) c.split_at.result.1.now (rw c.if-count-eq0.true at c.in-Some.ensures.at.1))
-
-pub returns-then-count-eq0-clause-answer : goal.returns-then-count-eq0-clause-answer
-returns-then-count-eq0-clause-answer c = exact_answered_at _ _ _ _ _ (returns-then-count-eq0-clause-steps c)
-
 pub returns-in-None-clause-steps : goal.returns-in-None-clause-steps
 unfolding number_64
 returns-in-None-clause-steps c = rw (← c.split_at.ensures.back) (number_waits (2 ^ 64) c.split_at.result.1.now c.in-None.ensures.at)
@@ -20,18 +13,28 @@ returns-in-None-clause-steps c = rw (← c.split_at.ensures.back) (number_waits 
 pub returns-in-None-clause-answer : goal.returns-in-None-clause-answer
 returns-in-None-clause-answer c = exact_answered_at _ _ _ _ _ (returns-in-None-clause-steps c)
 
-pub returns-in-None-number-clause-steps : goal.returns-in-None-number-clause-steps
+pub returns-in-Some-eq0-default-clause-steps : goal.returns-in-Some-eq0-default-clause-steps
 unfolding number_64
-returns-in-None-number-clause-steps c = rw (← c.split_at.ensures.back) (number_none (2 ^ 64) c.split_at.result.1.now c.in-Some.count c.in-Some.number c.in-None-number.is c.if-count-eq0.false c.in-Some.ensures.within c.in-Some.ensures.at)
+returns-in-Some-eq0-default-clause-steps c = rw (← c.split_at.ensures.back) (no_number (2 ^ 64) c.split_at.result.1.now (rw c.in-Some-eq0-default.field-0-0-test at c.in-Some-eq0-default.ensures.at.1))
 
-pub returns-in-None-number-clause-answer : goal.returns-in-None-number-clause-answer
-returns-in-None-number-clause-answer c = exact_answered_at _ _ _ _ _ (returns-in-None-number-clause-steps c)
+pub returns-in-Some-eq0-default-clause-answer : goal.returns-in-Some-eq0-default-clause-answer
+returns-in-Some-eq0-default-clause-answer c = exact_answered_at _ _ _ _ _ (returns-in-Some-eq0-default-clause-steps c)
 
-pub returns-in-Some-number-clause-steps : goal.returns-in-Some-number-clause-steps
+pub returns-in-Some-default-None-clause-steps : goal.returns-in-Some-default-None-clause-steps
 unfolding number_64
-returns-in-Some-number-clause-steps c =
-    found_further (step number_64) c.args.m.now c.split_at.result.1.now c.args.p c.in-Some.count c.in-Some-number.n c.split_at.ensures.back
-    (number_read (2 ^ 64) c.split_at.result.1.now c.in-Some.count c.in-Some.number c.in-Some-number.n c.in-Some-number.is c.if-count-eq0.false c.in-Some.ensures.within c.in-Some.ensures.at)
+returns-in-Some-default-None-clause-steps c =
+    let none = c.in-Some-default-None in
+    rw (← c.split_at.ensures.back) (number_none (2 ^ 64) c.split_at.result.1.now none.field-0-0 none.field-0-1 none.field-0-1-is none.field-0-0-test.1 none.ensures.within none.ensures.at)
 
-pub returns-in-Some-number-clause-answer : goal.returns-in-Some-number-clause-answer
-returns-in-Some-number-clause-answer c = exact_answered_at _ _ _ _ _ (returns-in-Some-number-clause-steps c)
+pub returns-in-Some-default-None-clause-answer : goal.returns-in-Some-default-None-clause-answer
+returns-in-Some-default-None-clause-answer c = exact_answered_at _ _ _ _ _ (returns-in-Some-default-None-clause-steps c)
+
+pub returns-in-Some-default-Some-clause-steps : goal.returns-in-Some-default-Some-clause-steps
+unfolding number_64
+returns-in-Some-default-Some-clause-steps c =
+    let some = c.in-Some-default-Some in
+    found_further (step number_64) c.args.m.now c.split_at.result.1.now c.args.p some.count some.n c.split_at.ensures.back
+    (number_read (2 ^ 64) c.split_at.result.1.now some.count some.field-0-1 some.n some.field-0-1-is some.count-test.1 some.ensures.within some.ensures.at)
+
+pub returns-in-Some-default-Some-clause-answer : goal.returns-in-Some-default-Some-clause-answer
+returns-in-Some-default-Some-clause-answer c = exact_answered_at _ _ _ _ _ (returns-in-Some-default-Some-clause-steps c)

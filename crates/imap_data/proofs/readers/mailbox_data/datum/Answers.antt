@@ -1,6 +1,6 @@
 use Rattle.std.proofs.Common.{rules}
 use Rattle.imap_grammar.proofs.Memory.{same_kind, none_of_kind, fails_apart}
-use Rattle.imap_data.specs.MailboxValues.{mailbox_value, IsNumber}
+use Rattle.imap_data.specs.DatumValues.{datum_value, IsNumber}
 use Rattle.imap_data.specs.MailboxData.{mailbox_datum, flags, list_or_lsub, datum_of_s, datum_of_x}
 use Rattle.imap_data.proofs.FirstBytes.{datum_is_flags, datum_is_list_or_lsub, datum_is_of_s, datum_is_of_x}
 use Rattle.imap_data.proofs.NumberData.{flags_other, list_or_lsub_other, of_s_other, labels_other}
@@ -18,4 +18,4 @@ returns-in-Some-eq115-clause-memory c = same_kind IsNumber mailbox_datum datum_o
 pub returns-in-Some-eq120-clause-memory : goal.returns-in-Some-eq120-clause-memory
 returns-in-Some-eq120-clause-memory c =
     let x = c.datum_of_x.ensures in
-    same_kind IsNumber mailbox_datum datum_of_x _ _ (datum_is_of_x _ (search rules)) (fails_apart _ IsNumber mailbox_value datum_of_x _ _ x.steps x.memory (λ v rest is k b. labels_other v _ rest b is k))
+    same_kind IsNumber mailbox_datum datum_of_x _ _ (datum_is_of_x _ (search rules)) (fails_apart _ IsNumber datum_value datum_of_x _ _ x.steps x.memory (λ v rest is k b. labels_other v _ rest b is k))
