@@ -53,8 +53,9 @@ pub fn streams()
 
 /// What the grammar takes spells the response. On the canonical text of a response that it yields, the grammar yields
 /// that response again, with all texts borrowed, and what follows the text is left whole, whatever it is. Two kinds are
-/// excepted: `has_bracket`, whose information begins with `[` as a code does, and `has_too_long_text`, with a text too
-/// long to be written as a literal. A response with its texts borrowed is the same response.
+/// excepted: `has_bracket`, a status or a continuation without a code whose information begins with `[`, and
+/// `has_too_long_text`, with a text too long to be written as a literal. A response with its texts borrowed is the same
+/// response.
 #[tactic(auto, using(crate::proofs::LineTexts::response_spells, crate::proofs::LineTexts::canonical_reads_back, crate::proofs::LentTwice::lent_is_same))]
 pub fn read_back()
     ensures spells { Spells rule.response spells_response }

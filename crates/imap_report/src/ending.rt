@@ -24,8 +24,9 @@ pub fn exit_of(outcome: Result<Finish, Fault>) -> ExitCode
     }
 }
 
-/// Reads the source to its end, writes the report of its bytes as they come, and tells by the exit status how
-/// that ended: it is 1 where a device failed. After a fault it prints `fault` on standard error. It takes memory.
+/// Reads the source and writes the report of its bytes as they come, to the end where no fault stops it. The exit
+/// status tells how that ended; it is 1 after any fault, and wherever a device failed. After a fault it prints
+/// `fault` on standard error. It takes memory.
 pub fn cat<E: Eprint, R: Source, W: Sink>(
     alloc: Global,
     rt: &E,

@@ -111,7 +111,7 @@ impl<'b, 'a> BodyStructParser<'b, 'a> {
     ///
     /// It takes memory for the list of bodies, and for their paths. `TooManyParts`: a multipart has more than
     /// 4,294,967,295 bodies, which is judged before it is held, and so before any memory is taken where root is that
-    /// multipart; `OutOfMemory`: memory ran out before that.
+    /// multipart. `OutOfMemory`: memory ran out, before such a multipart was reached if there is one.
     pub fn new(
         alloc: Global,
         root: &'b BodyStructure<'a>,
