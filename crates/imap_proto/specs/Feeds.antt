@@ -32,8 +32,7 @@ IsOwnedFront m (Ok x) =
 IsOwnedFront m (Err e) = Stops e (step response m)
 
 -- What a feed gave of what it held, and what it holds then: the response at the front, with all its texts owned, and
--- what is behind it;
--- or none, where what it holds waits.
+-- what is behind it; or none, where what it holds waits.
 abbrev pub Gave : Bytes → Option Response → Bytes → Type 0
 Gave held (Some r) left =
     (v : ResponseValue)

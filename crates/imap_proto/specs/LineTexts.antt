@@ -111,8 +111,7 @@ has_too_long_text r = list_any is_too_long (canonical_response r)
 -- ---- the law of the whole grammar
 
 -- A response that the grammar yields on some bytes, and that is of neither kind, it yields again on the response's
--- canonical text,
--- with all texts borrowed, and leaves exactly what follows, whatever that is.
+-- canonical text, with all texts borrowed, and leaves exactly what follows, whatever that is.
 abbrev pub CanonicalReadsBack : Type 0
 CanonicalReadsBack =
     (m : Bytes) (r : ResponseValue) (rest : Bytes) → (meaning response).yields m r rest

@@ -31,8 +31,7 @@ joined [] = []
 joined (piece ∷ pieces) = piece ++ joined pieces
 
 -- Of a feed: the pieces that it was fed, the responses that it has given, and the bytes that it holds. It may be fed
--- and asked in any order;
--- a piece goes behind what it holds, and a response that it gives stood at the front.
+-- and asked in any order; a piece goes behind what it holds, and a response that it gives stood at the front.
 pub data Fed : List Bytes → List ResponseValue → Bytes → Type 0 where
   empty : Fed [] [] []
   fed :

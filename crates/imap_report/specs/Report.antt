@@ -50,8 +50,7 @@ pub data IsReport : List ℕ → List ℕ → Finish → Type 0 where
       IsReport m (line (codes "denied") (length m)) Denied
 
 -- The lines of responses at the front of m were appended, and the rest is behind these: whatever comes behind m, the
--- report of the rest with that
--- completes the report of all.
+-- report of the rest with that completes the report of all.
 pub record Told (m rest : List ℕ) (old new : Option (List ℕ)) : Type 0 where
   pub text : List ℕ
   pub completes :

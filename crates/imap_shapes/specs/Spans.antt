@@ -32,9 +32,8 @@ abbrev pub AlikeTo : ℕ → Lookup → Lookup → Type 0
 AlikeTo q n k = (s : Span) → s.start ≤ s.end → s.end ≤ q → n s ≡ k s
 
 -- What x says rests on such spans alone: two ways that differ on other spans only make it say the same. So where the
--- view
--- shows a string of x, its span is in order and ends at q or before, whatever it names (`bytes_lie` and `part_lies` of
--- `proofs/Places`).
+-- view shows a string of x, its span is in order and ends at q or before, whatever it names (`bytes_lie` and
+-- `part_lies` of `proofs/Places`).
 pub record Rests {A V : Type 0} (view : Lookup → A → V) (q : ℕ) (x : A) : Type 0 where
   pub same : (n k : Lookup) → AlikeTo q n k → view n x ≡ view k x
 
