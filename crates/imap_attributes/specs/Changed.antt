@@ -28,6 +28,6 @@ changed_attribute h Unknown = Unknown
 abbrev pub owned_attribute : AttributeValue → AttributeValue
 owned_attribute x = changed_attribute owned_text x
 
--- with all its texts borrowed: two attributes say the same where these are one
+-- with all its texts borrowed: two attributes say the same where these are equal
 abbrev pub lent_attribute : AttributeValue → AttributeValue
 lent_attribute x = changed_attribute lent_text x

@@ -104,6 +104,7 @@ impl<S: Drop, B: Drop, Y: Drop> Parts<S, B, Y> {
     {
         let mut mapped = Vec::with_capacity(alloc, 1)?;
         self.push_mapped(alloc, c, d, e, &mut mapped)?;
+        // One was just put there; the error only gives the function a value.
         mapped.pop().ok_or(AllocError)
     }
 }

@@ -1,5 +1,6 @@
 -- Attributes of a message (RFC 3501, section 9: msg-att, msg-att-dynamic, msg-att-static; RFC 7162, section 7:
--- permsg-modsequence; RFC 8474, section 7; X-GM-EXT-1).
+-- fetch-mod-resp, permsg-modsequence; RFC 8474, section 7: fetch-emailid-resp, fetch-threadid-resp, objectid;
+-- X-GM-EXT-1).
 use Rattle.std.specs.Prelude.{ℕ, Bool, ◌==◌, ◌&&◌, not, List, Option}
 use Rattle.imap_grammar.specs.Ascii.{space, close_parenthesis}
 use Rattle.imap_grammar.specs.Classes.{is_astring_char}
@@ -97,10 +98,11 @@ msg_att_gmail_msgid = gives GmailMsgId gmail_msgid
 unfoldable pub msg_att_gmail_thrid : Rule AttributeValue
 msg_att_gmail_thrid = gives GmailThrId gmail_thrid
 
--- objectid, which may be any astring-chars that are UTF-8
+-- the bytes of an objectid, which may be any astring-chars that are UTF-8
 unfoldable pub id_bytes : Rule Bytes
 id_bytes = in_utf8 (run1 is_astring_char)
 
+-- objectid
 unfoldable pub object_id : Rule Text
 object_id = gives as_text id_bytes
 
@@ -130,6 +132,7 @@ is_bare b = not (b == space) && not (b == close_parenthesis)
 unfoldable pub skipped_brackets : Rule (Unit {0})
 skipped_brackets = dropped (tag "(" ▹ run0 is_inside ◃ tag ")")
 
+-- nstring
 unfoldable pub skipped_nstring : Rule (Unit {0})
 skipped_nstring = dropped nstring
 
@@ -174,7 +177,8 @@ attribute =
 unfoldable pub attribute_list : Rule (List AttributeValue)
 attribute_list = nonempty_list_of attribute
 
--- ---- the attributes that may start with one byte, in their order; what begins alike is read once
+-- ---- no further rules: the attributes that may start with one byte, in their order, as the reader tries them; what
+-- begins alike is read once
 
 -- "STRUCTURE" SP body
 unfoldable pub structure : Rule AttributeValue

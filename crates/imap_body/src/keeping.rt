@@ -34,6 +34,7 @@ const ROOM_FOR_POSITIONS: usize = 4;
 
 /// What a list keeps of each attribute that is read.
 pub(crate) trait KeepAttribute: Keep + Drop {
+    /// What is kept of an attribute.
     type Attribute: Drop;
 
     /// These are kept of the attributes that were read.
@@ -244,7 +245,7 @@ fn some_attributes<K: KeepAttribute>(
     Ok((q, kept))
 }
 
-/// The attributes of a message in parentheses, one or more, by one space (RFC 3501, section 9: msg-att).
+/// The attributes of a message in parentheses, one or more, with one space between (RFC 3501, section 9: msg-att).
 ///
 /// It takes memory for the list, and for the lists, envelopes and body structures in it; where values are kept, for
 /// texts that are not UTF-8.

@@ -138,12 +138,12 @@ pub record Holds (calls : List Call) (command : Command) : Type 0 where
   pub text : command.args.items ≡ (told calls).text
   pub next_state : command.next_state ≡ (told calls).next_state
 
--- What calls that end in this state began, goes on by one call more.
+-- If old is the text of calls that end in this state, new is the text of these and one call more.
 abbrev pub Adds : Stage → Call → List ℕ → List ℕ → Type 0
 Adds state call old new =
     (calls : List Call) → stage calls ≡ state → old ≡ begun calls → new ≡ begun (call ∷ calls)
 
--- What calls that end in this state began, is this finished command.
+-- If old is the text of calls that end in this state, the command holds what these calls tell.
 abbrev pub Finishes : Stage → List ℕ → Command → Type 0
 Finishes state old command =
     (calls : List Call) → stage calls ≡ state → old ≡ begun calls → Holds calls command

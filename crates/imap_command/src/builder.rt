@@ -12,8 +12,7 @@ use crate::select::NoParams;
 use crate::{BuildError, Command, FetchCommand, SelectCommand, State};
 use std::alloc::{AllocError, Global};
 
-/// Begins commands. Arguments are judged from left to right, the first argument first, and before
-/// any memory is taken.
+/// Begins commands. Arguments are judged in their order, before any memory is taken.
 #[derive(Drop)]
 pub struct CommandBuilder {}
 

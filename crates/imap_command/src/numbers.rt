@@ -16,7 +16,8 @@ pub(crate) fn push_number(out: &mut Vec<u8>, number: u64) -> Result<(), AllocErr
 
 pub(crate) fn push_range(out: &mut Vec<u8>, range: RangeInclusive<u32>) -> Result<(), AllocError>
     ensures { OnOk result (out.new.items ≡ out.old.items
-        ++ (decimal (range_inclusive_start range) ++ (codes ":" ++ decimal (range_inclusive_end range)))) }
+        ++ (decimal (range_inclusive_start range)
+        ++ (codes ":" ++ decimal (range_inclusive_end range)))) }
 {
     push_number(out, u64::from(*range.start()))?;
     out.push(b':')?;

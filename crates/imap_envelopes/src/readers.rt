@@ -1,4 +1,4 @@
-//! Envelopes.
+//! Readers of addresses and envelopes, each of the rule of its name.
 //!
 //! Each answers `Error` where its rule denies what stands there, whatever follows; `Incomplete` where more bytes are
 //! needed to tell; and `Failure` only where memory ran out.

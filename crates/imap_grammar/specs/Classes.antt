@@ -2,7 +2,7 @@
 use Rattle.std.specs.Prelude.{ℕ, Bool, ◌==◌, ◌&&◌, ◌||◌, nat_lt, not}
 use Rattle.imap_grammar.specs.Ascii.{nul, tab, line_feed, carriage_return, space, quote, percent, open_parenthesis, close_parenthesis, asterisk, backslash, close_bracket, open_brace}
 
--- char: any byte but 0
+-- char: any byte but 0, as CHAR8; CHAR itself ends at 127
 abbrev pub is_char : ℕ → Bool
 is_char b = not (b == nul)
 
@@ -22,7 +22,7 @@ is_quoted_specials b = (b == quote) || (b == backslash)
 abbrev pub is_resp_specials : ℕ → Bool
 is_resp_specials b = b == close_bracket
 
--- atom-specials: `(`, `)`, `{`, SP, controls below SP, and the three classes above
+-- atom-specials: `(`, `)`, `{`, SP, CTL but 127, and the three classes above
 abbrev pub is_atom_specials : ℕ → Bool
 is_atom_specials b =
     (b == open_parenthesis)

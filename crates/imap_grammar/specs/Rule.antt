@@ -30,10 +30,11 @@ meaning never = never_means
 meaning (many a) = many_means (meaning a)
 meaning (counted a) = counted_means (meaning a)
 
--- A with a test
+-- x, if it passes
 abbrev pub only : {A : Type 0} → (A → Bool) → A → Option A
 only p x = cond (p x) (Some x) None
 
+-- A with a test: denied where its value doesn't pass
 abbrev pub test : {A : Type 0} → (A → Bool) → Rule A → Rule A
 test p a = tested (only p) a
 

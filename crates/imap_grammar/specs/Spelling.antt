@@ -40,11 +40,11 @@ some_of p c = all_of p c × (0 < length c)
 abbrev pub utf8_of : (ℕ → Bool) → Texts
 utf8_of p c = some_of p c × IsTrue (is_utf8 c)
 
--- these bytes, which P spells
+-- exactly these bytes, if they are among P
 abbrev pub as_it_is : Texts → Bytes → Texts
 as_it_is P b c = (c ≡ b) × P b
 
--- bytes that are lossily t
+-- what spells, by P, some bytes whose lossy decoding is t
 abbrev pub lossily : (Bytes → Texts) → Text → Texts
 lossily P t c = (b : Bytes) × P b c × (utf8_lossy b ≡ t.bytes)
 
@@ -86,7 +86,7 @@ abbrev pub with_between : {A : Type 0} → Texts → (A → Texts) → List A �
 with_between S P [] = this []
 with_between S P (x ∷ xs) = some_with_between S P (x ∷ xs)
 
--- in brackets, by one space
+-- in brackets, with one space between; one more may stand before the bracket that closes
 abbrev pub spells_list : {A : Type 0} → (A → Texts) → List A → Texts
 spells_list P xs =
     exactly "(" and with_between (exactly " ") P xs and maybe (exactly " ") and exactly ")"

@@ -33,7 +33,7 @@ use Rattle.imap_attributes.specs.declared.attributes.AttributeParts.{AttributePa
 use Rattle.imap_proto.specs.Responses.{ResponseValue, Capabilities, Continue, Done, Data, Expunge, Vanished, Fetch, MailboxData, Quota, QuotaRoot, Id, Acl, ListRights, MyRights, outcome_value, response_value, lent_outcome, lent_response}
 use Rattle.imap_proto.specs.Feeds.{lent_whole}
 use Rattle.imap_proto.specs.declared.response.Response.{Response}
-use Rattle.imap_proto.specs.declared.response.Response.TheVariants as code
+use Rattle.imap_proto.specs.declared.response.Response.TheVariants as variant
 use Rattle.imap_proto.specs.contracts.outcome.OutcomePartialEq.TheImpl as outcome_eq
 use Rattle.imap_proto.specs.contracts.response.RequestIdPartialEq.TheImpl as tag_eq
 use Rattle.imap_proto.specs.contracts.response.ResponsePartialEq.TheImpl as response_eq
@@ -73,7 +73,7 @@ abbrev Attribute : Type 0
 Attribute = AttributeParts (CowStr Global) (CowSlice ℕ Global) (BodyStructure (CowStr Global) (CowSlice ℕ Global))
 
 abbrev fetch : ℕ × Vec Attribute Global → Response
-fetch p = code.Fetch p.0 p.1
+fetch p = variant.Fetch p.0 p.1
 
 abbrev pub FetchesTold : Type 0
 FetchesTold = Tells (λ p q. (response_eq.eq-value).it (fetch p) (fetch q)) (λ p. lent_response (response_value (fetch p)))
@@ -107,41 +107,41 @@ kind_of (MyRights _) = 13
 
 module _ (fetches : FetchesTold) where
   response_same : (x y : Response) → (response_eq.eq-value).it x y ≡ true → lent_response (response_value x) ≡ lent_response (response_value y)
-  response_same (code.Capabilities x) (code.Capabilities y) h = ap Capabilities (capabilities_tell.same x.items y.items h)
-  response_same (code.Continue x) (code.Continue y) h = ap Continue (outcome_tells.same x y h)
-  response_same (code.Done tag status x) (code.Done other kind y) h =
+  response_same (variant.Capabilities x) (variant.Capabilities y) h = ap Capabilities (capabilities_tell.same x.items y.items h)
+  response_same (variant.Continue x) (variant.Continue y) h = ap Continue (outcome_tells.same x y h)
+  response_same (variant.Done tag status x) (variant.Done other kind y) h =
       let parts = and_parts _ _ h in
       let more = and_parts _ _ parts.1 in
       (λ i. Done (tags_tell.same tag other parts.0 i) (statuses_tell.same status kind more.0 i) (outcome_tells.same x y more.1 i))
-  response_same (code.«Data» status x) (code.«Data» kind y) h = let parts = and_parts _ _ h in (λ i. Data (statuses_tell.same status kind parts.0 i) (outcome_tells.same x y parts.1 i))
-  response_same (code.Expunge x) (code.Expunge y) h = ap Expunge (numbers_tell.same x y h)
-  response_same (code.Vanished e x) (code.Vanished f y) h =
+  response_same (variant.«Data» status x) (variant.«Data» kind y) h = let parts = and_parts _ _ h in (λ i. Data (statuses_tell.same status kind parts.0 i) (outcome_tells.same x y parts.1 i))
+  response_same (variant.Expunge x) (variant.Expunge y) h = ap Expunge (numbers_tell.same x y h)
+  response_same (variant.Vanished e x) (variant.Vanished f y) h =
       let parts = and_parts _ _ h in (λ i. Vanished (flags_tell.same e f parts.0 i) ((items_tell _ range_of ranges_tell).same x.items y.items parts.1 i))
-  response_same (code.Fetch m x) (code.Fetch n y) h = fetches.same (m, x) (n, y) h
-  response_same (code.MailboxData x) (code.MailboxData y) h = ap MailboxData (data_tell.same x y h)
-  response_same (code.Quota x) (code.Quota y) h = ap Quota (quotas_tell.same x y h)
-  response_same (code.QuotaRoot x) (code.QuotaRoot y) h = ap QuotaRoot (roots_tell.same x y h)
-  response_same (code.Id x) (code.Id y) h = ap Id ((options_tell _ id_value lent_id tables_tell).same x y h)
-  response_same (code.Acl x) (code.Acl y) h = ap Acl (acl_tells.same x y h)
-  response_same (code.ListRights x) (code.ListRights y) h = ap ListRights (list_rights_tell.same x y h)
-  response_same (code.MyRights x) (code.MyRights y) h = ap MyRights (my_rights_tell.same x y h)
+  response_same (variant.Fetch m x) (variant.Fetch n y) h = fetches.same (m, x) (n, y) h
+  response_same (variant.MailboxData x) (variant.MailboxData y) h = ap MailboxData (data_tell.same x y h)
+  response_same (variant.Quota x) (variant.Quota y) h = ap Quota (quotas_tell.same x y h)
+  response_same (variant.QuotaRoot x) (variant.QuotaRoot y) h = ap QuotaRoot (roots_tell.same x y h)
+  response_same (variant.Id x) (variant.Id y) h = ap Id ((options_tell _ id_value lent_id tables_tell).same x y h)
+  response_same (variant.Acl x) (variant.Acl y) h = ap Acl (acl_tells.same x y h)
+  response_same (variant.ListRights x) (variant.ListRights y) h = ap ListRights (list_rights_tell.same x y h)
+  response_same (variant.MyRights x) (variant.MyRights y) h = ap MyRights (my_rights_tell.same x y h)
   response_same x y h = absurd (unequal h)
 
   response_equal : (x y : Response) → lent_response (response_value x) ≡ lent_response (response_value y) → (response_eq.eq-value).it x y ≡ true
-  response_equal (code.Capabilities x) (code.Capabilities y) h = capabilities_tell.equal x.items y.items cc
-  response_equal (code.Continue x) (code.Continue y) h = outcome_tells.equal x y cc
-  response_equal (code.Done tag status x) (code.Done other kind y) h = and_from _ _ (tags_tell.equal tag other cc) (and_from _ _ (statuses_tell.equal status kind cc) (outcome_tells.equal x y cc))
-  response_equal (code.«Data» status x) (code.«Data» kind y) h = and_from _ _ (statuses_tell.equal status kind cc) (outcome_tells.equal x y cc)
-  response_equal (code.Expunge x) (code.Expunge y) h = numbers_tell.equal x y cc
-  response_equal (code.Vanished e x) (code.Vanished f y) h = and_from _ _ (flags_tell.equal e f cc) ((items_tell _ range_of ranges_tell).equal x.items y.items cc)
-  response_equal (code.Fetch m x) (code.Fetch n y) h = fetches.equal (m, x) (n, y) h
-  response_equal (code.MailboxData x) (code.MailboxData y) h = data_tell.equal x y cc
-  response_equal (code.Quota x) (code.Quota y) h = quotas_tell.equal x y cc
-  response_equal (code.QuotaRoot x) (code.QuotaRoot y) h = roots_tell.equal x y cc
-  response_equal (code.Id x) (code.Id y) h = (options_tell _ id_value lent_id tables_tell).equal x y cc
-  response_equal (code.Acl x) (code.Acl y) h = acl_tells.equal x y cc
-  response_equal (code.ListRights x) (code.ListRights y) h = list_rights_tell.equal x y cc
-  response_equal (code.MyRights x) (code.MyRights y) h = my_rights_tell.equal x y cc
+  response_equal (variant.Capabilities x) (variant.Capabilities y) h = capabilities_tell.equal x.items y.items cc
+  response_equal (variant.Continue x) (variant.Continue y) h = outcome_tells.equal x y cc
+  response_equal (variant.Done tag status x) (variant.Done other kind y) h = and_from _ _ (tags_tell.equal tag other cc) (and_from _ _ (statuses_tell.equal status kind cc) (outcome_tells.equal x y cc))
+  response_equal (variant.«Data» status x) (variant.«Data» kind y) h = and_from _ _ (statuses_tell.equal status kind cc) (outcome_tells.equal x y cc)
+  response_equal (variant.Expunge x) (variant.Expunge y) h = numbers_tell.equal x y cc
+  response_equal (variant.Vanished e x) (variant.Vanished f y) h = and_from _ _ (flags_tell.equal e f cc) ((items_tell _ range_of ranges_tell).equal x.items y.items cc)
+  response_equal (variant.Fetch m x) (variant.Fetch n y) h = fetches.equal (m, x) (n, y) h
+  response_equal (variant.MailboxData x) (variant.MailboxData y) h = data_tell.equal x y cc
+  response_equal (variant.Quota x) (variant.Quota y) h = quotas_tell.equal x y cc
+  response_equal (variant.QuotaRoot x) (variant.QuotaRoot y) h = roots_tell.equal x y cc
+  response_equal (variant.Id x) (variant.Id y) h = (options_tell _ id_value lent_id tables_tell).equal x y cc
+  response_equal (variant.Acl x) (variant.Acl y) h = acl_tells.equal x y cc
+  response_equal (variant.ListRights x) (variant.ListRights y) h = list_rights_tell.equal x y cc
+  response_equal (variant.MyRights x) (variant.MyRights y) h = my_rights_tell.equal x y cc
   response_equal x y h = absurd (kinds_apart kind_of _ _ refl h)
 
   pub response_tells : Tells (response_eq.eq-value).it (λ r. lent_response (response_value r))

@@ -59,7 +59,7 @@ IsWhole m w =
     × (map response_value w.responses.items ≡ map owned_response vs)
     × Splits m vs w.rest.items w.end
 
--- what it says, with all texts borrowed: two wholes say the same where these are one
+-- what it says, with all texts borrowed: two wholes say the same where these are equal
 abbrev pub lent_whole : Whole → List ResponseValue × (Bytes × End)
 lent_whole w = (map lent_response (map response_value w.responses.items), (w.rest.items, w.end))
 

@@ -23,7 +23,7 @@ use Rattle.imap_body.specs.Attributes.{attribute_list}
 use Rattle.imap_proto.specs.Responses.{OutcomeValue, ResponseValue, Capabilities, Continue, Done, Data, Expunge, Vanished, Fetch, MailboxData, Quota, QuotaRoot, Id, Acl, ListRights, MyRights}
 use Rattle.imap_proto.specs.Outcomes.{outcome, spaced_outcome}
 
--- continue-req = "+" SP resp-text CRLF, where the space may be missing
+-- continue-req = "+" SP (resp-text / base64) CRLF, where the space may be missing, and base64 is read as resp-text
 unfoldable pub continuation : Rule ResponseValue
 continuation = gives Continue (tag "+" ▹ maybe_space ▹ outcome ◃ crlf)
 
@@ -36,7 +36,7 @@ data_of (status, outcome) = Data status outcome
 unfoldable pub status_data : Rule ResponseValue
 status_data = gives data_of (status ⨾ spaced_outcome)
 
--- message-data = nz-number SP "EXPUNGE", where zero is read, too
+-- message-data = nz-number SP ("EXPUNGE" / ("FETCH" SP msg-att)): the first; zero is read, too
 unfoldable pub expunge : Rule ResponseValue
 expunge = gives Expunge (number ◃ word " EXPUNGE")
 
@@ -47,7 +47,7 @@ fetch_of (number, attributes) = Fetch number attributes
 unfoldable pub fetched : Rule (List AttributeValue)
 fetched = word " FETCH " ▹ attribute_list
 
--- message-data = nz-number SP "FETCH" SP msg-att, where zero is read, too
+-- message-data: the second; zero is read, too
 unfoldable pub fetch : Rule ResponseValue
 fetch = gives fetch_of (number ⨾ fetched)
 
@@ -58,7 +58,7 @@ vanished_of (earlier, uids) = Vanished earlier uids
 unfoldable pub vanished_data : Rule ResponseValue
 vanished_data = gives vanished_of vanished
 
--- the state of the server and of a mailbox
+-- statuses, data of mailboxes and of messages, capabilities, METADATA
 unfoldable pub state_datum : Rule ResponseValue
 state_datum =
     status_data
@@ -81,7 +81,8 @@ extension_datum =
     or gives ListRights list_rights
     or gives MyRights my_rights
 
--- what stands behind "* ": resp-cond-state / mailbox-data / message-data / capability-data, and the data of extensions
+-- what stands behind "* ": resp-cond-state / resp-cond-auth / resp-cond-bye / mailbox-data / message-data /
+-- capability-data, and the data of extensions
 unfoldable pub datum : Rule ResponseValue
 datum = state_datum or extension_datum
 
@@ -102,7 +103,8 @@ ended_datum = ended datum
 unfoldable pub data_line : Rule ResponseValue
 data_line = tag "* " ▹ ended_datum
 
--- ---- the data that may start with one byte, in their order, each with the end of its line
+-- ---- no further rules: the data that may start with one byte, in their order, each with the end of its line, as the
+-- reader tries them
 
 unfoldable pub status_line : Rule ResponseValue
 status_line = ended status_data
@@ -111,7 +113,7 @@ status_line = ended status_data
 unfoldable pub numbered_line : Rule ResponseValue
 numbered_line = ended (gives MailboxData (exists or recent) or expunge or fetch)
 
--- the same behind the number: of the three that say no more, and of FETCH
+-- what stands behind a number n: EXISTS, RECENT or EXPUNGE
 unfoldable pub count_line : ℕ → Rule ResponseValue
 count_line n =
     ended
@@ -119,6 +121,7 @@ count_line n =
     (gives Exists (nothing n ◃ word " EXISTS") or gives Recent (nothing n ◃ word " RECENT"))
     or gives Expunge (nothing n ◃ word " EXPUNGE"))
 
+-- what stands behind a number n: FETCH and its attributes
 unfoldable pub fetched_line : ℕ → Rule ResponseValue
 fetched_line n = ended (gives fetch_of (nothing n ⨾ fetched))
 
@@ -169,10 +172,11 @@ request_tag = in_utf8 (run1 is_tag_char)
 abbrev pub done_of : Bytes × (Status × OutcomeValue) → ResponseValue
 done_of (tag, (status, outcome)) = Done tag status outcome
 
--- response-tagged = tag SP resp-cond-state CRLF
+-- response-tagged = tag SP resp-cond-state CRLF, where PREAUTH and BYE are read, too, and the text may be missing with
+-- its space
 unfoldable pub tagged : Rule ResponseValue
 tagged = gives done_of (request_tag ⨾ sp ▹ status ⨾ spaced_outcome ◃ crlf)
 
--- one line: continue-req / response-data / response-tagged
+-- one line: continue-req / response-data / response-tagged; a greeting and response-fatal are data lines
 unfoldable pub response : Rule ResponseValue
 response = continuation or data_line or tagged

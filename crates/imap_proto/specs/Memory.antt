@@ -18,8 +18,8 @@ ReadsWithoutMemory (Some c) (Some t) = HoldsNoList c × IsLent t
 abbrev pub OutcomeTakesNone : OutcomeValue → Type 0
 OutcomeTakesNone o = ReadsWithoutMemory o.code o.information
 
--- One number, an ID without fields, or an untagged status or a continuation with such an outcome: no list, no map, no
--- copied tag and no owned text.
+-- One number, `ID NIL`, or an untagged status or a continuation with such an outcome: no list, no map, no copied tag
+-- and no owned text.
 abbrev pub TakesNone : ResponseValue → Type 0
 TakesNone (Continue o) = OutcomeTakesNone o
 TakesNone (Data status o) = OutcomeTakesNone o

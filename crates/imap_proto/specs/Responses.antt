@@ -21,7 +21,7 @@ use Rattle.imap_attributes.specs.AttributeValues.{AttributeValue, attribute_valu
 use Rattle.imap_attributes.specs.Changed.{lent_attribute}
 use Rattle.imap_proto.specs.declared.outcome.Outcome.{Outcome}
 use Rattle.imap_proto.specs.declared.response.Response.{Response}
-use Rattle.imap_proto.specs.declared.response.Response.TheVariants as code
+use Rattle.imap_proto.specs.declared.response.Response.TheVariants as variant
 
 pub record OutcomeValue : Type 0 where
   pub code : Option CodeValue
@@ -53,21 +53,21 @@ outcome_value o =
     }
 
 abbrev pub response_value : Response → ResponseValue
-response_value (code.Capabilities capabilities) =
+response_value (variant.Capabilities capabilities) =
     Capabilities (map capability_value capabilities.items)
-response_value (code.Continue o) = Continue (outcome_value o)
-response_value (code.Done tag status o) = Done (string_bytes tag.0) status (outcome_value o)
-response_value (code.«Data» status o) = Data status (outcome_value o)
-response_value (code.Expunge n) = Expunge n
-response_value (code.Vanished earlier uids) = Vanished earlier (map (λ r. range_of r) uids.items)
-response_value (code.Fetch n attributes) = Fetch n (map attribute_value attributes.items)
-response_value (code.MailboxData datum) = MailboxData (datum_value datum)
-response_value (code.Quota quota) = Quota (quota_value quota)
-response_value (code.QuotaRoot root) = QuotaRoot (quota_root_value root)
-response_value (code.Id map) = Id (option_map id_value map)
-response_value (code.Acl acl) = Acl (acl_value acl)
-response_value (code.ListRights rights) = ListRights (list_rights_value rights)
-response_value (code.MyRights rights) = MyRights (my_rights_value rights)
+response_value (variant.Continue o) = Continue (outcome_value o)
+response_value (variant.Done tag status o) = Done (string_bytes tag.0) status (outcome_value o)
+response_value (variant.«Data» status o) = Data status (outcome_value o)
+response_value (variant.Expunge n) = Expunge n
+response_value (variant.Vanished earlier uids) = Vanished earlier (map (λ r. range_of r) uids.items)
+response_value (variant.Fetch n attributes) = Fetch n (map attribute_value attributes.items)
+response_value (variant.MailboxData datum) = MailboxData (datum_value datum)
+response_value (variant.Quota quota) = Quota (quota_value quota)
+response_value (variant.QuotaRoot root) = QuotaRoot (quota_root_value root)
+response_value (variant.Id map) = Id (option_map id_value map)
+response_value (variant.Acl acl) = Acl (acl_value acl)
+response_value (variant.ListRights rights) = ListRights (list_rights_value rights)
+response_value (variant.MyRights rights) = MyRights (my_rights_value rights)
 
 abbrev pub IsFetch : ResponseValue → Type 0
 IsFetch (Fetch n attributes) = Unit {0}
@@ -81,7 +81,7 @@ fetch_in m x = Fetch x.0 (map (attribute_in m) x.1.items)
 abbrev pub EndsLine : Bytes → Bytes → Type 0
 EndsLine m rest = (front : Bytes) × (m ≡ front ++ (carriage_return ∷ line_feed ∷ rest))
 
--- ---- with all texts borrowed: two values are the same where these are one
+-- ---- with all texts borrowed: two values say the same where these are equal
 
 abbrev pub lent_outcome : OutcomeValue → OutcomeValue
 lent_outcome o =

@@ -1,4 +1,4 @@
-//! What a status line says besides its status.
+//! Outcomes: the code and the text of a status line or a continuation.
 
 ghost use Rattle.std.specs.Prelude.{◌≡◌, option_map, IfOk};
 ghost use Rattle.imap_data.specs.Codes.{code_value};
@@ -11,7 +11,7 @@ use imap_items::owned::owned_optional_text;
 use std::alloc::{AllocError, Global};
 use std::borrow::CowStr;
 
-/// What a status line says besides its status (RFC 3501, section 7.1).
+/// What a status line says besides its status (RFC 3501, section 7.1), and what a continuation says (section 7.5).
 #[derive(Debug, Default, Drop, PartialEq, Eq)]
 pub struct Outcome<'a> {
     /// The response code, if there is one.

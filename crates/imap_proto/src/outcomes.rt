@@ -1,4 +1,4 @@
-//! Outcomes: what a status line says besides its status.
+//! Readers of outcomes: a code in brackets, if there is one, and a text.
 
 ghost use Rattle.std.specs.Prelude.{◌≡◌, option_map, string_bytes};
 ghost use Rattle.imap_grammar.specs.Answer.{Steps};

@@ -47,7 +47,8 @@ impl From<AllocError> for FeedError {
 /// What is given is dropped from the front, and what is behind it is moved there only when more than half of all bytes
 /// are spent: so fewer bytes are moved than were fed. Where a literal lacks n bytes, nothing is read again until n
 /// bytes more were fed. Where it isn't known how many are lacking, the line is read from its start after each piece,
-/// since it may be denied by then: a line of L bytes in pieces of p is read some L / p times.
+/// since it may be denied by then: a line of L bytes in pieces of p is read some L / p times,
+/// some L * L / 2p bytes in all.
 ///
 /// A reading may go on behind the end of its line, where the line announces a literal: only what stands behind that
 /// tells whether the line is the longer or the shorter one. So many lines, or many attributes of one line, may have the

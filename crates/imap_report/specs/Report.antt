@@ -93,7 +93,8 @@ abbrev pub ReadsAtLeast : ℕ → Option (List ℕ) → Option (List ℕ) → Ty
 ReadsAtLeast n remaining left =
     (input : List ℕ) × Consumes remaining left input × (n ≤ length input)
 
--- what a source gave was read to its end, the lines of its responses were written, and n bytes are left, which end so
+-- what a source gave was read to its end, the lines of its responses were written, and n bytes are left; end says why
+-- they give no more
 abbrev pub TellsResponses :
     Option (List ℕ) → Option (List ℕ) → Option (List ℕ) → Option (List ℕ) → Why → ℕ → Type 0
 TellsResponses remaining left old new end n =

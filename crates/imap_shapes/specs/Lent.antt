@@ -1,4 +1,4 @@
--- The same values with all texts borrowed: two values say the same where these are one.
+-- The same values with all texts borrowed: two values say the same where these are equal.
 use Rattle.std.specs.Prelude.{List, Option}
 use Rattle.std.specs.Option.{option_map}
 use Rattle.imap_grammar.specs.Text.{Text, lent_text}

@@ -64,10 +64,12 @@ multipart_of (bodies, (subtype, ext)) =
 
 -- ---- rules
 
--- In the four types each field of extension data brings its own SP, and may be missing with it.
+-- body-type-1part = (body-type-basic / body-type-msg / body-type-text) [SP body-ext-1part]: here the extension data
+-- stand in each of the three rules. In these and in a multipart's, each field brings its own SP, and may be missing with
+-- it.
 
--- body-type-text = media-text SP body-fields SP body-fld-lines [SP body-ext-1part], where media-text = DQUOTE
---     "TEXT" DQUOTE SP media-subtype
+-- body-type-text = media-text SP body-fields SP body-fld-lines, where media-text = DQUOTE "TEXT" DQUOTE SP
+--     media-subtype
 unfoldable pub body_type_text : Rule BodyValue
 body_type_text =
     gives text_of_parts
@@ -76,7 +78,7 @@ body_type_text =
 unfoldable pub message_word : Rule Bytes
 message_word = word "\"MESSAGE\" \"RFC822\""
 
--- body-type-msg = media-message SP body-fields SP envelope SP body SP body-fld-lines [SP body-ext-1part],
+-- body-type-msg = media-message SP body-fields SP envelope SP body SP body-fld-lines,
 -- where media-message = DQUOTE "MESSAGE" DQUOTE SP DQUOTE "RFC822" DQUOTE
 unfoldable pub body_type_msg : Rule BodyValue → Rule BodyValue
 body_type_msg body =
@@ -87,7 +89,8 @@ body_type_msg body =
     ⨾ spaced number
     ⨾ body_ext_1part)
 
--- body-type-basic = media-basic SP body-fields [SP body-ext-1part], where media-basic = string SP media-subtype
+-- body-type-basic = media-basic SP body-fields; media-basic, a type of five that are named or any string, is read as
+-- string SP media-subtype
 unfoldable pub body_type_basic : Rule BodyValue
 body_type_basic =
     gives basic_of (string_utf8 ⨾ spaced string_utf8 ⨾ spaced body_fields ⨾ body_ext_1part)

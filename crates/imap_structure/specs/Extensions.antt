@@ -46,7 +46,7 @@ body_fld_lang = gives one_language nstring_utf8 or language_list
 unfoldable pub extension_over : Rule ExtensionValue → Rule ExtensionValue
 extension_over lists = gives Num number or gives Str nstring_utf8 or lists
 
--- the alternatives by their first byte, but for lists
+-- ---- no further rules: those alternatives that may start with one byte, as the reader tries them, but for lists
 
 unfoldable pub number_extension : Rule ExtensionValue
 number_extension = gives Num number

@@ -40,7 +40,8 @@ quoted_encoding = tag "\"" ▹ encoding_name ◃ tag "\""
 unfoldable pub body_fld_enc : Rule EncodingValue
 body_fld_enc = nil ▹ nothing SevenBit or quoted_encoding or gives Other string_utf8
 
--- the alternatives of `encoding_name` and `body_fld_enc` by their first byte
+-- ---- no further rules: those alternatives of `encoding_name` and `body_fld_enc` that may start with one byte, as the
+-- reader tries them
 
 unfoldable pub seven_bit : Rule EncodingValue
 seven_bit = names "7BIT" SevenBit

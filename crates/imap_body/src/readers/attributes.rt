@@ -36,8 +36,8 @@ fn named<'a>(
 /// A section of a message's body, maybe from an index on, and its contents (RFC 3501, section 7.4.2:
 /// `BODY[<section>]<<origin octet>>`).
 ///
-/// A section that is read always takes memory, at least for one attribute; more for the path of a part. Its bytes are
-/// borrowed.
+/// Any other word, brackets that hold no section, or no nstring behind them and a space, is `Error`. A section that is
+/// read always takes memory, at least for one attribute; more for the path of a part. Its bytes are borrowed.
 #[tactic(auto, using(imap_grammar::proofs::Agreement::answered))]
 pub fn msg_att_body_section(alloc: Global, i: &[u8]) -> IResult<&[u8], AttributeValue<'_>>
     ensures steps { Steps rules.msg_att_body_section attribute_value i.now result }
@@ -50,8 +50,8 @@ pub fn msg_att_body_section(alloc: Global, i: &[u8]) -> IResult<&[u8], Attribute
 /// An attribute of a message (RFC 3501, section 9: msg-att; RFC 7162, section 7; RFC 8474, section 7; Gmail's
 /// X-GM-EXT-1). Any other, and one of a known name with another value, is `Unknown`, and its value is skipped.
 ///
-/// An attribute that is read always takes memory, at least for itself; more for lists, envelopes and body structures,
-/// and for texts that are not UTF-8.
+/// No atom in front, no space behind it, or no value behind that, is `Error`. An attribute that is read always takes
+/// memory, at least for itself; more for lists, envelopes and body structures, and for texts that are not UTF-8.
 #[tactic(auto, using(imap_grammar::proofs::Agreement::answered))]
 pub fn attribute(alloc: Global, i: &[u8]) -> IResult<&[u8], AttributeValue<'_>>
     ensures steps { Steps rules.attribute attribute_value i.now result }
@@ -61,7 +61,7 @@ pub fn attribute(alloc: Global, i: &[u8]) -> IResult<&[u8], AttributeValue<'_>>
     named(alloc, i, q, spans)
 }
 
-/// The attributes of a message in parentheses, one or more, by one space (RFC 3501, section 9: msg-att).
+/// The attributes of a message in parentheses, one or more, with one space between (RFC 3501, section 9: msg-att).
 ///
 /// An empty list, or one that has no `)` where its attributes end, is `Error`. It takes memory for the list, for the
 /// lists, envelopes and body structures in it, and for texts that are not UTF-8.

@@ -150,7 +150,7 @@ fn list_opens(m: &[u8], p: usize) -> bool
     matches!(i.first(), Some(b'('))
 }
 
-/// `NIL`, or addresses in parentheses (RFC 3501, section 9: env-from).
+// `NIL`, or addresses in parentheses (RFC 3501, section 9: env-from).
 fn addresses<K: Keep>(
     keep: &K,
     alloc: Global,

@@ -1,4 +1,4 @@
-//! What lists are made of.
+//! A list's first element, with room for a few more.
 
 ghost use Rattle.std.specs.Prelude.{◌≡◌, ◌∷◌, [], IfOk};
 

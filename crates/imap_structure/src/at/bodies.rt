@@ -28,7 +28,7 @@ use imap_shapes::spans::{Span, SpannedText};
 use std::alloc::{AllocError, Global};
 
 /// A structure alone. It is boxed, since it is large, and handed on through several calls.
-pub type Boxed<S, B> = Box<BodyStructure<S, B>>;
+pub type BoxedBody<S, B> = Box<BodyStructure<S, B>>;
 
 /// Structures. A reader puts the one that it reads behind the others: each call that answers one would copy it.
 pub type Bodies<S, B> = Vec<BodyStructure<S, B>>;
@@ -56,7 +56,7 @@ fn boxed_only<T: Drop>(alloc: Global, mut items: Vec<T>) -> Result<Box<T>, Alloc
     }
 }
 
-/// A text (RFC 3501, section 9: body-type-text).
+// A text (RFC 3501, section 9: body-type-text).
 #[tactic(auto, unfolding(crate::specs::Bodies::body_type_text))]
 fn body_type_text<K: Keep>(
     keep: &K,
@@ -104,7 +104,7 @@ fn body_type_text<K: Keep>(
     Ok(p)
 }
 
-/// A single part of any type (RFC 3501, section 9: body-type-basic).
+// A single part of any type (RFC 3501, section 9: body-type-basic).
 #[tactic(auto, unfolding(crate::specs::Bodies::body_type_basic))]
 fn body_type_basic<K: Keep>(
     keep: &K,
@@ -284,7 +284,7 @@ fn quoted_type<K: Keep>(
     body_type_basic(keep, alloc, m, p, others)
 }
 
-/// A message (RFC 3501, section 9: body-type-msg).
+// A message (RFC 3501, section 9: body-type-msg).
 #[cycle(body)]
 #[tactic(auto, unfolding(crate::specs::Bodies::body_type_msg))]
 fn body_type_msg<K: Keep>(
@@ -345,7 +345,7 @@ fn spaced_body<K: Keep>(
     level: u32,
     m: &[u8],
     p: usize,
-) -> Reached<Boxed<K::Text, K::Bytes>>
+) -> Reached<BoxedBody<K::Text, K::Bytes>>
     requires start { p ≤ length m.now }
     requires serves { K.serves keep.now m.now }
     ensures steps { StepsAt (spaced (bodies.body level))
@@ -357,7 +357,7 @@ fn spaced_body<K: Keep>(
     one_body(keep, alloc, level, m, p)
 }
 
-/// Several parts (RFC 3501, section 9: body-type-mpart).
+// Several parts (RFC 3501, section 9: body-type-mpart).
 #[cycle(body)]
 #[tactic(auto, unfolding(crate::specs::Bodies::body_type_mpart))]
 fn body_type_mpart<K: Keep>(
@@ -407,7 +407,7 @@ fn some_bodies<K: Keep>(
     level: u32,
     m: &[u8],
     p: usize,
-) -> Reached<Vec<BodyStructure<K::Text, K::Bytes>>>
+) -> Reached<Bodies<K::Text, K::Bytes>>
     requires start { p ≤ length m.now }
     requires serves { K.serves keep.now m.now }
     ensures steps { StepsAt (bodies.some_bodies (bodies.body level)) (λ x.
@@ -440,7 +440,7 @@ fn one_body<K: Keep>(
     level: u32,
     m: &[u8],
     p: usize,
-) -> Reached<Boxed<K::Text, K::Bytes>>
+) -> Reached<BoxedBody<K::Text, K::Bytes>>
     requires start { p ≤ length m.now }
     requires serves { K.serves keep.now m.now }
     ensures steps { StepsAt (bodies.body level)
@@ -460,7 +460,7 @@ pub fn body_structure<K: Keep>(
     alloc: Global,
     m: &[u8],
     p: usize,
-) -> Reached<Boxed<K::Text, K::Bytes>>
+) -> Reached<BoxedBody<K::Text, K::Bytes>>
     requires start { p ≤ length m.now }
     requires serves { K.serves keep.now m.now }
     ensures steps { StepsAt bodies.body_structure

@@ -52,7 +52,7 @@ fn spaced_params<K: Keep>(
     body_fld_param(keep, alloc, m, p)
 }
 
-/// `NIL`, or a disposition in parentheses (RFC 3501, section 9: body-fld-dsp).
+// `NIL`, or a disposition in parentheses (RFC 3501, section 9: body-fld-dsp).
 #[tactic(auto, unfolding(crate::specs::Extensions::body_fld_dsp))]
 fn body_fld_dsp<K: Keep>(
     keep: &K,
@@ -75,8 +75,6 @@ fn body_fld_dsp<K: Keep>(
     let ty = keep.text(m, ty)?;
     Ok((q, Some(ContentDisposition { ty, params })))
 }
-
-// ---- languages
 
 #[tactic(auto, unfolding(crate::specs::Extensions::some_languages))]
 fn some_languages<K: Keep>(keep: &K, alloc: Global, m: &[u8], p: usize) -> Reached<Vec<K::Text>>
@@ -118,7 +116,7 @@ fn language_list<K: Keep>(
     Ok((p, Some(languages)))
 }
 
-// A list of one, where there is one.
+// A language as a list of one; `None` stays `None`.
 fn one_language<S: Drop>(alloc: Global, language: Option<S>) -> Result<Option<Vec<S>>, AllocError>
     ensures { IfOk result (λ x.
         (f : S → Text) → languages_seen f x ≡ extensions.one_language (option_map f language)) }
@@ -129,7 +127,7 @@ fn one_language<S: Drop>(alloc: Global, language: Option<S>) -> Result<Option<Ve
     }
 }
 
-/// `NIL`, a language, or languages in parentheses (RFC 3501, section 9: body-fld-lang).
+// `NIL`, a language, or languages in parentheses (RFC 3501, section 9: body-fld-lang).
 #[tactic(auto, unfolding(crate::specs::Extensions::body_fld_lang))]
 fn body_fld_lang<K: Keep>(
     keep: &K,
@@ -147,8 +145,6 @@ fn body_fld_lang<K: Keep>(
     first!(nstring_text(m, p), language => one_language(alloc, kept_text(keep, m, language)?)?);
     language_list(keep, alloc, m, p)
 }
-
-// ---- extensions
 
 #[tactic(auto, using(crate::proofs::Seeing::number_seen, crate::proofs::Seeing::number_rests), unfolding(crate::specs::Extensions::number_extension))]
 fn number_extension<K: Keep>(m: &[u8], p: usize) -> Reached<BodyExtension<K::Text>>
@@ -316,7 +312,7 @@ pub fn body_extension<K: Keep>(
     extension(keep, alloc, MAX_EXTENSION_DEPTH, m, p)
 }
 
-// ---- fields behind a space, each skipped with its space where it is denied
+// From here on, a field behind a space: one that its rule denies counts as missing, with its space, and nothing is read.
 
 #[inline(always)]
 fn maybe_nstring_text(m: &[u8], p: usize) -> Reached<Option<SpannedText>>
@@ -437,8 +433,8 @@ fn last_extension<K: Keep>(
 
 /// Extension data of a single part (RFC 3501, section 9: body-ext-1part).
 ///
-/// A field that is denied is skipped with its space. It takes memory for lists, and, where values are kept of its
-/// strings, for texts that are not UTF-8.
+/// A field that its rule denies counts as missing, with its space: nothing is read for it, and the next field is tried in
+/// its place. It takes memory for lists, and, where values are kept of its strings, for texts that are not UTF-8.
 #[tactic(auto, unfolding(crate::specs::Extensions::body_ext_1part, imap_shapes::specs::ExtensionValues::ext_1part_seen))]
 pub fn body_ext_1part<K: Keep>(
     keep: &K,
@@ -472,8 +468,8 @@ pub fn body_ext_1part<K: Keep>(
 
 /// Extension data of a multipart (RFC 3501, section 9: body-ext-mpart).
 ///
-/// A field that is denied is skipped with its space. It takes memory for lists, and, where values are kept of its
-/// strings, for texts that are not UTF-8.
+/// A field that its rule denies counts as missing, with its space: nothing is read for it, and the next field is tried in
+/// its place. It takes memory for lists, and, where values are kept of its strings, for texts that are not UTF-8.
 #[tactic(auto, unfolding(crate::specs::Extensions::body_ext_mpart, imap_shapes::specs::ExtensionValues::ext_mpart_seen))]
 pub fn body_ext_mpart<K: Keep>(
     keep: &K,

@@ -1,8 +1,0 @@
-use Rattle.std.proofs.Common.{refl, arith}
-use Rattle.imap_grammar.specs.Classes.{is_char}
-use Rattle.imap_grammar.specs.declared.classes.TheConstants.{CHAR}
-use Rattle.imap_grammar.proofs.Tables.{table_told}
-use Rattle.imap_grammar.proofs.classes.is_char.Goals as goal
-
-pub returns : goal.returns
-returns c = table_told is_char CHAR refl refl c.args.c (omega arith)
