@@ -11,7 +11,6 @@ use std::alloc::{AllocError, Global};
 use std::fmt::Debug;
 use std::test::*;
 
-// These lines are not cut: each cut reads the line anew, so its time grows with the square of its length.
 #[test]
 fn open_brackets(rt: HostRuntime) -> Result<(), Fail> {
     let alloc = rt.alloc();
@@ -23,6 +22,7 @@ fn open_brackets(rt: HostRuntime) -> Result<(), Fail> {
     line.extend_from_slice(b"))\r\n")?;
     assert!(rt; parses(alloc, &line, "Fetch(1, [Unknown])"));
     assert!(rt; is_kept(alloc, &line, "Fetch(1, [Unknown])"));
+    assert!(rt; may_be_cut(alloc, &line));
     Ok(())
 }
 
