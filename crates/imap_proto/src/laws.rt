@@ -4,8 +4,6 @@ ghost use Rattle.std.specs.Prelude.{◌≡◌, string_bytes};
 ghost use Rattle.imap_grammar.specs.Stable.{Stable};
 ghost use Rattle.imap_grammar.specs.Equality.{Tells};
 ghost use Rattle.imap_grammar.specs.Copying.{CopiesFreely};
-ghost use Rattle.imap_command.specs.Apart.{CallsToldApart};
-ghost use Rattle.imap_command.specs.OneLine.{OneLine};
 ghost use Rattle.imap_proto.specs.Outcomes as outcomes;
 ghost use Rattle.imap_proto.specs.Lines as rule;
 ghost use Rattle.imap_proto.specs.Streams.{SomeSplit, OneSplit, BeginningsWait, SplitsGoOn, FeedsSplit, CuttingsAlike};
@@ -18,6 +16,7 @@ use crate::outcome::Outcome;
 use crate::response::{RequestId, Response};
 use crate::stream::{End, FeedError, Whole};
 use imap_body::laws;
+pub use imap_command::laws::{calls_told_apart, one_line};
 
 /// Each rule has one answer. Bytes that are appended change neither a value nor a denial; and where n bytes are
 /// lacking, k appended ones (k < n) leave n - k lacking.
@@ -61,17 +60,6 @@ pub fn read_back()
     ensures spells { Spells rule.response spells_response }
     ensures canonical { CanonicalReadsBack }
     ensures same { (r : ResponseValue) → Same (lent_response r) r }
-{}
-
-/// Finished commands with equal bytes were built by equal calls, ranges compared by their printed ends.
-pub fn calls_told_apart()
-    ensures { CallsToldApart }
-{}
-
-/// Where no argument is refused, what the calls tell has no carriage return, line feed or zero byte: so a finished
-/// command is one line, and no argument brings in another (RFC 3501, section 9: command, quoted).
-pub fn one_line()
-    ensures { OneLine }
 {}
 
 /// `==` tells whether two values say the same: texts by their bytes, whichever are borrowed.
