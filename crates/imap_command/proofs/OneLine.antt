@@ -1,15 +1,15 @@
--- No byte of what calls tell is refused in an argument.
-use Rattle.std.proofs.Common.{◌≡◌, ℕ, ◌/◌, ◌%◌, zero, suc, List, [], ◌∷◌, ◌++◌, true, false, cond, Option, None, Some, All, refl, ap, ◌∙◌, arith}
+-- No byte of what calls tell is refused in an argument, so each stays in the line.
+use Rattle.std.proofs.Common.{◌≡◌, ℕ, ◌/◌, ◌%◌, zero, suc, List, [], ◌∷◌, ◌++◌, true, false, cond, Option, None, Some, All, refl, ap, subst, ◌∙◌, arith}
 use Rattle.std.specs.Prelude.{decimal, ◌==◌, ◌||◌}
 use Rattle.std.specs.List.{flat_map}
 use Rattle.std.specs.Option.{option_or}
 use Rattle.std.specs.Fmt.{digits, digits_onto, digit_glyph}
 use Rattle.std.proofs.lemmas.Bool.Decides.{nat_tests}
-use Rattle.std.proofs.lemmas.List.Elements.{All-head, All-tail}
+use Rattle.std.proofs.lemmas.List.Elements.{All-nil, All-cons, All-head, All-tail}
 use Rattle.imap_command.specs.Arguments.{refused_byte, refusal, escaped_byte}
 use Rattle.imap_command.specs.Words.{macro_word, attribute_word}
-use Rattle.imap_command.specs.Calls.{Call, Stage, stage, comma, opening, closing, added, begun, params, messages, attributes, list, login, select, examine, num, range, range_from, attr_macro, attr, changed_since}
-use Rattle.imap_command.specs.OneLine.{Unrefused, OneLine}
+use Rattle.imap_command.specs.Calls.{Call, Stage, stage, comma, opening, closing, added, begun, told, params, messages, attributes, list, login, select, examine, num, range, range_from, attr_macro, attr, changed_since}
+use Rattle.imap_command.specs.OneLine.{Unrefused, StaysInLine, OneLine}
 use Rattle.imap_command.specs.declared.errors.BuildError.{BuildError}
 use Rattle.imap_command.specs.declared.words.AttrMacro.{AttrMacro}
 use Rattle.imap_command.specs.declared.words.AttrMacro.TheVariants as group
@@ -102,5 +102,25 @@ refusal-begun [] h = refl
 refusal-begun (call ∷ before) h =
     simp (refusal-append, refusal-begun before (All-tail Unrefused call before h), refusal-added (stage before) call (All-head Unrefused call before h))
 
+unrefused_text : (calls : List Call) → All Unrefused calls → refusal (told calls).text ≡ None
+unrefused_text calls h = simp (refusal-append, refusal-begun calls h, refusal-closing)
+
+-- a byte that is not refused stays in the line, and so does each of a text that is not
+both_none : (o p : Option BuildError) → option_or o p ≡ None → (o ≡ None) × (p ≡ None)
+both_none None p h = (refl, h)
+both_none (Some refused) p h = cc
+
+stays : (byte : ℕ) → refused_byte byte ≡ None → StaysInLine byte
+stays byte h = (
+    λ e. let k : refused_byte 13 ≡ None = subst (λ b. refused_byte b ≡ None) e h in cc,
+    λ e. let k : refused_byte 10 ≡ None = subst (λ b. refused_byte b ≡ None) e h in cc,
+    λ e. let k : refused_byte 0 ≡ None = subst (λ b. refused_byte b ≡ None) e h in cc)
+
+all_stay : (text : List ℕ) → refusal text ≡ None → All StaysInLine text
+all_stay [] h = All-nil StaysInLine
+all_stay (byte ∷ text) h =
+    let both = both_none (refused_byte byte) (refusal text) h in
+    All-cons StaysInLine byte text (stays byte both.0) (all_stay text both.1)
+
 pub one_line : OneLine
-one_line calls h = simp (refusal-append, refusal-begun calls h, refusal-closing)
+one_line calls h = all_stay _ (unrefused_text calls h)

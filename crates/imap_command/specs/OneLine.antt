@@ -1,5 +1,6 @@
 -- Finished commands are one line each.
-use Rattle.std.specs.Prelude.{◌≡◌, List, All, None}
+use Rattle.std.specs.Prelude.{◌≡◌, ◌≢◌, ℕ, List, All, None}
+use Rattle.imap_command.specs.Ascii.{nul, line_feed, carriage_return}
 use Rattle.imap_command.specs.Arguments.{refusal}
 use Rattle.imap_command.specs.Calls.{Call, told, list, login, select, examine}
 
@@ -11,7 +12,11 @@ Unrefused (select mailbox) = refusal mailbox ≡ None
 Unrefused (examine mailbox) = refusal mailbox ≡ None
 Unrefused call = Unit {0}
 
--- Where no argument is refused, what the calls tell has no byte that an argument is refused for: no carriage return,
--- line feed or NUL. So a finished command is one line.
+-- a byte that ends no line, and is not zero
+abbrev pub StaysInLine : ℕ → Type 0
+StaysInLine byte = (byte ≢ carriage_return) × (byte ≢ line_feed) × (byte ≢ nul)
+
+-- Where no argument is refused, what the calls tell has no carriage return, line feed or zero byte. So a finished
+-- command is one line.
 abbrev pub OneLine : Type 0
-OneLine = (calls : List Call) → All Unrefused calls → refusal (told calls).text ≡ None
+OneLine = (calls : List Call) → All Unrefused calls → All StaysInLine (told calls).text
