@@ -1,10 +1,11 @@
 //! The calls that begin a command.
 
-ghost use Rattle.std.specs.Prelude.{◌≡◌, [], ◌∷◌, IfOk};
+ghost use Rattle.std.specs.Prelude.{◌≡◌, [], ◌∷◌, IfOk, OnOk};
 ghost use Rattle.std.specs.Option.{option_or};
 ghost use Rattle.imap_command.specs.Arguments.{refusal, Judges};
 ghost use Rattle.imap_command.specs.Calls.{begun, Holds};
 ghost use Rattle.imap_command.specs.Calls as call;
+ghost use Rattle.imap_command.specs.OneLine.{Unrefused};
 
 use crate::arguments::{with_argument, with_arguments};
 use crate::fetch::Empty;
@@ -47,6 +48,7 @@ impl CommandBuilder {
     pub fn examine(alloc: Global, mailbox: &str) -> Result<SelectCommand<NoParams>, BuildError>
         ensures judged { Judges (refusal mailbox.now) result }
         ensures text { IfOk result (λ command. command ≡ begun (call.examine mailbox.now ∷ [])) }
+        ensures unrefused { OnOk result (Unrefused (call.examine mailbox.now)) }
     {
         let args = with_argument(alloc, b"EXAMINE ", mailbox)?;
         Ok(SelectCommand::with_text(args))
@@ -70,6 +72,7 @@ impl CommandBuilder {
     pub fn list(alloc: Global, reference: &str, glob: &str) -> Result<Command, BuildError>
         ensures judged { Judges (option_or (refusal reference.now) (refusal glob.now)) result }
         ensures told { IfOk result (Holds (call.list reference.now glob.now ∷ [])) }
+        ensures unrefused { OnOk result (Unrefused (call.list reference.now glob.now)) }
     {
         let args = with_arguments(alloc, b"LIST ", reference, glob)?;
         Ok(Command {
@@ -85,6 +88,7 @@ impl CommandBuilder {
     pub fn login(alloc: Global, user_name: &str, password: &str) -> Result<Command, BuildError>
         ensures judged { Judges (option_or (refusal user_name.now) (refusal password.now)) result }
         ensures told { IfOk result (Holds (call.login user_name.now password.now ∷ [])) }
+        ensures unrefused { OnOk result (Unrefused (call.login user_name.now password.now)) }
     {
         let args = with_arguments(alloc, b"LOGIN ", user_name, password)?;
         Ok(Command {
@@ -101,6 +105,7 @@ impl CommandBuilder {
     pub fn select(alloc: Global, mailbox: &str) -> Result<SelectCommand<NoParams>, BuildError>
         ensures judged { Judges (refusal mailbox.now) result }
         ensures text { IfOk result (λ command. command ≡ begun (call.select mailbox.now ∷ [])) }
+        ensures unrefused { OnOk result (Unrefused (call.select mailbox.now)) }
     {
         let args = with_argument(alloc, b"SELECT ", mailbox)?;
         Ok(SelectCommand::with_text(args))
