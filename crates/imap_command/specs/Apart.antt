@@ -1,15 +1,6 @@
 -- Finished commands are told apart by their bytes.
 use Rattle.std.specs.Prelude.{◌≡◌, ◌<◌, ◌^◌, List, All}
-use Rattle.imap_command.specs.Calls.{Call, Stage, stage, told, no_params, params, attributes, modifiers, whole, num, range, range_from, changed_since}
-
--- the typed states of which there is a `Command`
-abbrev pub Ends : Stage → Type 0
-Ends no_params = Unit {0}
-Ends params = Unit {0}
-Ends attributes = Unit {0}
-Ends modifiers = Unit {0}
-Ends whole = Unit {0}
-Ends state = ⊥
+use Rattle.imap_command.specs.Calls.{Call, Ends, stage, told, num, range, range_from, changed_since}
 
 -- a call's numbers fit the types of its parameters
 abbrev pub InRange : Call → Type 0

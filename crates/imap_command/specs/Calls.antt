@@ -69,6 +69,15 @@ abbrev pub stage : List Call → Stage
 stage [] = start
 stage (call ∷ before) = after (stage before) call
 
+-- the typed states of which there is a `Command`
+abbrev pub Ends : Stage → Type 0
+Ends no_params = Unit {0}
+Ends params = Unit {0}
+Ends attributes = Unit {0}
+Ends modifiers = Unit {0}
+Ends whole = Unit {0}
+Ends state = ⊥
+
 -- what stands before a further message
 abbrev pub comma : Stage → List ℕ
 comma messages = codes ","
@@ -133,8 +142,9 @@ pub record Told : Type 0 where
 abbrev pub told : List Call → Told
 told calls = record { text = begun calls ++ closing (stage calls); next_state = next_state calls }
 
--- the command holds what the calls tell: their text and next state
+-- the calls may end here, and the command holds what they tell: their text and next state
 pub record Holds (calls : List Call) (command : Command) : Type 0 where
+  pub ends : Ends (stage calls)
   pub text : command.args.items ≡ (told calls).text
   pub next_state : command.next_state ≡ (told calls).next_state
 
