@@ -112,9 +112,10 @@ both_none (Some refused) p h = cc
 
 stays : (byte : ℕ) → refused_byte byte ≡ None → StaysInLine byte
 stays byte h = (
-    λ e. let k : refused_byte 13 ≡ None = subst (λ b. refused_byte b ≡ None) e h in cc,
-    λ e. let k : refused_byte 10 ≡ None = subst (λ b. refused_byte b ≡ None) e h in cc,
-    λ e. let k : refused_byte 0 ≡ None = subst (λ b. refused_byte b ≡ None) e h in cc)
+  λ e. let k : refused_byte 13 ≡ None = subst (λ b. refused_byte b ≡ None) e h in cc,
+  λ e. let k : refused_byte 10 ≡ None = subst (λ b. refused_byte b ≡ None) e h in cc,
+  λ e. let k : refused_byte 0 ≡ None = subst (λ b. refused_byte b ≡ None) e h in cc,
+)
 
 all_stay : (text : List ℕ) → refusal text ≡ None → All StaysInLine text
 all_stay [] h = All-nil StaysInLine

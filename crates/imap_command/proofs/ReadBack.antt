@@ -8,8 +8,7 @@ use Rattle.std.proofs.lemmas.Bool.{eqb-true}
 use Rattle.std.proofs.lemmas.Fmt.{decimal_is_IsNumeral}
 use Rattle.imap_command.specs.Arguments.{quoted}
 use Rattle.imap_command.specs.Words.{attribute_word}
-use Rattle.imap_command.specs.Calls.{Call, Stage, Ends, after, added, closing, start, no_params, params, empty, messages, attributes, modifiers, whole, refused, check, close, list, login, select, examine, cond_store, fetch, uid_fetch, num, range, range_from, attr_macro, attr, changed_since}
-use Rattle.imap_command.specs.Apart.{InRange}
+use Rattle.imap_command.specs.Calls.{Call, InRange, Stage, Ends, after, added, closing, start, no_params, params, empty, messages, attributes, modifiers, whole, refused, check, close, list, login, select, examine, cond_store, fetch, uid_fetch, num, range, range_from, attr_macro, attr, changed_since}
 use Rattle.imap_command.specs.declared.words.AttrMacro.TheVariants as group
 use Rattle.imap_command.specs.declared.words.Attribute.{Attribute}
 use Rattle.imap_command.proofs.Runs.{beyond, front-append, beyond-append, stripped, is_digit, number, number-decimal, beyond-decimal, quoted_content, behind_quoted, quoted_content-quoted, behind_quoted-quoted}

@@ -2,8 +2,8 @@
 -- read back from the left.
 use Rattle.std.proofs.Common.{◌≡◌, List, [], ◌∷◌, ◌++◌, ℕ, None, Some, All, refl, ap, ◌∙◌, sym, subst, append_assoc}
 use Rattle.std.proofs.lemmas.List.Elements.{All-nil, All-cons, All-head, All-tail}
-use Rattle.imap_command.specs.Calls.{Call, Stage, Ends, after, added, closing, stage, begun, start, messages, attributes, refused, num, range, range_from, attr_macro, attr, changed_since}
-use Rattle.imap_command.specs.Apart.{InRange, CallsToldApart}
+use Rattle.imap_command.specs.Calls.{Call, InRange, Stage, Ends, after, added, closing, stage, begun, start, messages, attributes, refused, num, range, range_from, attr_macro, attr, changed_since}
+use Rattle.imap_command.specs.Apart.{CallsToldApart}
 use Rattle.imap_command.proofs.ReadBack.{Follows, Allowed, reads-added, reads-closing}
 use Rattle.imap_command.proofs.Reader.{Found, reads}
 

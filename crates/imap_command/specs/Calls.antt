@@ -1,6 +1,6 @@
 -- A command as the list of the builder calls that made it, the newest first: the typed state that
 -- they end in, the text so far, and the finished command.
-use Rattle.std.specs.Prelude.{◌≡◌, ℕ, List, [], ◌∷◌, ◌++◌, codes, decimal, Option, None, Some}
+use Rattle.std.specs.Prelude.{◌≡◌, ℕ, ◌<◌, ◌^◌, List, [], ◌∷◌, ◌++◌, codes, decimal, Option, None, Some}
 use Rattle.std.specs.Option.{option_or}
 use Rattle.imap_command.specs.Arguments.{quoted}
 use Rattle.imap_command.specs.Words.{macro_word, attribute_word}
@@ -27,6 +27,14 @@ pub data Call : Type 0 where
   attr_macro : AttrMacro → Call
   attr : Attribute → Call
   changed_since : ℕ → Call
+
+-- a call's numbers fit the types of its parameters
+abbrev pub InRange : Call → Type 0
+InRange (num n) = n < 2 ^ 32
+InRange (range first last) = (first < 2 ^ 32) × (last < 2 ^ 32)
+InRange (range_from first) = first < 2 ^ 32
+InRange (changed_since n) = n < 2 ^ 64
+InRange call = Unit {0}
 
 -- The typed states: before the first call, the markers' names, after a call that gives a `Command`
 -- at once, and after a call that the types refuse.
@@ -148,10 +156,12 @@ pub record Holds (calls : List Call) (command : Command) : Type 0 where
   pub text : command.args.items ≡ (told calls).text
   pub next_state : command.next_state ≡ (told calls).next_state
 
--- If old is the text of calls that end in this state, new is the text of these and one call more.
-abbrev pub Adds : Stage → Call → List ℕ → List ℕ → Type 0
-Adds state call old new =
-    (calls : List Call) → stage calls ≡ state → old ≡ begun calls → new ≡ begun (call ∷ calls)
+-- The call's numbers are in range. And if old is the text of calls that end in this state, new is
+-- the text of these and one call more.
+pub record Adds (state : Stage) (call : Call) (old new : List ℕ) : Type 0 where
+  pub in_range : InRange call
+  pub text :
+      (calls : List Call) → stage calls ≡ state → old ≡ begun calls → new ≡ begun (call ∷ calls)
 
 -- If old is the text of calls that end in this state, the command holds what these calls tell.
 abbrev pub Finishes : Stage → List ℕ → Command → Type 0

@@ -1,6 +1,8 @@
-use Rattle.std.proofs.Common.{refl}
+use Rattle.std.proofs.Common.{refl, arith}
 use Rattle.imap_command.proofs.fetching.FetchCommand+Empty.range_from.Goals as goal
 
 pub returns : goal.returns
-returns c calls at was =
-    rw (c.with_text.ensures, c.in_ok-push_open_range.ensures, at, c.self.view_is, was) refl
+returns c = record {
+  in_range = omega arith;
+  text = λ calls at was. rw (c.with_text.ensures, c.in_ok-push_open_range.ensures, at, c.self.view_is, was) refl;
+}

@@ -3,4 +3,7 @@ use Rattle.std.proofs.lemmas.Grind.{common_steps}
 use Rattle.imap_command.proofs.fetching.messages.FetchCommand+Messages.range_from.Goals as goal
 
 pub returns : goal.returns
-returns c = grind (arith, common_steps)
+returns c = record {
+  in_range = omega arith;
+  text = λ calls at was. grind (arith, common_steps);
+}
