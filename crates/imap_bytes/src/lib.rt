@@ -1,4 +1,5 @@
-//! Readers of bytes.
+//! Readers of numbers, strings, texts and sequence sets; re-exports the answers, classes, words and lists of
+//! `imap_grammar`.
 //!
 //! Each answers `Error` where its rule denies what stands there, whatever follows; `Incomplete` where more bytes are
 //! needed to tell; and `Failure` only where memory ran out.

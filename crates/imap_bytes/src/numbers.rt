@@ -10,7 +10,8 @@ use imap_grammar::at::span::rest;
 
 /// A number below 2^32, leading zeros allowed (RFC 3501, section 9: number). No memory.
 ///
-/// It is judged behind the byte that ends its digits: a larger one is `Error`, digits up to the end of the input wait.
+/// No digit in front, or a larger number, is `Error`. It is judged behind the byte that ends its digits: digits up to
+/// the end of the input wait.
 #[tactic(auto, using(imap_grammar::proofs::Agreement::exact_answered), unfolding(crate::specs::Numbers::number))]
 #[inline(always)]
 pub fn number(i: &[u8]) -> IResult<&[u8], u32>

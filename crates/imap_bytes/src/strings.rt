@@ -15,7 +15,7 @@ use std::str;
 
 /// A quoted string: its raw content, backslashes and all (RFC 3501, section 9: quoted). No memory.
 ///
-/// NUL, CR, LF, or a backslash before another byte than `"` and `\` is `Error`.
+/// No quote in front, or in the content NUL, CR, LF, or a backslash before another byte than `"` and `\`, is `Error`.
 #[tactic(auto, using(imap_grammar::proofs::Agreement::exact_answered), unfolding(crate::specs::Strings::quoted))]
 pub fn quoted(i: &[u8]) -> IResult<&[u8], &[u8]>
     ensures steps { StepsExactly strings.quoted (λ x. x.now) i.now result }
@@ -27,7 +27,8 @@ pub fn quoted(i: &[u8]) -> IResult<&[u8], &[u8]>
 
 /// A literal: as many bytes as its header says, of any value (RFC 3501, section 9: literal). No memory.
 ///
-/// Where fewer follow, `Needed::Size` is how many are missing. A count above 4,294,967,295 is `Error`.
+/// Where fewer follow, `Needed::Size` is how many are missing. A header of another form, or with a count above
+/// 4,294,967,295, is `Error`.
 #[tactic(auto, using(imap_grammar::proofs::Agreement::exact_answered), unfolding(crate::specs::Strings::literal))]
 pub fn literal(i: &[u8]) -> IResult<&[u8], &[u8]>
     ensures steps { StepsExactly strings.literal (λ x. x.now) i.now result }
@@ -99,7 +100,7 @@ pub fn as_utf8(bytes: &[u8]) -> Option<&str>
 
 /// An atom (RFC 3501, section 9: atom). No memory.
 ///
-/// Bytes that are not UTF-8 are `Error`.
+/// No atom-char in front, or bytes that are not UTF-8, are `Error`.
 #[tactic(auto, using(imap_grammar::proofs::Agreement::exact_answered), unfolding(crate::specs::Strings::atom))]
 pub fn atom(i: &[u8]) -> IResult<&[u8], &str>
     ensures steps { StepsExactly strings.atom (λ x. x.now) i.now result }

@@ -1,4 +1,7 @@
 //! Words, spaces and runs: the parts that other readers are made of. None takes memory.
+//!
+//! Each answers `Error` where the bytes that it wants can't stand there, whatever follows, and `Incomplete` where more
+//! bytes are needed to tell.
 
 ghost use Rattle.std.specs.Prelude.{◌≡◌, ◌==◌, ◌<◌, ℕ, Bool, length, position};
 ghost use Rattle.std.specs.Option.{option_map, ForSome};
@@ -58,7 +61,7 @@ macro_rules! maybe {
     };
 }
 
-/// Exactly these bytes. No memory.
+/// Exactly these bytes; others are `Error`. No memory.
 #[tactic(auto, using(crate::proofs::Agreement::exact_answered))]
 pub fn tag<'a>(text: &[u8], i: &'a [u8]) -> IResult<&'a [u8], &'a [u8]>
     ensures steps { StepsExactly (tag_by ◌==◌ text.now) (λ x. x.now) i.now result }
@@ -68,7 +71,7 @@ pub fn tag<'a>(text: &[u8], i: &'a [u8]) -> IResult<&'a [u8], &'a [u8]>
     sliced(i, at::tags::tag(text, i, 0))
 }
 
-/// These bytes, ASCII letters in either case. No memory.
+/// These bytes, ASCII letters in either case; others are `Error`. No memory.
 #[tactic(auto, using(crate::proofs::Agreement::exact_answered))]
 pub fn word<'a>(text: &[u8], i: &'a [u8]) -> IResult<&'a [u8], &'a [u8]>
     ensures steps { StepsExactly (tag_by same_letter text.now) (λ x. x.now) i.now result }
@@ -123,7 +126,7 @@ pub fn blanks0(i: &[u8]) -> IResult<&[u8], &[u8]>
     sliced(i, at::tags::blanks0(i, 0))
 }
 
-/// Spaces and tabs, at least one. No memory.
+/// Spaces and tabs, at least one; another byte in front is `Error`. No memory.
 pub fn blanks1(i: &[u8]) -> IResult<&[u8], &[u8]>
     ensures steps { StepsExactly tags.blanks1 (λ x. x.now) i.now result }
     ensures no_failure { NeverFails result }

@@ -107,8 +107,8 @@ fn digits_in_front_64(i: &[u8]) -> Option<(usize, Option<u64>)>
 
 /// A number below 2^32, leading zeros allowed (RFC 3501, section 9: number). No memory.
 ///
-/// It is judged behind the byte that ends its digits: a larger one is `Error`, digits up to the end of the message
-/// wait.
+/// No digit in front, or a larger number, is `Error`. It is judged behind the byte that ends its digits: digits up to
+/// the end of the message wait.
 #[tactic(auto, using(imap_grammar::proofs::Agreement::exact_answered_at))]
 #[inline(always)]
 pub fn number(m: &[u8], p: usize) -> Reached<u32>

@@ -16,7 +16,7 @@ use std::ops::RangeInclusive;
 
 /// Two numbers with a colon between, their order kept (RFC 3501, section 9: seq-range). No memory.
 ///
-/// A number past 32 bits is `Error`.
+/// A number that is missing or past 32 bits, or no colon, is `Error`.
 #[tactic(auto, using(imap_grammar::proofs::Agreement::exact_answered_at), unfolding(crate::specs::Sets::sequence_range))]
 pub fn sequence_range(m: &[u8], p: usize) -> Reached<RangeInclusive<u32>>
     requires { p ≤ length m.now }
@@ -41,9 +41,8 @@ fn range_end(m: &[u8], p: usize) -> Reached<u32>
     number(m, p)
 }
 
-/// A range, or a number n as n..=n (RFC 3501, section 9: sequence-set, without `*`). No memory.
-///
-/// It ends before a colon behind which `number` denies. A number past 32 bits in front is `Error`.
+// A range, or a number n as n..=n (RFC 3501, section 9: sequence-set, without `*`). It ends before a colon behind which
+// `number` denies.
 pub(crate) fn sequence_item(m: &[u8], p: usize) -> Reached<RangeInclusive<u32>>
     requires { p ≤ length m.now }
     ensures steps { StepsExactlyAt sets.sequence_item range_of m.now p result }
@@ -59,8 +58,8 @@ pub(crate) fn sequence_item(m: &[u8], p: usize) -> Reached<RangeInclusive<u32>>
 
 /// Numbers and ranges, with commas between (RFC 3501, section 9: sequence-set, without `*`).
 ///
-/// It ends before a colon or a comma behind which `number` denies. A number past 32 bits in front is `Error`. It takes
-/// memory for the list.
+/// It ends before a colon or a comma behind which `number` denies. No digit in front, or a number past 32 bits there,
+/// is `Error`. It takes memory for the list.
 pub fn sequence_set(alloc: Global, m: &[u8], p: usize) -> Reached<Vec<RangeInclusive<u32>>>
     requires { p ≤ length m.now }
     ensures steps { StepsAt sets.sequence_set (λ x. map range_of x.items) m.now p result }

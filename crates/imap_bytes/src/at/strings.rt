@@ -75,7 +75,7 @@ fn quoted_content(m: &[u8], p: usize) -> Reached<Span>
 
 /// A quoted string: its raw content, backslashes and all (RFC 3501, section 9: quoted). No memory.
 ///
-/// NUL, CR, LF, or a backslash before another byte than `"` and `\` is `Error`.
+/// No quote in front, or in the content NUL, CR, LF, or a backslash before another byte than `"` and `\`, is `Error`.
 // Never inlined: of a function with a loop the compiler doesn't see that it writes its whole answer, and in each caller
 // of `any_string` it would clear the room for one.
 #[tactic(auto, using(imap_grammar::proofs::Agreement::exact_answered_at), unfolding(crate::specs::Strings::quoted))]
@@ -125,7 +125,8 @@ fn counted(count: usize, m: &[u8], p: usize) -> Reached<Span>
 
 /// A literal: as many bytes as its header says, of any value (RFC 3501, section 9: literal). No memory.
 ///
-/// Where fewer follow, `Needed::Size` is how many are missing. A count above 4,294,967,295 is `Error`.
+/// Where fewer follow, `Needed::Size` is how many are missing. A header of another form, or with a count above
+/// 4,294,967,295, is `Error`.
 #[tactic(auto, using(imap_grammar::proofs::Agreement::exact_answered_at), unfolding(crate::specs::Strings::literal))]
 #[inline(never)]
 pub fn literal(m: &[u8], p: usize) -> Reached<Span>
@@ -183,6 +184,8 @@ fn any_string(m: &[u8], p: usize) -> Reached<Span>
 }
 
 /// A string: quoted, or a literal (RFC 3501, section 9: string). No memory.
+///
+/// What begins with neither a quote nor a brace is `Error`.
 #[tactic(auto, using(imap_grammar::proofs::Agreement::exact_answered_at))]
 #[inline(always)]
 pub fn string(m: &[u8], p: usize) -> Reached<Span>
@@ -199,6 +202,8 @@ pub fn string(m: &[u8], p: usize) -> Reached<Span>
 }
 
 /// At least one astring-char (RFC 3501, section 9: ASTRING-CHAR). No memory.
+///
+/// None in front is `Error`.
 pub fn astring_chars(m: &[u8], p: usize) -> Reached<Span>
     requires { p ≤ length m.now }
     ensures steps { StepsExactlyAt (run1 classes.is_astring_char) (named_in m.now) m.now p result }
@@ -210,6 +215,8 @@ pub fn astring_chars(m: &[u8], p: usize) -> Reached<Span>
 }
 
 /// Bare astring-chars, or a string (RFC 3501, section 9: astring). No memory.
+///
+/// What begins with neither an astring-char nor a quote nor a brace is `Error`.
 #[tactic(auto, using(imap_grammar::proofs::Agreement::exact_answered_at), unfolding(crate::specs::Strings::astring))]
 pub fn astring(m: &[u8], p: usize) -> Reached<Span>
     requires { p ≤ length m.now }
@@ -223,6 +230,8 @@ pub fn astring(m: &[u8], p: usize) -> Reached<Span>
 }
 
 /// `NIL` in any case: the three bytes, whatever follows them (RFC 3501, section 9: nil). No memory.
+///
+/// Any other bytes are `Error`.
 #[tactic(auto, using(imap_grammar::proofs::Agreement::exact_answered_at), unfolding(crate::specs::Strings::nil))]
 pub fn nil(m: &[u8], p: usize) -> Reached<Span>
     requires { p ≤ length m.now }
@@ -235,6 +244,8 @@ pub fn nil(m: &[u8], p: usize) -> Reached<Span>
 }
 
 /// `NIL`, or a string (RFC 3501, section 9: nstring). No memory.
+///
+/// What is neither is `Error`.
 #[tactic(auto, using(imap_grammar::proofs::Agreement::exact_answered_at), unfolding(crate::specs::Strings::nstring))]
 #[inline(always)]
 pub fn nstring(m: &[u8], p: usize) -> Reached<Option<Span>>
@@ -291,7 +302,7 @@ pub(crate) fn atom_text(m: &[u8], p: usize) -> Reached<(Span, &str)>
 
 /// An atom (RFC 3501, section 9: atom). No memory.
 ///
-/// Bytes that are not UTF-8 are `Error`.
+/// No atom-char in front, or bytes that are not UTF-8, are `Error`.
 #[tactic(auto, using(imap_grammar::proofs::Agreement::exact_answered_at))]
 pub fn atom(m: &[u8], p: usize) -> Reached<Span>
     requires { p ≤ length m.now }

@@ -13,7 +13,7 @@ use imap_grammar::at::span::Span;
 use imap_grammar::at::tags::cut0;
 use imap_grammar::scanning::{TextChar, long_run_end};
 
-/// Text-chars, maybe none (RFC 3501, section 9: TEXT-CHAR). No memory.
+// Text-chars, maybe none (RFC 3501, section 9: TEXT-CHAR).
 pub(crate) fn text_chars(m: &[u8], p: usize) -> Reached<Span>
     requires { p ≤ length m.now }
     ensures steps { StepsExactlyAt (run0 classes.is_text_char) (named_in m.now) m.now p result }

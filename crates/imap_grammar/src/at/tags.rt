@@ -1,4 +1,7 @@
 //! Words, spaces and runs at a position: the parts that other readers are made of. None takes memory.
+//!
+//! Each answers `Error` where the bytes that it wants can't stand there, whatever follows, and `Incomplete` where more
+//! bytes are needed to tell.
 
 ghost use Rattle.std.specs.Prelude.{◌≡◌, ◌==◌, ◌≤◌, ◌<◌, ◌+◌, ℕ, Bool, length, drop, position, IfSome};
 ghost use Rattle.std.specs.Option.{ForSome};
@@ -37,7 +40,7 @@ fn agrees_in_any_case(word: &[u8], i: &[u8]) -> bool
     word.iter().zip(i).all(|(a, b)| is_same_letter(*a, *b))
 }
 
-/// Exactly these bytes. No memory.
+/// Exactly these bytes; others are `Error`. No memory.
 #[tactic(auto, using(crate::proofs::Positions::stepped, crate::proofs::Positions::zip_cut), unfolding(crate::specs::Step::tag_step))]
 #[inline(always)]
 pub fn tag(text: &[u8], m: &[u8], p: usize) -> Reached<Span>
@@ -61,7 +64,7 @@ pub fn tag(text: &[u8], m: &[u8], p: usize) -> Reached<Span>
     Ok((q, Span { start: p, end: q }))
 }
 
-/// These bytes, ASCII letters in either case. No memory.
+/// These bytes, ASCII letters in either case; others are `Error`. No memory.
 #[tactic(auto, using(crate::proofs::Positions::stepped, crate::proofs::Positions::zip_cut), unfolding(crate::specs::Step::tag_step))]
 pub fn word(text: &[u8], m: &[u8], p: usize) -> Reached<Span>
     requires { p ≤ length m.now }
@@ -158,7 +161,7 @@ pub fn blanks0(m: &[u8], p: usize) -> Reached<Span>
     cut0(blanks_end(i), m, p)
 }
 
-/// Spaces and tabs, at least one. No memory.
+/// Spaces and tabs, at least one; another byte in front is `Error`. No memory.
 pub fn blanks1(m: &[u8], p: usize) -> Reached<Span>
     requires { p ≤ length m.now }
     ensures steps { StepsExactlyAt tags.blanks1 (named_in m.now) m.now p result }

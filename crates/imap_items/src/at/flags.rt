@@ -106,7 +106,8 @@ fn flag_text(m: &[u8], p: usize) -> Reached<Span>
 
 /// Flags in parentheses, maybe none, each as the span of its text, which is UTF-8 (RFC 3501, section 9: flag-list).
 ///
-/// It takes memory for the list, and for no text. Bytes that are not UTF-8 are `Error`.
+/// A list without its parentheses, or a flag that is not UTF-8, is `Error`. It takes memory for the list, and for no
+/// text.
 pub fn flag_list(alloc: Global, m: &[u8], p: usize) -> Reached<Vec<Span>>
     requires { p ≤ length m.now }
     ensures steps { StepsAt flags.flag_list (λ x. map (decoded_in m.now) x.items) m.now p result }

@@ -76,6 +76,7 @@ fn labels(alloc: Global, m: &[u8], p: usize) -> Reached<Vec<Span>>
 /// `X-GM-LABELS` and the labels of a message in parentheses, maybe none, each as the span of a flag's text or of a
 /// quoted string's raw content (Gmail's X-GM-EXT-1).
 ///
+/// Any other word, a list without its parentheses, or a label that is neither a flag nor a quoted string, is `Error`.
 /// It takes memory for the list, and for no text.
 #[tactic(auto, using(imap_grammar::proofs::Agreement::answered_at))]
 pub fn gmail_label_list(alloc: Global, m: &[u8], p: usize) -> Reached<Vec<Span>>
@@ -92,7 +93,7 @@ pub fn gmail_label_list(alloc: Global, m: &[u8], p: usize) -> Reached<Vec<Span>>
 
 /// `X-GM-MSGID` and the number of a message (Gmail's X-GM-EXT-1). No memory.
 ///
-/// A number past 64 bits is `Error`.
+/// Any other word, no digit behind it, or a number past 64 bits, is `Error`.
 #[tactic(auto, unfolding(crate::specs::Gmail::gmail_msgid))]
 pub fn gmail_msgid(m: &[u8], p: usize) -> Reached<u64>
     requires { p ≤ length m.now }
@@ -106,7 +107,7 @@ pub fn gmail_msgid(m: &[u8], p: usize) -> Reached<u64>
 
 /// `X-GM-THRID` and the number of a thread (Gmail's X-GM-EXT-1). No memory.
 ///
-/// A number past 64 bits is `Error`.
+/// Any other word, no digit behind it, or a number past 64 bits, is `Error`.
 #[tactic(auto, unfolding(crate::specs::Gmail::gmail_thrid))]
 pub fn gmail_thrid(m: &[u8], p: usize) -> Reached<u64>
     requires { p ≤ length m.now }

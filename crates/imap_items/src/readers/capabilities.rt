@@ -39,7 +39,7 @@ fn capability(i: &[u8]) -> IResult<&[u8], Capability<'_>>
     name(i)
 }
 
-/// A capability behind a space.
+// A capability behind a space.
 #[tactic(auto, unfolding(crate::specs::Capabilities::spaced_capability))]
 pub(crate) fn spaced_capability(i: &[u8]) -> IResult<&[u8], Capability<'_>>
     ensures { StepsExactly capabilities.spaced_capability capability_value i.now result }
@@ -48,7 +48,7 @@ pub(crate) fn spaced_capability(i: &[u8]) -> IResult<&[u8], Capability<'_>>
     capability(rest)
 }
 
-/// A name behind a space, as it stands.
+// A name behind a space, as it stands.
 #[tactic(auto, unfolding(crate::specs::Capabilities::spaced_name))]
 pub(crate) fn spaced_name(i: &[u8]) -> IResult<&[u8], Capability<'_>>
     ensures { StepsExactly capabilities.spaced_name capability_value i.now result }
@@ -92,7 +92,8 @@ fn with_revision(alloc: Global, i: &[u8]) -> IResult<&[u8], Vec<Capability<'_>>>
 
 /// `CAPABILITY` and capabilities (RFC 3501, section 9: capability-data).
 ///
-/// They are `Error` where none is `IMAP4rev1`. It takes memory for the list, and only behind `CAPABILITY`.
+/// Any other word, or a list without `IMAP4rev1`, is `Error`. It takes memory for the list, and only behind
+/// `CAPABILITY`.
 #[tactic(auto, using(imap_grammar::proofs::Agreement::answered))]
 pub fn capability_data(alloc: Global, i: &[u8]) -> IResult<&[u8], Vec<Capability<'_>>>
     ensures steps { Steps capabilities.capability_data (λ x. map capability_value x.items) i.now

@@ -14,7 +14,7 @@ use std::borrow::CowStr;
 
 /// A backslash and atom-chars, maybe none, as text (RFC 3501, section 9: flag-extension). No memory.
 ///
-/// Bytes that are not UTF-8 are `Error`.
+/// No backslash in front, or bytes that are not UTF-8, are `Error`.
 #[tactic(auto, using(imap_grammar::proofs::Agreement::exact_answered))]
 pub fn backslashed_text(i: &[u8]) -> IResult<&[u8], &str>
     ensures steps { StepsExactly flags.backslashed_text (λ x. x.now) i.now result }
@@ -28,7 +28,7 @@ pub fn backslashed_text(i: &[u8]) -> IResult<&[u8], &str>
 /// A flag: a backslash and atom-chars, or astring-chars (RFC 3501, section 9: flag). No memory.
 ///
 /// It is read as the Rust crate reads it: astring-chars may have `]`, and after the backslash there may be nothing.
-/// Bytes that are not UTF-8 are `Error`.
+/// What begins with neither a backslash nor an astring-char, or is not UTF-8, is `Error`.
 #[tactic(auto, using(imap_grammar::proofs::Agreement::exact_answered))]
 pub fn flag(i: &[u8]) -> IResult<&[u8], &str>
     ensures steps { StepsExactly flags.flag (λ x. x.now) i.now result }
@@ -41,7 +41,7 @@ pub fn flag(i: &[u8]) -> IResult<&[u8], &str>
 
 /// `\*`, or a flag (RFC 3501, section 9: flag-perm). No memory.
 ///
-/// Bytes that are not UTF-8 are `Error`.
+/// What begins with neither a backslash nor an astring-char, or is not UTF-8, is `Error`.
 #[tactic(auto, using(imap_grammar::proofs::Agreement::exact_answered))]
 #[inline(always)]
 pub fn flag_perm(i: &[u8]) -> IResult<&[u8], &str>
@@ -53,9 +53,7 @@ pub fn flag_perm(i: &[u8]) -> IResult<&[u8], &str>
     Ok((rest(i, q), text))
 }
 
-/// A flag of a list, as text that lies in the input (RFC 3501, section 9: flag-perm). No memory.
-///
-/// Bytes that are not UTF-8 are `Error`.
+// A flag of a list, as text that lies in the input (RFC 3501, section 9: flag-perm).
 #[tactic(auto, using(imap_grammar::proofs::Agreement::exact_answered), unfolding(crate::specs::Flags::flag_text))]
 #[inline(always)]
 pub(crate) fn flag_text(i: &[u8]) -> IResult<&[u8], CowStr<'_>>
@@ -69,7 +67,8 @@ pub(crate) fn flag_text(i: &[u8]) -> IResult<&[u8], CowStr<'_>>
 
 /// Flags in parentheses, maybe none (RFC 3501, section 9: flag-list).
 ///
-/// It takes memory for the list, and for no text. Bytes that are not UTF-8 are `Error`.
+/// A list without its parentheses, or a flag that is not UTF-8, is `Error`. It takes memory for the list, and for no
+/// text.
 pub fn flag_list(alloc: Global, i: &[u8]) -> IResult<&[u8], Vec<CowStr<'_>>>
     ensures steps { Steps flags.flag_list (λ x. map text_of x.items) i.now result }
     ensures answer { Answers flags.flag_list (λ x. map text_of x.items) i.now result }

@@ -42,8 +42,8 @@ fn labels(alloc: Global, i: &[u8]) -> IResult<&[u8], Vec<CowStr<'_>>>
 
 /// `X-GM-LABELS` and the labels of a message in parentheses, maybe none (Gmail's X-GM-EXT-1).
 ///
-/// A label that is neither a flag nor a quoted string is `Error`. It takes memory only behind that word: for the
-/// list, and for texts that are not UTF-8.
+/// Any other word, a list without its parentheses, or a label that is neither a flag nor a quoted string, is `Error`.
+/// It takes memory only behind that word: for the list, and for texts that are not UTF-8.
 #[tactic(auto, using(imap_grammar::proofs::Agreement::answered))]
 pub fn gmail_label_list(alloc: Global, i: &[u8]) -> IResult<&[u8], Vec<CowStr<'_>>>
     ensures steps { Steps rules.gmail_label_list (λ x. map text_of x.items) i.now result }
@@ -55,7 +55,7 @@ pub fn gmail_label_list(alloc: Global, i: &[u8]) -> IResult<&[u8], Vec<CowStr<'_
 
 /// `X-GM-MSGID` and the number of a message (Gmail's X-GM-EXT-1). No memory.
 ///
-/// A number past 64 bits is `Error`.
+/// Any other word, no digit behind it, or a number past 64 bits, is `Error`.
 #[tactic(auto, using(imap_grammar::proofs::Agreement::exact_answered))]
 pub fn gmail_msgid(i: &[u8]) -> IResult<&[u8], u64>
     ensures steps { StepsExactly rules.gmail_msgid (λ x. x) i.now result }
@@ -68,7 +68,7 @@ pub fn gmail_msgid(i: &[u8]) -> IResult<&[u8], u64>
 
 /// `X-GM-THRID` and the number of a thread (Gmail's X-GM-EXT-1). No memory.
 ///
-/// A number past 64 bits is `Error`.
+/// Any other word, no digit behind it, or a number past 64 bits, is `Error`.
 #[tactic(auto, using(imap_grammar::proofs::Agreement::exact_answered))]
 pub fn gmail_thrid(i: &[u8]) -> IResult<&[u8], u64>
     ensures steps { StepsExactly rules.gmail_thrid (λ x. x) i.now result }

@@ -47,9 +47,8 @@ fn member(first: u32, last: Option<u32>) -> UidSetMember
     }
 }
 
-/// A range of UIDs with its ends put in order, or one UID (RFC 4315, section 4: uid-range, uniqueid). No memory.
-///
-/// The number in front is read once.
+// A range of UIDs with its ends put in order, or one UID (RFC 4315, section 4: uid-range, uniqueid). The number in
+// front is read once.
 #[tactic(auto, using(crate::proofs::UidSets::member_is))]
 pub(crate) fn uid_set_member(i: &[u8]) -> IResult<&[u8], UidSetMember>
     ensures { StepsExactly sets.uid_set_member member_value i.now result }
@@ -60,8 +59,8 @@ pub(crate) fn uid_set_member(i: &[u8]) -> IResult<&[u8], UidSetMember>
 
 /// Ranges of UIDs and UIDs, with commas between (RFC 4315, section 4: uid-set).
 ///
-/// Each range starts not above its end. It ends before a colon or a comma behind which `number` denies. A number
-/// past 32 bits in front is `Error`. It takes memory for the list.
+/// Each range starts not above its end. It ends before a colon or a comma behind which `number` denies. No digit in
+/// front, or a number past 32 bits there, is `Error`. It takes memory for the list.
 pub fn uid_set(alloc: Global, i: &[u8]) -> IResult<&[u8], Vec<UidSetMember>>
     ensures steps { Steps sets.uid_set (λ x. map member_value x.items) i.now result }
     ensures answer { Answers sets.uid_set (λ x. map member_value x.items) i.now result }
