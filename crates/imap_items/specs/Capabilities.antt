@@ -43,7 +43,8 @@ auth = gives auth_of (word "AUTH=" ▹ atom)
 abbrev pub name : Rule CapabilityValue
 name = gives atom_of atom
 
--- the revision's name, whatever follows it; `AUTH=` and a mechanism; any other atom
+-- capability = ("AUTH=" auth-type) / atom. First the revision's name, whatever follows it; then `AUTH=` and a
+-- mechanism; then any other atom.
 unfoldable pub capability : Rule CapabilityValue
 capability = names "IMAP4rev1" Imap4rev1 or auth or name
 
@@ -57,7 +58,8 @@ spaced_capability = sp ▹ capability
 abbrev pub spaced_capabilities : Rule (List CapabilityValue)
 spaced_capabilities = many spaced_capability
 
--- denied where no capability is the revision
+-- capability-data = "CAPABILITY" *(SP capability) SP "IMAP4rev1" *(SP capability). Denied where no capability is the
+-- revision.
 unfoldable pub capability_data : Rule (List CapabilityValue)
 capability_data = test (list_any is_revision) (word "CAPABILITY" ▹ spaced_capabilities)
 
@@ -68,5 +70,6 @@ spaced_name = sp ▹ name
 abbrev pub spaced_names : Rule (List CapabilityValue)
 spaced_names = many spaced_name
 
+-- enable-data = "ENABLED" *(SP capability)
 unfoldable pub enabled_data : Rule (List CapabilityValue)
 enabled_data = word "ENABLED" ▹ spaced_names

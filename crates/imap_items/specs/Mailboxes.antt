@@ -10,5 +10,6 @@ use Rattle.imap_bytes.specs.Texts.{astring_utf8}
 abbrev pub mailbox_of : Text → Text
 mailbox_of t = cond (is_word same_letter (codes "INBOX") t.bytes) (as_text (codes "INBOX")) t
 
+-- mailbox = "INBOX" / astring
 unfoldable pub mailbox : Rule Text
 mailbox = gives mailbox_of astring_utf8

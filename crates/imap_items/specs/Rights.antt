@@ -66,6 +66,6 @@ rights_of text = map right_of (chars text)
 abbrev pub rights_in : Text → List AclRight
 rights_in text = rights_of text.bytes
 
--- the letters of an astring
+-- rights = astring. Each of its characters is a right.
 unfoldable pub rights : Rule (List AclRight)
 rights = gives rights_in astring_utf8

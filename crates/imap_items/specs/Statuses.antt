@@ -4,6 +4,10 @@ use Rattle.imap_grammar.specs.Tags.{names}
 use Rattle.imap_items.specs.declared.types.statuses.Status.{Status}
 use Rattle.imap_items.specs.declared.types.statuses.Status.TheVariants.{Ok, No, Bad, PreAuth, Bye}
 
+-- resp-cond-state = ("OK" / "NO" / "BAD") SP resp-text
+-- resp-cond-auth = ("OK" / "PREAUTH") SP resp-text
+-- resp-cond-bye = "BYE" SP resp-text
+-- Here the word alone.
 unfoldable pub status : Rule Status
 status =
     names "OK" Ok or names "NO" No or names "BAD" Bad or names "PREAUTH" PreAuth or names "BYE" Bye

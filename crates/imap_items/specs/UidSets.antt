@@ -28,6 +28,7 @@ IsOrdered (member.Uid n) = Unit {0}
 abbrev pub in_order : Range → MemberValue
 in_order r = UidRange (fresh (min r.start r.end) (max r.start r.end))
 
+-- uniqueid / uid-range, where uid-range = (uniqueid ":" uniqueid), in either order. Here a UID is any number.
 unfoldable pub uid_set_member : Rule MemberValue
 uid_set_member = gives in_order sequence_range or gives Uid number
 
@@ -39,5 +40,6 @@ abbrev pub member_of : ℕ × Option ℕ → MemberValue
 member_of (n, None) = Uid n
 member_of (n, Some m) = in_order (fresh n m)
 
+-- uid-set = (uniqueid / uid-range) *("," uid-set)
 unfoldable pub uid_set : Rule (List MemberValue)
 uid_set = list1 (tag ",") uid_set_member
