@@ -1,4 +1,5 @@
 pub mod Memory
+pub mod Lacking
 pub mod Digits
 pub mod StringStarts
 pub mod PlainStrings

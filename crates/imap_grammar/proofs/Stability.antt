@@ -1,15 +1,16 @@
 -- Every rule has one answer, which appended bytes keep.
-use Rattle.std.proofs.Common.{◌≡◌, ℕ, ◌-◌, ◌<◌, Bool, true, not, List, [], ◌∷◌, ◌++◌, length, Ok, Err, refl, sym, ap, ◌∙◌, inl, inr, append_assoc, arith}
-use Rattle.std.proofs.lemmas.Bool.{false≢true, or_cases, or_left, or_right}
+use Rattle.std.proofs.Common.{◌≡◌, ℕ, ◌-◌, ◌<◌, Bool, true, false, not, List, [], ◌∷◌, ◌++◌, length, Ok, Err, refl, sym, ap, subst, ◌∙◌, inl, inr, append_assoc, append-nil, arith}
+use Rattle.std.specs.Prelude.{◌&&◌}
+use Rattle.std.proofs.lemmas.Bool.{false≢true, and_parts, or_cases, or_left, or_right}
 use Rattle.std.proofs.lemmas.List.{length-append}
 use Rattle.imap_grammar.specs.declared.answer.Err.{Err as Fault}
 use Rattle.imap_grammar.specs.declared.answer.Err.TheVariants.{Incomplete, Error, Failure}
 use Rattle.imap_grammar.specs.declared.answer.Needed.TheVariants.{Unknown, Size}
 use Rattle.imap_grammar.specs.Meaning.{Meaning, Denies, Lacks, Waits, differs, begins, Cuts}
-use Rattle.imap_grammar.specs.Rule.{Rule, meaning, tag_by, run0, run1, seq, alt, gives, tested, raw, nothing, never, many, counted}
+use Rattle.imap_grammar.specs.Rule.{Rule, meaning, tag_by, run0, run1, seq, alt, gives, tested, raw, nothing, never, many, counted, ◌or◌}
 use Rattle.imap_grammar.specs.Step.{Step, step}
 use Rattle.imap_grammar.specs.Answer.{Neither}
-use Rattle.imap_grammar.specs.Stable.{Stable}
+use Rattle.imap_grammar.specs.Stable.{Stable, LacksAll}
 use Rattle.imap_grammar.proofs.Steps.{ok_is, err_is}
 use Rattle.imap_grammar.proofs.Agreement.{agrees, shrinks}
 
@@ -145,6 +146,7 @@ is_stable {V} r = record {
   yields_not_denies = λ m v rest y d. let f = sym ((agrees r m).yields v rest y) ∙ (agrees r m).fails Error d in cc;
   yields_not_lacks = λ m v rest n y l. let f = sym ((agrees r m).yields v rest y) ∙ (agrees r m).fails (Incomplete (Size n)) l in cc;
   denies_not_lacks = λ m n d l. let f = sym ((agrees r m).fails Error d) ∙ (agrees r m).fails (Incomplete (Size n)) l in cc;
+  no_failure = λ m f. (agrees r m).never ((agrees r m).fails Failure f);
   waits = waits_neither r;
   neither = neither_waits r;
   one_yield = λ m v w rest more y z.
@@ -157,3 +159,60 @@ is_stable {V} r = record {
   denies_more = λ m t d. (grows r).denies m t d;
   lacks_more = λ m n t l lt. (grows r).lacks m t n l lt;
 }
+
+-- ---- all that is lacking
+
+-- a test on the rule alone: it counts no bytes, and so lacks none
+abbrev pub counts_none : {V : Type 0} → Rule V → Bool
+counts_none (tag_by same word) = true
+counts_none (run0 class) = true
+counts_none (run1 class) = true
+counts_none (seq a b) = counts_none a && counts_none b
+counts_none (alt a b) = counts_none a && counts_none b
+counts_none (gives f a) = counts_none a
+counts_none (tested f a) = counts_none a
+counts_none (raw a) = counts_none a
+counts_none (nothing x) = true
+counts_none never = true
+counts_none (many a) = counts_none a
+counts_none (counted a) = false
+
+lacks_none : {V : Type 0} (r : Rule V) (m : List ℕ) (n : ℕ) → counts_none r ≡ true → ¬ (Lacks (meaning r) m n)
+unfolding meaning
+lacks_none (tag_by same word) m n c = λ l. l
+lacks_none (run0 class) m n c = λ l. l
+lacks_none (run1 class) m n c = λ l. l
+lacks_none (seq a b) m n c = let p = and_parts (counts_none a) (counts_none b) c in λ l. elim l [ inl la ↦ lacks_none a m n p.0 la | inr lb ↦ lacks_none b lb.1 n p.1 lb.3 ]
+lacks_none (alt a b) m n c = let p = and_parts (counts_none a) (counts_none b) c in λ l. elim l [ inl la ↦ lacks_none a m n p.0 la.0 | inr lb ↦ lacks_none b m n p.1 lb.1 ]
+lacks_none (gives f a) m n c = lacks_none a m n c
+lacks_none (tested f a) m n c = λ l. elim l [ inl la ↦ lacks_none a m n c la | inr y ↦ absurd (let q = y.0 in cc) ]
+lacks_none (raw a) m n c = lacks_none a m n c
+lacks_none (nothing x) m n c = λ l. l
+lacks_none never m n c = λ l. absurd (let q = l in cc)
+lacks_none (many a) m n c = λ l. elim l.3 [ inl y ↦ lacks_none a l.1 n c y.0 | inr y ↦ absurd (let q = y.0 in cc) ]
+lacks_none (counted a) m n c = absurd (false≢true c)
+
+pub counted_lacks : (a : Rule ℕ) → counts_none a ≡ true → LacksAll (counted a)
+unfolding meaning
+counted_lacks a c = record {
+  enough = λ m n t l is. elim l [
+    | inl la ↦ absurd (lacks_none a m n c la)
+    | inr y ↦
+        let gap : n ≡ y.0 - length y.1 = size_is n (y.0 - length y.1) y.4 in
+        let all : y.0 ≡ length (y.1 ++ t) = omega (arith, y.3, gap, is, length-append y.1 t) in
+        (y.1 ++ t, (y.1 ++ t, subst (λ k. (meaning a).yields (m ++ t) k (y.1 ++ t)) all ((grows a).yields m t y.0 y.1 y.2), sym (append-nil (y.1 ++ t))))
+  ];
+}
+
+pub later_lacks : {V : Type 0} (a b : Rule V) → counts_none a ≡ true → LacksAll b → LacksAll (a or b)
+unfolding meaning
+later_lacks a b c q = record {
+  enough = λ m n t l is. elim l [
+    | inl la ↦ absurd (lacks_none a m n c la.0)
+    | inr y ↦ (let z = q.enough m n t y.1 is in (z.0, inr ((grows a).denies m t y.0, z.1)))
+  ];
+}
+
+pub given_lacks : {A B : Type 0} (f : A → B) (a : Rule A) → LacksAll a → LacksAll (gives f a)
+unfolding meaning
+given_lacks f a q = record { enough = λ m n t l is. let z = q.enough m n t l is in (f z.0, (z.0, z.1, refl)) }

@@ -1,6 +1,7 @@
 -- A rule has one answer on some bytes. Bytes that are appended change neither a yield nor a denial; and where n bytes
 -- are lacking, k appended ones (k < n) leave n - k lacking.
-use Rattle.std.specs.Prelude.{◌≡◌, ℕ, ◌-◌, ◌<◌, List, ◌++◌, length}
+use Rattle.std.specs.Prelude.{◌≡◌, ℕ, ◌-◌, ◌<◌, List, [], ◌++◌, length}
+use Rattle.imap_grammar.specs.declared.answer.Err.TheVariants.{Failure}
 use Rattle.imap_grammar.specs.Meaning.{Denies, Lacks, Waits}
 use Rattle.imap_grammar.specs.Rule.{Rule, meaning}
 use Rattle.imap_grammar.specs.Answer.{Neither}
@@ -13,6 +14,8 @@ pub record Stable {V : Type 0} (r : Rule V) : Type 0 where
       (m : List ℕ) (v : V) (rest : List ℕ) (n : ℕ) → (meaning r).yields m v rest →
       ¬ (Lacks (meaning r) m n)
   pub denies_not_lacks : (m : List ℕ) (n : ℕ) → Denies (meaning r) m → ¬ (Lacks (meaning r) m n)
+  -- a rule knows no want of memory: only a reader does
+  pub no_failure : (m : List ℕ) → ¬ ((meaning r).fails m Failure)
   -- it waits exactly where none does
   pub waits : (m : List ℕ) → Waits (meaning r) m → Neither (meaning r) m
   pub neither : (m : List ℕ) → Neither (meaning r) m → Waits (meaning r) m
@@ -34,3 +37,9 @@ pub record Stable {V : Type 0} (r : Rule V) : Type 0 where
   pub lacks_more :
       (m : List ℕ) (n : ℕ) (t : List ℕ) → Lacks (meaning r) m n → length t < n →
       Lacks (meaning r) (m ++ t) (n - length t)
+
+-- What is lacking is all that is: with as many bytes, of any value, the rule yields, and leaves none.
+pub record LacksAll {V : Type 0} (r : Rule V) : Type 0 where
+  pub enough :
+      (m : List ℕ) (n : ℕ) (t : List ℕ) → Lacks (meaning r) m n → length t ≡ n →
+      (v : V) × (meaning r).yields (m ++ t) v []
