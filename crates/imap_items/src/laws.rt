@@ -76,10 +76,11 @@ pub fn cloning()
 {}
 
 /// A letter's right has that letter, and a right's letter has that right, but for a `Custom` of a letter that has a
-/// right of its own.
+/// right of its own: the letter of such a one has another right.
 pub fn conversions()
     ensures letters { (c : ℕ) → letter_of (right_of c) ≡ c }
     ensures rights { (right : Right) → ¬ (IsShadowed right) → right_of (letter_of right) ≡ right }
+    ensures shadowed { (right : Right) → IsShadowed right → ¬ (right_of (letter_of right) ≡ right) }
 {}
 
 /// What each rule takes spells the value that it yields. On the canonical text of a value that it yields, the rule

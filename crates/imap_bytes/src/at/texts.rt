@@ -30,6 +30,7 @@ pub fn text(m: &[u8], p: usize) -> Reached<Span>
     requires { p ≤ length m.now }
     ensures steps { StepsExactlyAt texts.text (λ x. decoded (named_in m.now x)) m.now p result }
     ensures answer { AnswersAt texts.text (λ x. decoded (named_in m.now x)) m.now p result }
+    ensures bytes { StepsExactlyAt (run0 classes.is_text_char) (named_in m.now) m.now p result }
     ensures inside { Inside m.now p result }
     ensures no_failure { NeverFails result }
 {
