@@ -1,5 +1,5 @@
 -- What a reader of lists gives to a caller, where the reader that was passed keeps the clause of a rule.
-use Rattle.std.proofs.Common.{ℕ, List, map, Option}
+use Rattle.std.proofs.Common.{ℕ, List, map, Option, Ok, Err}
 use Rattle.std.specs.Option.{option_map}
 use Rattle.std.specs.Global.{Vec}
 use Rattle.imap_grammar.specs.declared.lists.Separator.{Separator}
@@ -8,8 +8,9 @@ use Rattle.imap_grammar.specs.Rule.{Rule, meaning, many, list0, list1, opt, ◌�
 use Rattle.imap_grammar.specs.Step.{step}
 use Rattle.imap_grammar.specs.Answer.{Returned, Gives, Exactly}
 use Rattle.imap_grammar.specs.Tags.{tag, sp, blanks0}
-use Rattle.imap_grammar.specs.Lists.{called, Follows, or_memory, separator, list1_means, list0_means, list_means, nonempty_list_means, delimited_means, opt_opt_means, list_of, nonempty_list_of, delimited, opt_opt_of}
-use Rattle.imap_grammar.proofs.Under.{Keeps, KeepsExactly, kept_under, exactly_under, list1_under, list0_under, enclosed_under, opt_opt_under, many_under, under_gives, under_exactly, memory_aside}
+use Rattle.imap_grammar.specs.Memory.{StartsWith, FailsOnlyIf}
+use Rattle.imap_grammar.specs.Lists.{called, Follows, or_memory, or_memory_behind, separator, list1_means, list0_means, list_means, nonempty_list_means, delimited_means, opt_opt_means, list_of, nonempty_list_of, delimited, opt_opt_of}
+use Rattle.imap_grammar.proofs.Under.{Keeps, KeepsExactly, kept_under, exactly_under, list1_under, list0_under, enclosed_under, opt_opt_under, many_under, under_gives, under_exactly, memory_aside, memory_behind, starts_behind}
 
 pub many_read : {O V : Type 0} {answers : List ℕ → Returned O → Type 0} {m : List ℕ} {result : Returned (Vec O)} (v : O → V) (b : Rule V)
     → Follows (λ a. or_memory (many_means a)) answers (λ x. x.items) m result → Keeps answers v b → Gives (λ x. map v x.items) result (step (many b) m)
@@ -18,10 +19,19 @@ many_read {answers = answers} {m = m} {result = result} v b h says =
     under_gives (map v) (many_means (called answers)) (many b) (λ x. x.items) m result (many_under v (called answers) (meaning b) (kept_under answers v b says)) h.met
 
 pub separated_read : {O V : Type 0} {answers : List ℕ → Returned O → Type 0} {m : List ℕ} {result : Returned (Vec O)} (between : Separator) (v : O → V) (b : Rule V)
-    → Follows (λ a. or_memory (list1_means (meaning (separator between)) a)) answers (λ x. x.items) m result → Keeps answers v b → Gives (λ x. map v x.items) result (step (list1 (separator between) b) m)
+    → Follows (λ a. or_memory_behind a (list1_means (meaning (separator between)) a)) answers (λ x. x.items) m result → Keeps answers v b → Gives (λ x. map v x.items) result (step (list1 (separator between) b) m)
 unfolding meaning
 separated_read {answers = answers} {m = m} {result = result} between v b h says =
-    under_gives (map v) (list1_means (meaning (separator between)) (called answers)) (list1 (separator between) b) (λ x. x.items) m result (list1_under (meaning (separator between)) v (called answers) (meaning b) (kept_under answers v b says)) h.met
+    under_gives (map v) (list1_means (meaning (separator between)) (called answers)) (list1 (separator between) b) (λ x. x.items) m result (list1_under (meaning (separator between)) v (called answers) (meaning b) (kept_under answers v b says)) (memory_behind (called answers) (list1_means (meaning (separator between)) (called answers)) (λ x. x.items) m result h.met)
+
+-- where the reader that was passed takes no memory, the list takes some only behind its first item
+pub separated_fails : {O V : Type 0} {answers : List ℕ → Returned O → Type 0} {m : List ℕ} (between : Separator) (v : O → V) (b : Rule V) (result : Returned (Vec O))
+    → Follows (λ a. or_memory_behind a (list1_means (meaning (separator between)) a)) answers (λ x. x.items) m result → KeepsExactly answers v b → FailsOnlyIf (StartsWith b m) result
+unfolding meaning
+separated_fails between v b (Ok x) h says = tt
+separated_fails {answers = answers} {m = m} between v b (Err e) h says =
+    let u = exactly_under answers v b says in
+    starts_behind v (map v) (called answers) b (list1_means (meaning (separator between)) (called answers)) (list1 (separator between) b) m e u (list1_under (meaning (separator between)) v (called answers) (meaning b) u) h.met
 
 pub maybe_separated_read : {O V : Type 0} {answers : List ℕ → Returned O → Type 0} {m : List ℕ} {result : Returned (Vec O)} (between : Separator) (v : O → V) (b : Rule V)
     → Follows (λ a. or_memory (list0_means (meaning (separator between)) a)) answers (λ x. x.items) m result → Keeps answers v b → Gives (λ x. map v x.items) result (step (list0 (separator between) b) m)

@@ -20,7 +20,7 @@ use Rattle.imap_grammar.proofs.Steps.{ok_is}
 use Rattle.imap_grammar.proofs.ReadingWords.{exact, letter}
 use Rattle.imap_grammar.proofs.Joins.{tried_fault}
 use Rattle.imap_grammar.proofs.Yields.{Yields}
-use Rattle.imap_grammar.specs.Memory.{BeginsWord, NeverFails, FailsOnlyIf, SucceedsFor}
+use Rattle.imap_grammar.specs.Memory.{BeginsWord, StartsWith, NeverFails, FailsOnlyIf, SucceedsFor}
 
 -- ---- want of memory
 
@@ -47,15 +47,15 @@ pub word_never : (same : ℕ → ℕ → Bool) (k m : List ℕ) → ¬ (tag_step
 word_never same k m h = (agrees (tag_by same k) m).never h
 
 -- a part that takes no memory failed
-pub part_failed : {A V : Type 0} (P : Type 0) (r : Rule V) (m : List ℕ) (e : Fault) (result : Returned A) → result ≡ Err e → step r m ≡ Err e → FailsOnlyIf P result
+pub part_failed : {A V : Type 0} (P : Type 0) (r : Rule V) (m : List ℕ) (e : Fault) (result : Result A Fault) → result ≡ Err e → step r m ≡ Err e → FailsOnlyIf P result
 part_failed P r m e result is h = subst (FailsOnlyIf P) (sym is) (λ q. absurd (no_memory r m e h q))
 
 -- it holds
-pub holds_already : {A : Type 0} (P : Type 0) (result : Returned A) → P → FailsOnlyIf P result
+pub holds_already : {A : Type 0} (P : Type 0) (result : Result A Fault) → P → FailsOnlyIf P result
 holds_already P (Ok x) p = tt
 holds_already P (Err e) p = λ q. p
 
-pub wider : {A : Type 0} (P Q : Type 0) (result : Returned A) → (P → Q) → FailsOnlyIf P result → FailsOnlyIf Q result
+pub wider : {A : Type 0} (P Q : Type 0) (result : Result A Fault) → (P → Q) → FailsOnlyIf P result → FailsOnlyIf Q result
 wider P Q (Ok x) f h = tt
 wider P Q (Err e) f h = λ q. f (h q)
 
@@ -68,6 +68,9 @@ unfolding meaning
 begins_tag k m rest v same h =
     let y = reads (tag k) m rest v h in
     (v, rest, y.0, subst (λ w. is_word same_letter (codes k) w ≡ true) (exact (codes k) v y.1) same)
+
+pub starts_with : {V : Type 0} (r : Rule V) (m rest : List ℕ) (v : V) → step r m ≡ Ok (rest, v) → StartsWith r m
+starts_with r m rest v h = (v, rest, reads r m rest v h)
 
 -- a reader that takes no memory
 pub exactly_fails : {A V : Type 0} (P : Type 0) (view : A → V) (r : Rule V) (m : List ℕ) (result : Returned A) → Exactly view result (step r m) → FailsOnlyIf P result

@@ -10,13 +10,14 @@ use Rattle.imap_grammar.specs.Rule.{Rule, meaning, many, list0, list1, opt, ◌�
 use Rattle.imap_grammar.specs.Step.{Step, step}
 use Rattle.imap_grammar.specs.Answer.{Stops}
 use Rattle.imap_grammar.specs.Tags.{tag, sp, blanks0}
-use Rattle.imap_grammar.specs.Lists.{or_memory, separator, list1_means, list0_means, list_means, nonempty_list_means, delimited_means, opt_opt_means, list_of, nonempty_list_of, delimited, opt_opt_of}
+use Rattle.imap_grammar.specs.Memory.{StartsWith, FailsOnlyIf}
+use Rattle.imap_grammar.specs.Lists.{or_memory, or_memory_behind, separator, list1_means, list0_means, list_means, nonempty_list_means, delimited_means, opt_opt_means, list_of, nonempty_list_of, delimited, opt_opt_of}
 use Rattle.imap_grammar.specs.Positions.{Reached, ExactlyAt, GivesAt, Ahead}
 use Rattle.imap_grammar.specs.PositionLists.{called_at, Advances, KeepsAhead, AllowsAt, FollowsAt}
 use Rattle.imap_grammar.proofs.Agreement.{agrees, stops}
 use Rattle.imap_grammar.proofs.Consumption.{consumes, less}
 use Rattle.imap_grammar.proofs.Positions.{further}
-use Rattle.imap_grammar.proofs.Under.{Under, Kept, All, error_kept, enclosed_under, many_under, list1_under, list0_under, opt_opt_under}
+use Rattle.imap_grammar.proofs.Under.{Under, Kept, All, error_kept, enclosed_under, many_under, list1_under, list0_under, opt_opt_under, starts_behind}
 
 -- each call at a position of m gives the step of the rule there
 abbrev pub KeepsAt : {O V : Type 0} → (ℕ → Reached O → Type 0) → List ℕ → (O → V) → Rule V → Type 0
@@ -48,11 +49,15 @@ unfolding meaning
 repeated_at {answers = answers} {m = m} {p = p} {result = result} v b h says =
     under_gives_at (map v) (many_means (called_at m answers)) (many b) (λ x. x.items) m p result (many_under v (called_at m answers) (meaning b) (under_at answers m v b says)) h.met
 
+memory_behind_at : {O A X : Type 0} (first : Meaning O) (a : Meaning A) (view : X → A) (m : List ℕ) (p : ℕ) (result : Reached X) → AllowsAt (or_memory_behind first a) view m p result → AllowsAt (or_memory a) view m p result
+memory_behind_at first a view m p (Ok x) h = h
+memory_behind_at first a view m p (Err e) h = elim h [ inl f ↦ inl f | inr q ↦ inr q.0 ]
+
 pub separated_at : {O V : Type 0} {answers : ℕ → Reached O → Type 0} {m : List ℕ} {p : ℕ} {result : Reached (Vec O)} (between : Separator) (v : O → V) (b : Rule V)
-    → FollowsAt (λ a. or_memory (list1_means (meaning (separator between)) a)) answers (λ x. x.items) m p result → KeepsAt answers m v b → GivesAt (λ x. map v x.items) m result (step (list1 (separator between) b) (drop p m))
+    → FollowsAt (λ a. or_memory_behind a (list1_means (meaning (separator between)) a)) answers (λ x. x.items) m p result → KeepsAt answers m v b → GivesAt (λ x. map v x.items) m result (step (list1 (separator between) b) (drop p m))
 unfolding meaning
 separated_at {answers = answers} {m = m} {p = p} {result = result} between v b h says =
-    under_gives_at (map v) (list1_means (meaning (separator between)) (called_at m answers)) (list1 (separator between) b) (λ x. x.items) m p result (list1_under (meaning (separator between)) v (called_at m answers) (meaning b) (under_at answers m v b says)) h.met
+    under_gives_at (map v) (list1_means (meaning (separator between)) (called_at m answers)) (list1 (separator between) b) (λ x. x.items) m p result (list1_under (meaning (separator between)) v (called_at m answers) (meaning b) (under_at answers m v b says)) (memory_behind_at (called_at m answers) (list1_means (meaning (separator between)) (called_at m answers)) (λ x. x.items) m p result h.met)
 
 pub maybe_separated_at : {O V : Type 0} {answers : ℕ → Reached O → Type 0} {m : List ℕ} {p : ℕ} {result : Reached (Vec O)} (between : Separator) (v : O → V) (b : Rule V)
     → FollowsAt (λ a. or_memory (list0_means (meaning (separator between)) a)) answers (λ x. x.items) m p result → KeepsAt answers m v b → GivesAt (λ x. map v x.items) m result (step (list0 (separator between) b) (drop p m))
@@ -120,6 +125,15 @@ pub opt_opt_exactly_at : {O V : Type 0} {answers : ℕ → Reached (Option O) �
 unfolding meaning
 opt_opt_exactly_at {answers = answers} {m = m} {p = p} {result = result} v b h says =
     under_exactly_at (option_map v) (opt_opt_means (called_at m answers)) (opt_opt_of b) (λ x. x) m p result (opt_opt_under v (called_at m answers) (meaning b) (exactly_under_at answers m (option_map v) b says)) h.met
+
+-- the list takes some only behind its first item
+pub separated_fails_at : {O V : Type 0} {answers : ℕ → Reached O → Type 0} {m : List ℕ} {p : ℕ} (between : Separator) (v : O → V) (b : Rule V) (result : Reached (Vec O))
+    → FollowsAt (λ a. or_memory_behind a (list1_means (meaning (separator between)) a)) answers (λ x. x.items) m p result → KeepsExactlyAt answers m v b → FailsOnlyIf (StartsWith b (drop p m)) result
+unfolding meaning
+separated_fails_at between v b (Ok x) h says = tt
+separated_fails_at {answers = answers} {m = m} {p = p} between v b (Err e) h says =
+    let u = exactly_under_at answers m v b says in
+    starts_behind v (map v) (called_at m answers) b (list1_means (meaning (separator between)) (called_at m answers)) (list1 (separator between) b) (drop p m) e u (list1_under (meaning (separator between)) v (called_at m answers) (meaning b) u) h.met
 
 -- ---- how far the reader that was passed goes
 

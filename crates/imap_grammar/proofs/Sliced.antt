@@ -9,7 +9,7 @@ use Rattle.imap_grammar.specs.Meaning.{Meaning, many_means}
 use Rattle.imap_grammar.specs.Rule.{meaning, opt, ◌⨾◌}
 use Rattle.imap_grammar.specs.Answer.{Returned}
 use Rattle.imap_grammar.specs.Tags.{tag, sp, blanks0}
-use Rattle.imap_grammar.specs.Lists.{called, Shortens, Follows, or_memory, flat, opt_means, list1_means, list0_means, list_means, nonempty_list_means, delimited_means, opt_opt_means}
+use Rattle.imap_grammar.specs.Lists.{called, Shortens, Follows, or_memory, or_memory_behind, flat, opt_means, list1_means, list0_means, list_means, nonempty_list_means, delimited_means, opt_opt_means}
 use Rattle.imap_grammar.specs.Positions.{Reached, Ahead}
 use Rattle.imap_grammar.specs.PositionLists.{called_at, Advances, FollowsAt, CalledAt}
 use Rattle.imap_grammar.proofs.Positions.{further}
@@ -50,8 +50,14 @@ module _ {A : Type 0} {a b : Meaning A} where
   pub many_within : Within a b → Within (or_memory (many_means a)) (or_memory (many_means b))
   many_within u = plainly _ _ (many_under (λ x. x) a b u)
 
-  pub list1_within : {S : Type 0} (s : Meaning S) → Within a b → Within (or_memory (list1_means s a)) (or_memory (list1_means s b))
-  list1_within s u = plainly _ _ (list1_under s (λ x. x) a b u)
+  pub list1_within : {S : Type 0} (s : Meaning S) → Within a b → Within (or_memory_behind a (list1_means s a)) (or_memory_behind b (list1_means s b))
+  list1_within s u =
+      let lists = list1_under s (λ x. x) a b u in
+      record {
+        error = tt;
+        yields = λ m x rest y. subst (λ v. (list1_means s b).yields m v rest) (map-id x) (lists.yields m x rest y);
+        fails = λ m e o f. elim f [ inl h ↦ inl (lists.fails m e o h) | inr q ↦ inr (q.0, q.1, q.2, u.yields m q.1 q.2 q.3) ];
+      }
 
   pub list0_within : {S : Type 0} (s : Meaning S) → Within a b → Within (or_memory (list0_means s a)) (or_memory (list0_means s b))
   list0_within s u = plainly _ _ (list0_under s (λ x. x) a b u)

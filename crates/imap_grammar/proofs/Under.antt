@@ -9,7 +9,8 @@ use Rattle.imap_grammar.specs.Rule.{Rule, meaning}
 use Rattle.imap_grammar.specs.Step.{step}
 use Rattle.imap_grammar.specs.Answer.{Returned, Gives, Exactly}
 use Rattle.imap_grammar.specs.Tags.{tag}
-use Rattle.imap_grammar.specs.Lists.{called, Shortens, Ends, or_memory, flat, Allows, behind_means, list1_means, list0_means, opt_means, enclosed_means, opt_opt_means}
+use Rattle.imap_grammar.specs.Memory.{StartsWith}
+use Rattle.imap_grammar.specs.Lists.{called, Shortens, Ends, or_memory, or_memory_behind, flat, Allows, behind_means, list1_means, list0_means, opt_means, enclosed_means, opt_opt_means}
 use Rattle.imap_grammar.proofs.Agreement.{agrees, shrinks, exactly_gives}
 use Rattle.imap_grammar.proofs.Consumption.{consumes, less}
 
@@ -141,6 +142,18 @@ under_exactly w a r view m (Err e) p h = (agrees r m).fails e (p.fails m e tt h)
 pub memory_aside : {A X : Type 0} (a : Meaning A) (view : X → A) (m : List ℕ) (result : Returned X) → Allows a view m result → Allows (or_memory a) view m result
 memory_aside a view m (Ok x) h = h
 memory_aside a view m (Err e) h = inl h
+
+-- where it runs out behind a first item alone, it runs out
+pub memory_behind : {O A X : Type 0} (first : Meaning O) (a : Meaning A) (view : X → A) (m : List ℕ) (result : Returned X) → Allows (or_memory_behind first a) view m result → Allows (or_memory a) view m result
+memory_behind first a view m (Ok x) h = h
+memory_behind first a view m (Err e) h = elim h [ inl f ↦ inl f | inr q ↦ inr q.0 ]
+
+-- and then the item's rule yields
+pub starts_behind : {O V A B : Type 0} (v : O → V) (w : A → B) (first : Meaning O) (b : Rule V) (a : Meaning A) (r : Rule B) (m : List ℕ) (e : Fault) → Under All v first (meaning b) → Under All w a (meaning r) → (or_memory_behind first a).fails m e → e ≡ Failure → StartsWith b m
+starts_behind v w first b a r m e p u f q = elim f [
+  | inl h ↦ absurd ((agrees r m).never ((agrees r m).fails Failure (u.fails m Failure tt (subst (λ d. a.fails m d) q h))))
+  | inr y ↦ (v y.1, y.2, p.yields m y.1 y.2 y.3)
+]
 
 -- what a reader with the clause of a rule hands back is an end of its input, and shorter, where the rule takes a byte
 pub kept_ends : {O V : Type 0} {answers : List ℕ → Returned O → Type 0} (v : O → V) (b : Rule V) → Keeps answers v b → Ends answers

@@ -98,6 +98,16 @@ pub record Ends {O : Type 0} (answers : List ℕ → Returned O → Type 0) : Ty
 abbrev pub or_memory : {A : Type 0} → Meaning A → Meaning A
 or_memory a = record { yields = a.yields; fails = λ m e. a.fails m e ⊎ (e ≡ Failure) }
 
+-- the same answers, where memory may run out as well once the first item is read
+abbrev pub or_memory_behind : {O A : Type 0} → Meaning O → Meaning A → Meaning A
+or_memory_behind {O} first a =
+    record {
+      yields = a.yields;
+      fails =
+          λ m e.
+          a.fails m e ⊎ ((e ≡ Failure) × (x : O) × (rest : List ℕ) × first.yields m x rest);
+    }
+
 -- an answer of a meaning, each fault as it is
 abbrev pub Allows : {A V : Type 0} → Meaning V → (A → V) → List ℕ → Returned A → Type 0
 Allows r view m (Ok x) = r.yields m (view x.1) x.0.now

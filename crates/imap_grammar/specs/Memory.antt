@@ -4,7 +4,7 @@ use Prim.Native.String.{String}
 use Rattle.imap_grammar.specs.declared.answer.Err.{Err as Fault}
 use Rattle.imap_grammar.specs.declared.answer.Err.TheVariants.{Failure}
 use Rattle.imap_grammar.specs.Meaning.{is_word}
-use Rattle.imap_grammar.specs.Rule.{Rule}
+use Rattle.imap_grammar.specs.Rule.{Rule, meaning}
 use Rattle.imap_grammar.specs.Step.{step}
 use Rattle.imap_grammar.specs.Answer.{Returned}
 use Rattle.imap_grammar.specs.Tags.{same_letter}
@@ -18,12 +18,16 @@ BeginsWord k m =
     × (m ≡ front ++ rest)
     × IsTrue (is_word same_letter (codes k) front)
 
+-- the rule yields a value of what stands in front
+abbrev pub StartsWith : {V : Type 0} → Rule V → Bytes → Type 0
+StartsWith {V} r m = (v : V) × (rest : Bytes) × (meaning r).yields m v rest
+
 -- Want of memory is not answered.
 abbrev pub NeverFails : {A : Type 0} → Result A Fault → Type 0
 NeverFails result = IfErr result (λ e. e ≢ Failure)
 
 -- Want of memory is answered only where this holds.
-abbrev pub FailsOnlyIf : {A : Type 0} → Type 0 → Returned A → Type 0
+abbrev pub FailsOnlyIf : {A : Type 0} → Type 0 → Result A Fault → Type 0
 FailsOnlyIf P result = IfErr result (λ e. e ≡ Failure → P)
 
 -- Where the rule yields a value of this kind, the reader answers `Ok`, whatever memory there is.

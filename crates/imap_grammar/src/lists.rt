@@ -9,7 +9,7 @@ ghost use Rattle.imap_grammar.specs.Rule.{meaning};
 ghost use Rattle.imap_grammar.specs.Meaning.{many_means};
 ghost use Rattle.imap_grammar.specs.Positions.{Ahead};
 ghost use Rattle.imap_grammar.specs.PositionLists.{CalledAt};
-ghost use Rattle.imap_grammar.specs.Lists.{Shortens, Ends, Follows, or_memory, separator as separator_rule, list1_means, list0_means, list_means, nonempty_list_means, delimited_means, opt_opt_means, tried_of};
+ghost use Rattle.imap_grammar.specs.Lists.{Shortens, Ends, Follows, or_memory, or_memory_behind, separator as separator_rule, list1_means, list0_means, list_means, nonempty_list_means, delimited_means, opt_opt_means, tried_of};
 
 use crate::answer::{Err, IResult};
 use crate::at::span::rest;
@@ -58,7 +58,8 @@ fn read_at<'a, O: Drop, F: Fn(&'a [u8]) -> IResult<&'a [u8], O>>(
 /// What f reads, and again behind each separator: one or more.
 ///
 /// It ends before a separator behind which f denies. `Error` where f denies at once; f's other faults go through. f has
-/// to consume at least a byte, and its rest has to be an end of its input. It takes memory for the list.
+/// to consume at least a byte, and its rest has to be an end of its input. It takes memory for the list, and only
+/// once f read a first item.
 pub fn separated<'a, O: Drop, F: Fn(&'a [u8]) -> IResult<&'a [u8], O>>(
     alloc: Global,
     between: Separator,
@@ -68,7 +69,7 @@ pub fn separated<'a, O: Drop, F: Fn(&'a [u8]) -> IResult<&'a [u8], O>>(
     requires may { F.IsAlwaysCallable f }
     requires shortens { Shortens (FnReturnsAt F.Fn f) }
     requires ends { Ends (FnReturnsAt F.Fn f) }
-    ensures { Follows (λ a. or_memory (list1_means (meaning (separator_rule between)) a))
+    ensures { Follows (λ a. or_memory_behind a (list1_means (meaning (separator_rule between)) a))
         (FnReturnsAt F.Fn f) (λ x. x.items) i.now result }
 {
     let item = |p: usize|

@@ -1,8 +1,8 @@
 //! Sequence sets at a position.
 
-ghost use Rattle.std.specs.Prelude.{◌≤◌, length, map};
+ghost use Rattle.std.specs.Prelude.{◌≤◌, length, drop, map};
 ghost use Rattle.imap_grammar.specs.Positions.{AnswersAt, Ahead, StepsAt, StepsExactlyAt};
-ghost use Rattle.imap_grammar.specs.Memory.{NeverFails};
+ghost use Rattle.imap_grammar.specs.Memory.{StartsWith, FailsOnlyIf, NeverFails};
 ghost use Rattle.imap_grammar.specs.Ranges.{range_of};
 ghost use Rattle.imap_bytes.specs.Sets as sets;
 
@@ -59,12 +59,13 @@ pub(crate) fn sequence_item(m: &[u8], p: usize) -> Reached<RangeInclusive<u32>>
 /// Numbers and ranges, with commas between (RFC 3501, section 9: sequence-set, without `*`).
 ///
 /// It ends before a colon or a comma behind which `number` denies. No digit in front, or a number past 32 bits there,
-/// is `Error`. It takes memory for the list.
+/// is `Error`. It takes memory for the list, and only behind its first number.
 pub fn sequence_set(alloc: Global, m: &[u8], p: usize) -> Reached<Vec<RangeInclusive<u32>>>
     requires { p ≤ length m.now }
     ensures steps { StepsAt sets.sequence_set (λ x. map range_of x.items) m.now p result }
     ensures answer { AnswersAt sets.sequence_set (λ x. map range_of x.items) m.now p result }
     ensures ahead { Ahead m.now p result }
+    ensures memory { FailsOnlyIf (StartsWith sets.sequence_item (drop p m.now)) result }
 {
     let item = |k: usize|
         requires { k ≤ length m.now }

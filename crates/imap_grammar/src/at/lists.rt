@@ -6,7 +6,7 @@ ghost use Rattle.imap_grammar.specs.Positions.{Ahead, named_in, StepsExactlyAt};
 ghost use Rattle.imap_grammar.specs.PositionLists.{FollowsAt, Advances, KeepsAhead, Onward};
 ghost use Rattle.imap_grammar.specs.Rule.{meaning};
 ghost use Rattle.imap_grammar.specs.Meaning.{many_means};
-ghost use Rattle.imap_grammar.specs.Lists.{or_memory, separator as separator_rule, behind_means, list1_means, list0_means, list_means, nonempty_list_means, delimited_means, opt_opt_means};
+ghost use Rattle.imap_grammar.specs.Lists.{or_memory, or_memory_behind, separator as separator_rule, behind_means, list1_means, list0_means, list_means, nonempty_list_means, delimited_means, opt_opt_means};
 
 use crate::at::Reached;
 use crate::at::span::Span;
@@ -87,7 +87,7 @@ pub fn repeated<O: Drop, F: Fn(usize) -> Reached<O>>(
 /// What f reads, and again behind each separator: one or more.
 ///
 /// It ends before a separator behind which f denies. `Error` where f denies at once; f's other faults go through. f has
-/// to consume at least a byte. It takes memory for the list.
+/// to consume at least a byte. It takes memory for the list, and only once f read a first item.
 pub fn separated<O: Drop, F: Fn(usize) -> Reached<O>>(
     alloc: Global,
     between: Separator,
@@ -98,7 +98,8 @@ pub fn separated<O: Drop, F: Fn(usize) -> Reached<O>>(
     requires start { p ≤ length m.now }
     requires may { (k : ℕ) → k ≤ length m.now → F.pre f k }
     requires advances { Advances m.now (F.post f) }
-    ensures follows { FollowsAt (λ a. or_memory (list1_means (meaning (separator_rule between)) a))
+    ensures follows { FollowsAt
+        (λ a. or_memory_behind a (list1_means (meaning (separator_rule between)) a))
         (F.post f) (λ x. x.items) m.now p result }
     ensures ahead { Ahead m.now p result }
 {

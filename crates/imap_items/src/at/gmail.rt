@@ -1,8 +1,8 @@
 //! Gmail's items of a message at a position: labels as spans of their texts, and numbers.
 
-ghost use Rattle.std.specs.Prelude.{◌≤◌, length, map};
+ghost use Rattle.std.specs.Prelude.{◌≤◌, length, drop, map};
 ghost use Rattle.imap_grammar.specs.Positions.{AnswersAt, Ahead, Inside, EachInside, StepsAt, StepsExactlyAt};
-ghost use Rattle.imap_grammar.specs.Memory.{NeverFails};
+ghost use Rattle.imap_grammar.specs.Memory.{BeginsWord, FailsOnlyIf, NeverFails};
 ghost use Rattle.imap_bytes.specs.Texts as texts;
 ghost use Rattle.imap_items.specs.Gmail as rules;
 ghost use Rattle.imap_items.specs.Spanned.{decoded_in};
@@ -68,6 +68,7 @@ fn labels(alloc: Global, m: &[u8], p: usize) -> Reached<Vec<Span>>
         result }
     ensures ahead { Ahead m.now p result }
     ensures inside { EachInside p result }
+    ensures memory { FailsOnlyIf (BeginsWord "X-GM-LABELS " (drop p m.now)) result }
 {
     let (p, _) = word(b"X-GM-LABELS ", m, p)?;
     gmail_labels(alloc, m, p)
@@ -77,7 +78,7 @@ fn labels(alloc: Global, m: &[u8], p: usize) -> Reached<Vec<Span>>
 /// quoted string's raw content (Gmail's X-GM-EXT-1).
 ///
 /// Any other word, a list without its parentheses, or a label that is neither a flag nor a quoted string, is `Error`.
-/// It takes memory for the list, and for no text.
+/// It takes memory for the list, and only behind that word; for no text.
 #[tactic(auto, using(imap_grammar::proofs::Agreement::answered_at))]
 pub fn gmail_label_list(alloc: Global, m: &[u8], p: usize) -> Reached<Vec<Span>>
     requires { p ≤ length m.now }
@@ -87,6 +88,7 @@ pub fn gmail_label_list(alloc: Global, m: &[u8], p: usize) -> Reached<Vec<Span>>
         result }
     ensures ahead { Ahead m.now p result }
     ensures inside { EachInside p result }
+    ensures memory { FailsOnlyIf (BeginsWord "X-GM-LABELS " (drop p m.now)) result }
 {
     labels(alloc, m, p)
 }

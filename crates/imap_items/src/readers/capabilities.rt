@@ -107,13 +107,14 @@ pub fn capability_data(alloc: Global, i: &[u8]) -> IResult<&[u8], Vec<Capability
 
 /// `ENABLED` and the names of capabilities, each as it stands, maybe none (RFC 5161, section 4: enable-data).
 ///
-/// Any other word is `Error`. It takes memory for the list.
+/// Any other word is `Error`. It takes memory for the list, and only behind `ENABLED`.
 #[tactic(auto, using(imap_grammar::proofs::Agreement::answered), unfolding(crate::specs::Capabilities::enabled_data))]
 pub fn enabled_data(alloc: Global, i: &[u8]) -> IResult<&[u8], Vec<Capability<'_>>>
     ensures steps { Steps capabilities.enabled_data (λ x. map capability_value x.items) i.now
         result }
     ensures answer { Answers capabilities.enabled_data (λ x. map capability_value x.items) i.now
         result }
+    ensures memory { FailsOnlyIf (BeginsWord "ENABLED" i.now) result }
 {
     let (rest, _) = word(b"ENABLED", i)?;
     spaced_names(alloc, rest)

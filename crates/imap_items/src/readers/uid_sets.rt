@@ -3,6 +3,7 @@
 ghost use Rattle.std.specs.Prelude.{◌≡◌, map, IfOk};
 ghost use Rattle.std.specs.List.{All};
 ghost use Rattle.imap_grammar.specs.Answer.{Answers, Steps, StepsExactly};
+ghost use Rattle.imap_grammar.specs.Memory.{StartsWith, FailsOnlyIf};
 ghost use Rattle.imap_grammar.specs.Rule.{opt};
 ghost use Rattle.imap_bytes.specs.Sets as ranges;
 ghost use Rattle.imap_items.specs.UidSets as sets;
@@ -60,10 +61,11 @@ pub(crate) fn uid_set_member(i: &[u8]) -> IResult<&[u8], UidSetMember>
 /// Ranges of UIDs and UIDs, with commas between (RFC 4315, section 4: uid-set).
 ///
 /// Each range starts not above its end. It ends before a colon or a comma behind which `number` denies. No digit in
-/// front, or a number past 32 bits there, is `Error`. It takes memory for the list.
+/// front, or a number past 32 bits there, is `Error`. It takes memory for the list, and only behind its first number.
 pub fn uid_set(alloc: Global, i: &[u8]) -> IResult<&[u8], Vec<UidSetMember>>
     ensures steps { Steps sets.uid_set (λ x. map member_value x.items) i.now result }
     ensures answer { Answers sets.uid_set (λ x. map member_value x.items) i.now result }
+    ensures memory { FailsOnlyIf (StartsWith sets.uid_set_member i.now) result }
     ensures ordered { IfOk result (λ x. All IsOrdered x.1.items) }
 {
     separated(alloc, Separator::Comma, uid_set_member, i)

@@ -14,7 +14,7 @@ returns-in_err-p-clause-follows g c = stopped_at c.in_err-p.field-0.0 (search ru
 pub returns-in_err-p-2-clause-follows : goal.returns-in_err-p-2-clause-follows
 returns-in_err-p-2-clause-follows g c =
     stopped_at c.in_err-p-2.field-0.0 (search rules)
-    (elim (fault_at _ c.separated.ensures.follows c.in_err-p-2.was) [ inl f ↦ inl (enclosed_fails (blanks0 ⨾ tag ")") (list1_means (meaning sp) (called_at c.args.m.now ((words g.row.O g.row.F g.F.Fn).post c.args.f))) _ _ _ _ c.in_ok-p.ensures.steps f) | inr e ↦ inr e ])
+    (elim (fault_at _ c.separated.ensures.follows c.in_err-p-2.was) [ inl f ↦ inl (enclosed_fails (blanks0 ⨾ tag ")") (list1_means (meaning sp) (called_at c.args.m.now ((words g.row.O g.row.F g.F.Fn).post c.args.f))) _ _ _ _ c.in_ok-p.ensures.steps f) | inr e ↦ inr e.0 ])
 
 pub returns-in_err-p-3-clause-follows : goal.returns-in_err-p-3-clause-follows
 returns-in_err-p-3-clause-follows g c =

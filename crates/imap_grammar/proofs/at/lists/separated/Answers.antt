@@ -1,7 +1,11 @@
-use Rattle.std.proofs.Common.{rules, ◌∙◌, sym, inl, arith}
+use Rattle.std.proofs.Common.{rules, drop, ◌∙◌, refl, sym, inl, inr, arith}
+use Rattle.imap_grammar.specs.declared.answer.Err.TheVariants.{Failure}
 use Rattle.imap_grammar.proofs.Joins.{tried_some, tried_none, tried_fault, begun_more, begun_ends, begun_stops}
 use Rattle.imap_grammar.proofs.PositionJoins.{stopped_at, told_at, fault_at, found_at}
 use Rattle.imap_grammar.proofs.at.lists.separated.Goals as goal
+
+pub returns-in_err-items-clause-follows : goal.returns-in_err-items-clause-follows
+returns-in_err-items-clause-follows g c = stopped_at Failure (search rules) (inr (refl, c.in_ok-q.first, drop c.in_ok-q.q c.args.m.now, (c.args.p, c.in_ok-q.q, refl, c.requires.start, refl, c.in_ok-q.ensures)))
 
 pub returns-in_err-next-clause-follows : goal.returns-in_err-next-clause-follows
 returns-in_err-next-clause-follows g c =

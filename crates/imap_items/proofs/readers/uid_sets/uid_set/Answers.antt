@@ -1,8 +1,10 @@
-use Rattle.std.proofs.Common.{rules, refl}
+use Rattle.std.proofs.Common.{rules, refl, subst}
 use Rattle.imap_grammar.specs.declared.lists.Separator.TheVariants.{Comma}
+use Rattle.imap_grammar.specs.Step.{step}
+use Rattle.imap_grammar.specs.Answer.{Exactly}
 use Rattle.imap_grammar.proofs.Agreement.{answered}
 use Rattle.imap_grammar.proofs.Under.{shorter_ends, exactly_at}
-use Rattle.imap_grammar.proofs.Callers.{separated_read}
+use Rattle.imap_grammar.proofs.Callers.{separated_read, separated_fails}
 use Rattle.imap_items.proofs.Takes.{uid_set_member_takes}
 use Rattle.imap_items.specs.UidSets.{member_value, uid_set, uid_set_member}
 use Rattle.imap_items.proofs.UidSets.{ordered_members}
@@ -20,3 +22,7 @@ returns-clause-answer c = answered _ _ _ _ (returns-clause-steps c)
 
 pub returns-clause-ordered : goal.returns-clause-ordered
 returns-clause-ordered c = ordered_members c.separated.result c.args.i.now (returns-clause-steps c)
+
+pub returns-clause-memory : goal.returns-clause-memory
+returns-clause-memory c =
+    separated_fails Comma member_value uid_set_member _ c.separated.ensures (λ n r h. subst (λ j. Exactly member_value r (step uid_set_member j)) h.shows h.says.met)
