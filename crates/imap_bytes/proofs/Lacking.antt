@@ -1,5 +1,5 @@
 -- What strings lack is all that they lack: only a literal counts its bytes, and it stands last.
-use Rattle.std.proofs.Common.{Option, Some, None, refl}
+use Rattle.std.proofs.Common.{Some, None, refl}
 use Rattle.imap_grammar.specs.Classes.{is_astring_char}
 use Rattle.imap_grammar.specs.Rule.{run1, gives, nothing, ◌▹◌}
 use Rattle.imap_grammar.specs.Stable.{LacksAll}
