@@ -138,6 +138,11 @@ put_owned_entries m h = alike (put_entries empty (map owned_of m.entries)) (owne
     ∙ ap (find (slice_cmp nat_cmp) q) (sym (map-map owned_entry entry_value m.entries)) ∙ find_changed owned_text q (map entry_value m.entries)
     ∙ ap (option_map owned_text) (sym (get-from_entries nat_list_cmp_total (map entry_value m.entries) q)) ∙ sym (get-changed owned_text (id_value m) q))
 
+-- an owned map says the same
+pub owned_id_says : (m : IdValue) → lent_id (owned_id m) ≡ lent_id m
+owned_id_says m = alike (lent_id (owned_id m)) (lent_id m)
+    (λ q. get-lent_id (owned_id m) q ∙ ap (option_map lent_text) (get-changed owned_text m q) ∙ sym (option_twice owned_text lent_text (get m q)) ∙ sym (get-lent_id m q))
+
 pub bytes_said : (x : CowStr Global) → (text_of x).bytes ≡ cow_str_bytes x
 bytes_said (Borrowed s) = refl
 bytes_said (Owned s) = refl

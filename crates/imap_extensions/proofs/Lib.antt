@@ -11,3 +11,4 @@ pub mod OptionalRights
 pub mod Takes
 pub mod IdPairs
 pub mod NoParams
+pub mod Owned

@@ -1,24 +1,25 @@
 //! Laws of the rules and types of this crate, as contracts of functions that do nothing.
 
-ghost use Rattle.std.specs.Prelude.{map, option_map};
+ghost use Rattle.std.specs.Prelude.{◌≡◌, map, option_map};
 ghost use Rattle.imap_grammar.specs.Stable.{Stable};
 ghost use Rattle.imap_grammar.specs.Equality.{Tells, HashesAlike};
 ghost use Rattle.imap_grammar.specs.Text.{lent_text};
 ghost use Rattle.imap_grammar.specs.ReadBack.{SpellsAndReadsBack, Closes, as_is};
 ghost use Rattle.imap_extensions.specs.Quotas as quotas;
-ghost use Rattle.imap_extensions.specs.Quotas.{quota_content, quota_resource_content, quota_resource_name_content, quota_root_content, lent_quota, lent_quota_root};
+ghost use Rattle.imap_extensions.specs.Quotas.{QuotaResourceNameValue, QuotaResourceValue, QuotaValue, QuotaRootValue, quota_content, quota_resource_content, quota_resource_name_content, quota_root_content, lent_quota_resource_name, lent_quota_resource, lent_quota, lent_quota_root};
 ghost use Rattle.imap_extensions.specs.QuotaTexts.{canonical_quota, spells_quota, canonical_quota_root, spells_quota_root};
 ghost use Rattle.imap_extensions.specs.Ids as ids;
-ghost use Rattle.imap_extensions.specs.Ids.{id_content, lent_id};
+ghost use Rattle.imap_extensions.specs.Ids.{IdValue, id_content, lent_id};
 ghost use Rattle.imap_extensions.specs.IdTexts.{canonical_id, spells_id};
 ghost use Rattle.imap_extensions.specs.Vanishings as vanishings;
 ghost use Rattle.imap_extensions.specs.VanishingTexts.{canonical_vanished, spells_vanished};
 ghost use Rattle.imap_extensions.specs.Acls as acls;
-ghost use Rattle.imap_extensions.specs.Acls.{acl_entry_content, acl_content, list_rights_content, my_rights_content, lent_acl, lent_list_rights, lent_my_rights};
+ghost use Rattle.imap_extensions.specs.Acls.{AclEntryValue, AclValue, ListRightsValue, MyRightsValue, acl_entry_content, acl_content, list_rights_content, my_rights_content, lent_acl_entry, lent_acl, lent_list_rights, lent_my_rights};
 ghost use Rattle.imap_extensions.specs.AclTexts.{canonical_acl, spells_acl, canonical_list_rights, spells_list_rights, canonical_my_rights, spells_my_rights};
 ghost use Rattle.imap_extensions.specs.Annotations as annotations;
 ghost use Rattle.imap_extensions.specs.Annotations.{metadata_value};
 ghost use Rattle.imap_extensions.specs.AnnotationTexts.{canonical_metadata, canonical_annotations, canonical_entries, spells_metadata, spells_annotations, spells_entries};
+ghost use Rattle.imap_extensions.specs.Owned.{owned_quota_resource_name, owned_quota_resource, owned_quota, owned_quota_root, owned_id, owned_acl_entry, owned_acl, owned_list_rights, owned_my_rights};
 
 use crate::types::acls::{Acl, AclEntry, ListRights, MyRights};
 use crate::types::annotations::Metadata;
@@ -70,6 +71,24 @@ pub fn hashing()
         quota_resource_content }
     ensures quota { HashesAlike ⟦<Quota<'static> as Hash>⟧.hash_input quota_content }
     ensures quota_root { HashesAlike ⟦<QuotaRoot<'static> as Hash>⟧.hash_input quota_root_content }
+{}
+
+/// An owned value says the same as the value that it was made from.
+#[tactic(auto, using(crate::proofs::Owned::owned_name_says, crate::proofs::Owned::owned_resource_says, crate::proofs::Owned::owned_quota_says, crate::proofs::Owned::owned_quota_root_says, crate::proofs::Ids::owned_id_says, crate::proofs::Owned::owned_acl_says))]
+pub fn owning()
+    ensures quota_resource_name { (n : QuotaResourceNameValue) →
+        lent_quota_resource_name (owned_quota_resource_name n) ≡ lent_quota_resource_name n }
+    ensures quota_resource { (r : QuotaResourceValue) →
+        lent_quota_resource (owned_quota_resource r) ≡ lent_quota_resource r }
+    ensures quota { (q : QuotaValue) → lent_quota (owned_quota q) ≡ lent_quota q }
+    ensures quota_root { (q : QuotaRootValue) →
+        lent_quota_root (owned_quota_root q) ≡ lent_quota_root q }
+    ensures id_map { (m : IdValue) → lent_id (owned_id m) ≡ lent_id m }
+    ensures acl_entry { (e : AclEntryValue) → lent_acl_entry (owned_acl_entry e) ≡ lent_acl_entry e }
+    ensures acl { (a : AclValue) → lent_acl (owned_acl a) ≡ lent_acl a }
+    ensures list_rights { (r : ListRightsValue) →
+        lent_list_rights (owned_list_rights r) ≡ lent_list_rights r }
+    ensures my_rights { (r : MyRightsValue) → lent_my_rights (owned_my_rights r) ≡ lent_my_rights r }
 {}
 
 /// What each rule takes spells the value that it yields. On the canonical text of a value that it yields, the rule

@@ -7,7 +7,7 @@ ghost use Rattle.imap_grammar.specs.Copying.{CopiesFreely};
 ghost use Rattle.imap_items.specs.Statuses as statuses;
 ghost use Rattle.imap_items.specs.Flags as flags;
 ghost use Rattle.imap_items.specs.Capabilities as capabilities;
-ghost use Rattle.imap_items.specs.Capabilities.{capability_content, lent_capability};
+ghost use Rattle.imap_items.specs.Capabilities.{CapabilityValue, capability_content, lent_capability};
 ghost use Rattle.imap_items.specs.UidSets as uid_sets;
 ghost use Rattle.imap_items.specs.UidSets.{member_value};
 ghost use Rattle.imap_items.specs.Mailboxes as mailboxes;
@@ -15,6 +15,7 @@ ghost use Rattle.imap_items.specs.Gmail as gmail;
 ghost use Rattle.imap_items.specs.declared.types.rights.AclRight.{AclRight as Right};
 ghost use Rattle.imap_items.specs.Rights as rights;
 ghost use Rattle.imap_items.specs.Rights.{right_of, letter_of, IsShadowed};
+ghost use Rattle.imap_items.specs.Owned.{owned_capability};
 ghost use Rattle.imap_grammar.specs.Text.{lent_text};
 ghost use Rattle.imap_grammar.specs.ReadBack.{SpellsAndReadsBack, Closes, EndsItem, as_is};
 ghost use Rattle.imap_items.specs.StatusTexts.{canonical_status, spells_status};
@@ -73,6 +74,11 @@ pub fn cloning()
         ⟦<UidSetMember as Clone>⟧.is_clone }
     ensures acl_right { CopiesFreely ⟦<AclRight as Clone>⟧.is_infallible
         ⟦<AclRight as Clone>⟧.is_clone }
+{}
+
+/// An owned value says the same as the value that it was made from.
+pub fn owning()
+    ensures { (c : CapabilityValue) → lent_capability (owned_capability c) ≡ lent_capability c }
 {}
 
 /// A letter's right has that letter, and a right's letter has that right, but for a `Custom` of a letter that has a
