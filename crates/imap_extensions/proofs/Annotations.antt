@@ -1,16 +1,25 @@
--- What `==` tells of annotations; and what stands behind a word, by what `strip_prefix` says.
-use Rattle.std.proofs.Common.{rules, ◌≡◌, ℕ, ◌+◌, List, [], ◌∷◌, length, take, drop, Bool, true, false, ◌&&◌, eqb, Option, Some, None, refl, ap, ◌∙◌}
+-- What `==` tells of annotations; the word before a mailbox; and what stands behind a word, by what `strip_prefix` says.
+use Rattle.std.proofs.Common.{rules, ◌≡◌, Ok, ℕ, ◌+◌, List, [], ◌∷◌, length, take, drop, Bool, true, false, ◌&&◌, eqb, Option, Some, None, refl, ap, ◌∙◌}
 use Rattle.std.specs.Option.{option_map, MatchOption}
 use Rattle.std.specs.Bool.{if◌then◌else◌}
 use Rattle.std.specs.Borrow.{Bor}
 use Rattle.std.specs.Cmp.Lexicographic.{pointwise}
 use Rattle.imap_grammar.specs.Equality.{Tells}
-use Rattle.imap_grammar.specs.Text.{Bytes}
-use Rattle.imap_extensions.specs.Annotations.{metadata_value, behind}
+use Rattle.imap_grammar.specs.Text.{Bytes, Text}
+use Rattle.imap_grammar.specs.Memory.{BeginsWord}
+use Rattle.imap_grammar.specs.Rule.{meaning}
+use Rattle.imap_grammar.specs.Step.{step}
+use Rattle.imap_grammar.proofs.Agreement.{reads}
+use Rattle.imap_extensions.specs.Annotations.{metadata_value, metadata_mailbox, behind}
 use Rattle.imap_extensions.specs.contracts.types.annotations.MetadataPartialEq.TheImpl as metadata_eq
 
 pub metadata_tell : Tells (metadata_eq.eq-value).it metadata_value
 metadata_tell = search rules
+
+-- where the front of METADATA was read, its word stands
+pub begins_metadata : (m rest : Bytes) (v : Text) → step metadata_mailbox m ≡ Ok (rest, v) → BeginsWord "METADATA " m
+unfolding metadata_mailbox meaning
+begins_metadata m rest v is = let y = reads metadata_mailbox m rest v is in (y.0.0, y.1.0, y.1.1.0, y.1.1.1)
 
 -- ---- words in front
 

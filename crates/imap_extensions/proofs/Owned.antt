@@ -8,16 +8,16 @@ use Rattle.imap_extensions.specs.Owned.{owned_quota_resource_name, owned_quota_r
 
 -- ---- lists and options of such values
 
-pub owned_list_says : {V W : Type 0} (lent : V → W) (owned : V → V) → ((v : V) → lent (owned v) ≡ lent v) → (vs : List V) → map lent (map owned vs) ≡ map lent vs
-owned_list_says lent owned says [] = refl
-owned_list_says lent owned says (v ∷ vs) = ap₂ (λ x xs. x ∷ xs) (says v) (owned_list_says lent owned says vs)
+pub list_says : {V W : Type 0} (lent : V → W) (owned : V → V) → ((v : V) → lent (owned v) ≡ lent v) → (vs : List V) → map lent (map owned vs) ≡ map lent vs
+list_says lent owned says [] = refl
+list_says lent owned says (v ∷ vs) = ap₂ (λ x xs. x ∷ xs) (says v) (list_says lent owned says vs)
 
-pub owned_option_says : {V W : Type 0} (lent : V → W) (owned : V → V) → ((v : V) → lent (owned v) ≡ lent v) → (v : Option V) → option_map lent (option_map owned v) ≡ option_map lent v
-owned_option_says lent owned says None = refl
-owned_option_says lent owned says (Some v) = ap (λ x. Some x) (says v)
+pub option_says : {V W : Type 0} (lent : V → W) (owned : V → V) → ((v : V) → lent (owned v) ≡ lent v) → (v : Option V) → option_map lent (option_map owned v) ≡ option_map lent v
+option_says lent owned says None = refl
+option_says lent owned says (Some v) = ap (λ x. Some x) (says v)
 
-pub owned_texts_say : (ts : List Text) → map lent_text (map owned_text ts) ≡ map lent_text ts
-owned_texts_say = owned_list_says lent_text owned_text (λ t. refl)
+pub texts_say : (ts : List Text) → map lent_text (map owned_text ts) ≡ map lent_text ts
+texts_say = list_says lent_text owned_text (λ t. refl)
 
 -- ---- quotas
 
@@ -30,12 +30,12 @@ pub owned_resource_says : (r : QuotaResourceValue) → lent_quota_resource (owne
 owned_resource_says r = rw (owned_name_says r.name) refl
 
 pub owned_quota_says : (q : QuotaValue) → lent_quota (owned_quota q) ≡ lent_quota q
-owned_quota_says q = rw (owned_list_says lent_quota_resource owned_quota_resource owned_resource_says q.resources) refl
+owned_quota_says q = rw (list_says lent_quota_resource owned_quota_resource owned_resource_says q.resources) refl
 
 pub owned_quota_root_says : (q : QuotaRootValue) → lent_quota_root (owned_quota_root q) ≡ lent_quota_root q
-owned_quota_root_says q = rw (owned_texts_say q.quota_root_names) refl
+owned_quota_root_says q = rw (texts_say q.quota_root_names) refl
 
 -- ---- access control lists
 
 pub owned_acl_says : (a : AclValue) → lent_acl (owned_acl a) ≡ lent_acl a
-owned_acl_says a = rw (owned_list_says lent_acl_entry owned_acl_entry (λ e. refl) a.acls) refl
+owned_acl_says a = rw (list_says lent_acl_entry owned_acl_entry (λ e. refl) a.acls) refl

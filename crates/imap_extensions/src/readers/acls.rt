@@ -2,6 +2,7 @@
 
 ghost use Rattle.std.specs.Prelude.{◌≡◌, map, IfOk};
 ghost use Rattle.imap_grammar.specs.Answer.{Answers, Steps};
+ghost use Rattle.imap_grammar.specs.Memory.{BeginsWord, FailsOnlyIf};
 ghost use Rattle.imap_items.specs.Rights as letters;
 ghost use Rattle.imap_extensions.specs.Acls as rules;
 ghost use Rattle.imap_extensions.specs.Acls.{acl_entry_value, acl_value, list_rights_value, my_rights_value};
@@ -15,7 +16,7 @@ use imap_items::readers::mailboxes::mailbox;
 use imap_items::readers::rights::rights;
 use std::alloc::{AllocError, Global};
 
-/// An identifier and its rights.
+// An identifier and its rights.
 #[tactic(auto, unfolding(crate::specs::Acls::acl_entry))]
 pub(crate) fn acl_entry(alloc: Global, i: &[u8]) -> IResult<&[u8], AclEntry<'_>>
     ensures { Steps rules.acl_entry acl_entry_value i.now result }
@@ -37,12 +38,13 @@ fn acl_entries(alloc: Global, i: &[u8]) -> IResult<&[u8], Vec<AclEntry<'_>>>
 
 /// `ACL`, a mailbox, and the rights of each identifier on it, maybe of none (RFC 4314, section 7: acl-data).
 ///
-/// Any other word, or no mailbox behind it, is `Error`; the entries end before one that is denied. It takes memory for
-/// them, and for texts that are not UTF-8.
+/// Any other word, or no mailbox behind it, is `Error`; the entries end before one that is denied. It takes memory only
+/// behind `ACL`, for them, and for texts that are not UTF-8.
 #[tactic(auto, using(imap_grammar::proofs::Agreement::answered), unfolding(crate::specs::Acls::acl))]
 pub fn acl(alloc: Global, i: &[u8]) -> IResult<&[u8], Acl<'_>>
     ensures steps { Steps rules.acl acl_value i.now result }
     ensures answer { Answers rules.acl acl_value i.now result }
+    ensures memory { FailsOnlyIf (BeginsWord "ACL" i.now) result }
 {
     let (rest, _) = word(b"ACL", i)?;
     let (rest, _) = blanks1(rest)?;
@@ -82,7 +84,8 @@ fn optional_rights(alloc: Global, i: &[u8]) -> IResult<&[u8], Vec<AclRight>>
 
 #[tactic(auto, unfolding(crate::specs::Acls::list_rights))]
 fn list_rights_parts(alloc: Global, i: &[u8]) -> IResult<&[u8], ListRights<'_>>
-    ensures { Steps rules.list_rights list_rights_value i.now result }
+    ensures steps { Steps rules.list_rights list_rights_value i.now result }
+    ensures memory { FailsOnlyIf (BeginsWord "LISTRIGHTS" i.now) result }
 {
     let (rest, _) = word(b"LISTRIGHTS", i)?;
     let (rest, _) = blanks1(rest)?;
@@ -106,18 +109,21 @@ fn list_rights_parts(alloc: Global, i: &[u8]) -> IResult<&[u8], ListRights<'_>>
 /// `LISTRIGHTS`, a mailbox, an identifier, the rights that it always has there, and those that it may be granted, in
 /// order (RFC 4314, section 7: listrights-data).
 ///
-/// Any other word, or a part that is missing, is `Error`. It takes memory for them, and for texts that are not UTF-8.
+/// Any other word, or a part that is missing, is `Error`. It takes memory only behind `LISTRIGHTS`, for them, and for
+/// texts that are not UTF-8.
 #[tactic(auto, using(imap_grammar::proofs::Agreement::answered))]
 pub fn list_rights(alloc: Global, i: &[u8]) -> IResult<&[u8], ListRights<'_>>
     ensures steps { Steps rules.list_rights list_rights_value i.now result }
     ensures answer { Answers rules.list_rights list_rights_value i.now result }
+    ensures memory { FailsOnlyIf (BeginsWord "LISTRIGHTS" i.now) result }
 {
     list_rights_parts(alloc, i)
 }
 
 #[tactic(auto, unfolding(crate::specs::Acls::my_rights))]
 fn my_rights_parts(alloc: Global, i: &[u8]) -> IResult<&[u8], MyRights<'_>>
-    ensures { Steps rules.my_rights my_rights_value i.now result }
+    ensures steps { Steps rules.my_rights my_rights_value i.now result }
+    ensures memory { FailsOnlyIf (BeginsWord "MYRIGHTS" i.now) result }
 {
     let (rest, _) = word(b"MYRIGHTS", i)?;
     let (rest, _) = blanks1(rest)?;
@@ -129,11 +135,13 @@ fn my_rights_parts(alloc: Global, i: &[u8]) -> IResult<&[u8], MyRights<'_>>
 
 /// `MYRIGHTS`, a mailbox, and the client's own rights on it (RFC 4314, section 7: myrights-data).
 ///
-/// Any other word, or a part that is missing, is `Error`. It takes memory for them, and for texts that are not UTF-8.
+/// Any other word, or a part that is missing, is `Error`. It takes memory only behind `MYRIGHTS`, for them, and for
+/// texts that are not UTF-8.
 #[tactic(auto, using(imap_grammar::proofs::Agreement::answered))]
 pub fn my_rights(alloc: Global, i: &[u8]) -> IResult<&[u8], MyRights<'_>>
     ensures steps { Steps rules.my_rights my_rights_value i.now result }
     ensures answer { Answers rules.my_rights my_rights_value i.now result }
+    ensures memory { FailsOnlyIf (BeginsWord "MYRIGHTS" i.now) result }
 {
     my_rights_parts(alloc, i)
 }

@@ -4,6 +4,7 @@ ghost use Rattle.std.specs.Prelude.{◌≡◌, map, option_map, IfOk};
 ghost use Rattle.std.specs.List.{list_all};
 ghost use Rattle.std.specs.String.{string_bytes};
 ghost use Rattle.imap_grammar.specs.Answer.{Answers, Steps, StepsExactly};
+ghost use Rattle.imap_grammar.specs.Memory.{BeginsWord, FailsOnlyIf};
 ghost use Rattle.imap_grammar.specs.Text.{text_of};
 ghost use Rattle.imap_extensions.specs.Annotations as rules;
 ghost use Rattle.imap_extensions.specs.Annotations.{metadata_value};
@@ -172,7 +173,8 @@ fn annotation(alloc: Global, i: &[u8]) -> IResult<&[u8], Metadata>
 
 #[tactic(auto, unfolding(crate::specs::Annotations::metadata_mailbox))]
 fn metadata_mailbox_parts(alloc: Global, i: &[u8]) -> IResult<&[u8], CowStr<'_>>
-    ensures { Steps rules.metadata_mailbox text_of i.now result }
+    ensures steps { Steps rules.metadata_mailbox text_of i.now result }
+    ensures memory { FailsOnlyIf (BeginsWord "METADATA " i.now) result }
 {
     let (rest, _) = word(b"METADATA ", i)?;
     let (rest, mailbox) = quoted_utf8(alloc, rest)?;
@@ -183,12 +185,13 @@ fn metadata_mailbox_parts(alloc: Global, i: &[u8]) -> IResult<&[u8], CowStr<'_>>
 /// `METADATA`, the mailbox in quotes, empty for the server, and a space: what stands before annotations or entries
 /// (RFC 5464, section 5: metadata-resp).
 ///
-/// Any other word, a mailbox without quotes, or no space behind it, is `Error`. It takes memory only where the mailbox
-/// is not UTF-8.
+/// Any other word, a mailbox without quotes, or no space behind it, is `Error`. It takes memory only behind `METADATA`,
+/// where the mailbox is not UTF-8.
 #[tactic(auto, using(imap_grammar::proofs::Agreement::answered))]
 pub fn metadata_mailbox(alloc: Global, i: &[u8]) -> IResult<&[u8], CowStr<'_>>
     ensures steps { Steps rules.metadata_mailbox text_of i.now result }
     ensures answer { Answers rules.metadata_mailbox text_of i.now result }
+    ensures memory { FailsOnlyIf (BeginsWord "METADATA " i.now) result }
 {
     metadata_mailbox_parts(alloc, i)
 }

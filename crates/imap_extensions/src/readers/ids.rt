@@ -30,7 +30,7 @@ fn id_pair(alloc: Global, i: &[u8]) -> IResult<&[u8], IdPair<'_>>
     Ok((rest, (key, value)))
 }
 
-// A pair behind blanks, if there is one.
+// A pair behind blanks.
 #[tactic(auto, unfolding(crate::specs::Ids::next_pair))]
 fn next_pair(alloc: Global, i: &[u8]) -> IResult<&[u8], IdPair<'_>>
     ensures { Steps ids.next_pair pair_value i.now result }
@@ -39,6 +39,7 @@ fn next_pair(alloc: Global, i: &[u8]) -> IResult<&[u8], IdPair<'_>>
     id_pair(alloc, rest)
 }
 
+// A pair behind blanks, if there is one.
 fn maybe_next_pair(alloc: Global, i: &[u8]) -> IResult<&[u8], Option<IdPair<'_>>>
     ensures { Steps (opt ids.next_pair) (option_map pair_value) i.now result }
 {
@@ -114,13 +115,14 @@ fn id_params(alloc: Global, i: &[u8]) -> IResult<&[u8], Option<IdMap<'_>>>
 /// `ID`, and fields with their values, or `NIL` (RFC 2971, section 4: id_response).
 ///
 /// A field whose value is `NIL` is left out, and of equal fields the last counts. `NIL` in place of the list is `None`.
-/// Any other word, and behind it neither fields in parentheses nor `NIL`, is `Error`. It takes memory for the map, and
-/// for texts that are not UTF-8; for `NIL` none.
+/// Any other word, and behind it neither fields in parentheses nor `NIL`, is `Error`. It takes memory only behind `ID`,
+/// for the map, and for texts that are not UTF-8; for `NIL` none.
 #[tactic(auto, using(imap_grammar::proofs::Agreement::answered), unfolding(crate::specs::Ids::id))]
 pub fn id(alloc: Global, i: &[u8]) -> IResult<&[u8], Option<IdMap<'_>>>
     ensures steps { Steps ids.id (option_map id_value) i.now result }
     ensures answer { Answers ids.id (option_map id_value) i.now result }
     ensures memory { SucceedsFor ids.IsNil ids.id i.now result }
+    ensures worded { FailsOnlyIf (BeginsWord "ID" i.now) result }
 {
     let (rest, _) = word(b"ID", i)?;
     let (rest, _) = blanks1(rest)?;

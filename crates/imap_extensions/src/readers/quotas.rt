@@ -2,6 +2,7 @@
 
 ghost use Rattle.std.specs.Prelude.{map};
 ghost use Rattle.imap_grammar.specs.Answer.{Answers, Steps};
+ghost use Rattle.imap_grammar.specs.Memory.{BeginsWord, FailsOnlyIf};
 ghost use Rattle.imap_grammar.specs.Text.{text_of};
 ghost use Rattle.imap_extensions.specs.Quotas as quotas;
 ghost use Rattle.imap_extensions.specs.Quotas.{quota_resource_name_value, quota_resource_value, quota_value, quota_root_value};
@@ -56,7 +57,8 @@ fn quota_list(alloc: Global, i: &[u8]) -> IResult<&[u8], Vec<QuotaResource<'_>>>
 
 #[tactic(auto, unfolding(crate::specs::Quotas::quota))]
 fn quota_parts(alloc: Global, i: &[u8]) -> IResult<&[u8], Quota<'_>>
-    ensures { Steps quotas.quota quota_value i.now result }
+    ensures steps { Steps quotas.quota quota_value i.now result }
+    ensures memory { FailsOnlyIf (BeginsWord "QUOTA" i.now) result }
 {
     let (rest, _) = word(b"QUOTA", i)?;
     let (rest, _) = blanks1(rest)?;
@@ -74,11 +76,13 @@ fn quota_parts(alloc: Global, i: &[u8]) -> IResult<&[u8], Quota<'_>>
 
 /// `QUOTA`, a quota root, and its resources, maybe none (RFC 2087, section 6: quota_response).
 ///
-/// A usage or limit past 64 bits is `Error`. It takes memory for the resources, and for texts that are not UTF-8.
+/// Any other word, a part that is missing, or a usage or limit past 64 bits, is `Error`. It takes memory only behind
+/// `QUOTA`, for the resources, and for texts that are not UTF-8.
 #[tactic(auto, using(imap_grammar::proofs::Agreement::answered))]
 pub fn quota(alloc: Global, i: &[u8]) -> IResult<&[u8], Quota<'_>>
     ensures steps { Steps quotas.quota quota_value i.now result }
     ensures answer { Answers quotas.quota quota_value i.now result }
+    ensures memory { FailsOnlyIf (BeginsWord "QUOTA" i.now) result }
 {
     quota_parts(alloc, i)
 }
@@ -102,7 +106,8 @@ fn quota_root_names(alloc: Global, i: &[u8]) -> IResult<&[u8], Vec<CowStr<'_>>>
 
 #[tactic(auto, unfolding(crate::specs::Quotas::quota_root))]
 fn quota_root_parts(alloc: Global, i: &[u8]) -> IResult<&[u8], QuotaRoot<'_>>
-    ensures { Steps quotas.quota_root quota_root_value i.now result }
+    ensures steps { Steps quotas.quota_root quota_root_value i.now result }
+    ensures memory { FailsOnlyIf (BeginsWord "QUOTAROOT" i.now) result }
 {
     let (rest, _) = word(b"QUOTAROOT", i)?;
     let (rest, _) = blanks1(rest)?;
@@ -119,12 +124,13 @@ fn quota_root_parts(alloc: Global, i: &[u8]) -> IResult<&[u8], QuotaRoot<'_>>
 
 /// `QUOTAROOT`, a mailbox, and its quota roots, maybe none (RFC 2087, section 6: quotaroot_response).
 ///
-/// Any other word, or no mailbox behind it, is `Error`; the roots end before one that is denied. It takes memory for
-/// the roots, and for texts that are not UTF-8.
+/// Any other word, or no mailbox behind it, is `Error`; the roots end before one that is denied. It takes memory only
+/// behind `QUOTAROOT`, for the roots, and for texts that are not UTF-8.
 #[tactic(auto, using(imap_grammar::proofs::Agreement::answered))]
 pub fn quota_root(alloc: Global, i: &[u8]) -> IResult<&[u8], QuotaRoot<'_>>
     ensures steps { Steps quotas.quota_root quota_root_value i.now result }
     ensures answer { Answers quotas.quota_root quota_root_value i.now result }
+    ensures memory { FailsOnlyIf (BeginsWord "QUOTAROOT" i.now) result }
 {
     quota_root_parts(alloc, i)
 }

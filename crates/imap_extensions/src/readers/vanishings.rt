@@ -1,6 +1,7 @@
 //! Messages that are gone.
 
 ghost use Rattle.imap_grammar.specs.Answer.{Answers, Steps, StepsExactly};
+ghost use Rattle.imap_grammar.specs.Memory.{BeginsWord, FailsOnlyIf};
 ghost use Rattle.imap_extensions.specs.Vanishings as vanishings;
 ghost use Rattle.imap_extensions.specs.Vanishings.{vanished_value};
 
@@ -27,7 +28,8 @@ fn earlier(i: &[u8]) -> IResult<&[u8], bool>
 
 #[tactic(auto, unfolding(crate::specs::Vanishings::vanished))]
 fn vanished_parts(alloc: Global, i: &[u8]) -> IResult<&[u8], (bool, Vec<RangeInclusive<u32>>)>
-    ensures { Steps vanishings.vanished vanished_value i.now result }
+    ensures steps { Steps vanishings.vanished vanished_value i.now result }
+    ensures memory { FailsOnlyIf (BeginsWord "VANISHED" i.now) result }
 {
     let (rest, _) = word(b"VANISHED", i)?;
     let (rest, earlier) = earlier(rest)?;
@@ -39,12 +41,13 @@ fn vanished_parts(alloc: Global, i: &[u8]) -> IResult<&[u8], (bool, Vec<RangeInc
 /// `VANISHED`, maybe `(EARLIER)`, and the unique identifiers of messages that are gone
 /// (RFC 7162, section 7: expunged-resp).
 ///
-/// It gives whether `(EARLIER)` stands there, and the ranges as they are written. A number past 32 bits in front is
-/// `Error`. It takes memory for the ranges.
+/// It gives whether `(EARLIER)` stands there, and the ranges as they are written. Any other word, or no number below
+/// 2^32 behind it, is `Error`. It takes memory only behind `VANISHED`, for the ranges.
 #[tactic(auto, using(imap_grammar::proofs::Agreement::answered))]
 pub fn vanished(alloc: Global, i: &[u8]) -> IResult<&[u8], (bool, Vec<RangeInclusive<u32>>)>
     ensures steps { Steps vanishings.vanished vanished_value i.now result }
     ensures answer { Answers vanishings.vanished vanished_value i.now result }
+    ensures memory { FailsOnlyIf (BeginsWord "VANISHED" i.now) result }
 {
     vanished_parts(alloc, i)
 }

@@ -1,7 +1,14 @@
 use Rattle.std.proofs.Common.{refl}
 use Rattle.imap_grammar.proofs.Agreement.{answered}
+use Rattle.imap_grammar.proofs.Memory.{holds_already, begins_word}
 use Rattle.imap_extensions.specs.Acls.{acl}
 use Rattle.imap_extensions.proofs.readers.acls.acl.Goals as goal
+
+pub returns-in_err-rest-3-clause-memory : goal.returns-in_err-rest-3-clause-memory
+returns-in_err-rest-3-clause-memory c = holds_already _ c.from_residual-in_err-rest-3.result (begins_word "ACL" _ _ _ c.in_ok-rest.ensures.steps)
+
+pub returns-in_err-rest-5-clause-memory : goal.returns-in_err-rest-5-clause-memory
+returns-in_err-rest-5-clause-memory c = holds_already _ c.from_residual-in_err-rest-5.result (begins_word "ACL" _ _ _ c.in_ok-rest.ensures.steps)
 
 pub returns-clause-steps : goal.returns-clause-steps
 unfolding acl

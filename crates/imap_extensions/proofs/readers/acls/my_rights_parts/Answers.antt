@@ -1,8 +1,15 @@
 use Rattle.std.proofs.Common.{refl}
+use Rattle.imap_grammar.proofs.Memory.{holds_already, begins_word}
 use Rattle.imap_extensions.specs.Acls.{my_rights}
 use Rattle.imap_extensions.proofs.readers.acls.my_rights_parts.Goals as goal
 
-pub returns : goal.returns
+pub returns-in_err-rest-3-clause-memory : goal.returns-in_err-rest-3-clause-memory
+returns-in_err-rest-3-clause-memory c = holds_already _ c.from_residual-in_err-rest-3.result (begins_word "MYRIGHTS" _ _ _ c.in_ok-rest.ensures.steps)
+
+pub returns-in_err-rest-5-clause-memory : goal.returns-in_err-rest-5-clause-memory
+returns-in_err-rest-5-clause-memory c = holds_already _ c.from_residual-in_err-rest-5.result (begins_word "MYRIGHTS" _ _ _ c.in_ok-rest.ensures.steps)
+
+pub returns-clause-steps : goal.returns-clause-steps
 unfolding my_rights
-returns c =
+returns-clause-steps c =
     rw (c.in_ok-rest.ensures.steps, c.in_ok-rest-2.ensures.steps, c.in_ok-rest-3.ensures.steps, c.in_ok-rest-4.ensures.steps, c.in_ok-rest-5.ensures.steps) refl

@@ -1,16 +1,20 @@
 use Rattle.std.proofs.Common.{refl}
 use Rattle.std.proofs.lemmas.Result.{err_from_is_err_and}
 use Rattle.imap_grammar.proofs.Agreement.{stops}
+use Rattle.imap_grammar.proofs.Memory.{holds_already, begins_word}
 use Rattle.imap_extensions.specs.Annotations.{metadata_mailbox}
 use Rattle.imap_extensions.proofs.readers.annotations.metadata_mailbox_parts.Goals as goal
 
-pub returns-in_err-rest-3 : goal.returns-in_err-rest-3
+pub returns-in_err-rest-2-clause-memory : goal.returns-in_err-rest-2-clause-memory
+returns-in_err-rest-2-clause-memory c = holds_already _ c.from_residual-in_err-rest-2.result (begins_word "METADATA " _ _ _ c.in_ok-rest.ensures.steps)
+
+pub returns-in_err-rest-3-clause-steps : goal.returns-in_err-rest-3-clause-steps
 unfolding metadata_mailbox
-returns-in_err-rest-3 c =
+returns-in_err-rest-3-clause-steps c =
     let r = err_from_is_err_and c.from_residual-in_err-rest-3.result c.from_residual-in_err-rest-3.ensures.1 in
     rw (r.1, r.2) (stops _ _ (rw (c.in_ok-rest.ensures.steps, c.in_ok-rest-2.ensures.steps, c.in_err-rest-3.ensures.steps) refl))
 
-pub returns : goal.returns
+pub returns-clause-steps : goal.returns-clause-steps
 unfolding metadata_mailbox
-returns c =
+returns-clause-steps c =
     rw (c.in_ok-rest.ensures.steps, c.in_ok-rest-2.ensures.steps, c.in_ok-rest-3.ensures.steps) refl
