@@ -1,4 +1,5 @@
--- Access control lists (RFC 4314, section 7: acl-data, listrights-data, myrights-data).
+-- Access control lists (RFC 4314, section 7: acl-data, listrights-data, myrights-data), with any blanks between the
+-- parts.
 use Rattle.std.specs.Prelude.{List, map}
 use Rattle.std.specs.List.{flat_map}
 use Rattle.imap_grammar.specs.declared.lists.Separator.TheVariants.{Blanks}
@@ -49,6 +50,7 @@ acl_entries = list0 (separator Blanks) acl_entry
 abbrev pub acl_of : Text × List AclEntryValue → AclValue
 acl_of (mailbox, acls) = record { mailbox = mailbox; acls = acls }
 
+-- acl-data = "ACL" SP mailbox *(SP identifier SP rights), where no blank need stand behind the mailbox
 unfoldable pub acl : Rule AclValue
 acl = gives acl_of (word "ACL" ▹ blanks1 ▹ mailbox ⨾ blanks0 ▹ acl_entries)
 
@@ -71,6 +73,7 @@ list_rights_of (mailbox, (identifier, (required, optional))) =
       optional = optional;
     }
 
+-- listrights-data = "LISTRIGHTS" SP mailbox SP identifier SP rights *(SP rights)
 unfoldable pub list_rights : Rule ListRightsValue
 list_rights =
     gives list_rights_of
@@ -82,6 +85,7 @@ list_rights =
 abbrev pub my_rights_of : Text × List AclRight → MyRightsValue
 my_rights_of (mailbox, rights) = record { mailbox = mailbox; rights = rights }
 
+-- myrights-data = "MYRIGHTS" SP mailbox SP rights
 unfoldable pub my_rights : Rule MyRightsValue
 my_rights = gives my_rights_of (word "MYRIGHTS" ▹ blanks1 ▹ mailbox ⨾ blanks1 ▹ rights)
 

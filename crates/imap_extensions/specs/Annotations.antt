@@ -86,6 +86,7 @@ is_entry_name m = is_private m || is_admin m || is_shared m
 
 -- ---- rules
 
+-- entry = astring, where the bytes are an entry's name
 unfoldable pub entry : Rule Bytes
 entry = test is_entry_name astring
 
@@ -98,18 +99,18 @@ bytes_in t = t.bytes
 abbrev pub annotation_of : Text × Option Text → MetadataValue
 annotation_of (entry, value) = record { entry = entry.bytes; value = option_map bytes_in value }
 
--- an entry with its value
+-- entry-value = entry SP value, where the value is an nstring
 unfoldable pub annotation : Rule MetadataValue
 annotation = gives annotation_of (entry_utf8 ⨾ sp ▹ nstring_utf8)
 
--- the mailbox that it is about
+-- "METADATA" SP mailbox SP, the front of metadata-resp, where the mailbox stands in quotes
 unfoldable pub metadata_mailbox : Rule Text
 metadata_mailbox = word "METADATA " ▹ quoted_utf8 ◃ sp
 
--- entries with their values, at least one
+-- entry-values = "(" entry-value *(SP entry-value) ")"
 unfoldable pub annotations : Rule (List MetadataValue)
 annotations = nonempty_list_of annotation
 
--- entries alone, maybe none
+-- entry-list = entry *(SP entry), or none
 unfoldable pub entries : Rule (List Text)
 entries = list0 (separator Space) entry_utf8

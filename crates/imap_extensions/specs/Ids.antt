@@ -89,8 +89,10 @@ params_of ps = Some (map_of_pairs ps)
 abbrev pub some_params : Rule (Option IdValue)
 some_params = gives params_of id_list
 
+-- id_params_list = "(" #(string SPACE nstring) ")" / nil, where `#` is one or more
 unfoldable pub id_params : Rule (Option IdValue)
 id_params = some_params or nil ▹ nothing None
 
+-- id_response = "ID" SPACE id_params_list
 unfoldable pub id : Rule (Option IdValue)
 id = word "ID" ▹ blanks1 ▹ id_params

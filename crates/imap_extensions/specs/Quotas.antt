@@ -115,19 +115,21 @@ quota_resource_name = names "STORAGE" Storage or names "MESSAGE" Message or give
 abbrev pub resource_of : QuotaResourceNameValue × (ℕ × ℕ) → QuotaResourceValue
 resource_of (name, (usage, limit)) = record { name = name; usage = usage; limit = limit }
 
--- a name, its usage, its limit
+-- quota_resource = atom SP number SP number, where the name may be any astring
 unfoldable pub quota_resource : Rule QuotaResourceValue
 quota_resource = gives resource_of (quota_resource_name ⨾ blanks1 ▹ number_64 ⨾ blanks1 ▹ number_64)
 
 unfoldable pub quota_resources : Rule (List QuotaResourceValue)
 quota_resources = list0 blanks1 quota_resource
 
+-- quota_list = "(" #quota_resource ")", where `#` is any number of them with SP between
 unfoldable pub quota_list : Rule (List QuotaResourceValue)
 quota_list = tag "(" ▹ quota_resources ◃ tag ")"
 
 abbrev pub quota_of : Text × List QuotaResourceValue → QuotaValue
 quota_of (root_name, resources) = record { root_name = root_name; resources = resources }
 
+-- quota_response = "QUOTA" SP astring SP quota_list
 unfoldable pub quota : Rule QuotaValue
 quota = gives quota_of (word "QUOTA" ▹ blanks1 ▹ astring_utf8 ⨾ blanks1 ▹ quota_list)
 
@@ -144,5 +146,6 @@ quota_root_of (mailbox_name, names) =
       quota_root_names = names;
     }
 
+-- quotaroot_response = "QUOTAROOT" SP astring *(SP astring)
 unfoldable pub quota_root : Rule QuotaRootValue
 quota_root = gives quota_root_of (word "QUOTAROOT" ▹ blanks1 ▹ astring_utf8 ⨾ quota_root_names)

@@ -14,6 +14,7 @@ earlier_word = blanks1 ▹ names "(EARLIER)" true
 unfoldable pub earlier : Rule Bool
 earlier = otherwise earlier_word false
 
+-- expunged-resp = "VANISHED" [SP "(EARLIER)"] SP known-uids, with any blanks as SP
 unfoldable pub vanished : Rule (Bool × List Range)
 vanished = word "VANISHED" ▹ earlier ⨾ blanks1 ▹ sequence_set
 
