@@ -10,3 +10,4 @@ mod SecondBytes
 pub mod Takes
 pub mod ListCodes
 pub mod NumberData
+pub mod Owned

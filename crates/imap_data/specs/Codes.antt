@@ -101,6 +101,7 @@ charset_list = nonempty_list_of charset
 unfoldable pub charsets : Rule (List Text)
 charsets = sp ▹ charset_list
 
+-- "BADCHARSET" [SP "(" astring *(SP astring) ")"]
 unfoldable pub bad_charset : Rule CodeValue
 bad_charset = gives BadCharset (word "BADCHARSET" ▹ opt charsets)
 
@@ -112,15 +113,18 @@ append_uid_of (validity, uids) = AppendUid validity uids
 abbrev pub copy_uid_of : ℕ × (List MemberValue × List MemberValue) → CodeValue
 copy_uid_of (validity, (source, destination)) = CopyUid validity source destination
 
+-- resp-code-apnd = "APPENDUID" SP nz-number SP append-uid, where a uid-set stands as append-uid
 unfoldable pub append_uid : Rule CodeValue
 append_uid = gives append_uid_of (word "APPENDUID " ▹ number ⨾ sp ▹ uid_set)
 
+-- resp-code-copy = "COPYUID" SP nz-number SP uid-set SP uid-set
 unfoldable pub copy_uid : Rule CodeValue
 copy_uid = gives copy_uid_of (word "COPYUID " ▹ number ⨾ sp ▹ uid_set ⨾ sp ▹ uid_set)
 
 unfoldable pub capabilities : Rule CodeValue
 capabilities = gives Capabilities capability_data
 
+-- "PERMANENTFLAGS" SP "(" [flag-perm *(SP flag-perm)] ")"
 unfoldable pub permanent_flags : Rule CodeValue
 permanent_flags = gives PermanentFlags (word "PERMANENTFLAGS " ▹ flag_list)
 
@@ -148,7 +152,9 @@ too_many = names "METADATA TOOMANY" MetadataTooMany
 unfoldable pub no_private : Rule CodeValue
 no_private = names "METADATA NOPRIVATE" MetadataNoPrivate
 
--- RFC 3501
+-- RFC 3501: resp-text-code = "ALERT" / "BADCHARSET" [SP "(" astring *(SP astring) ")"] / capability-data / "PARSE" /
+-- "PERMANENTFLAGS" SP "(" [flag-perm *(SP flag-perm)] ")" / "READ-ONLY" / "READ-WRITE" / "TRYCREATE" / "UIDNEXT" SP
+-- nz-number / "UIDVALIDITY" SP nz-number / "UNSEEN" SP nz-number, where zero is read, too
 unfoldable pub basic_code : Rule CodeValue
 basic_code =
     names "ALERT" Alert
@@ -163,14 +169,17 @@ basic_code =
     or names "READ-WRITE" ReadWrite
     or names "TRYCREATE" TryCreate
 
--- RFC 4551 and RFC 4315
+-- RFC 4551: resp-text-code =/ "HIGHESTMODSEQ" SP mod-sequence-value; RFC 4315: resp-text-code =/ resp-code-apnd /
+-- resp-code-copy / "UIDNOTSTICKY"
 unfoldable pub uid_code : Rule CodeValue
 uid_code = highest_mod_seq or append_uid or copy_uid or names "UIDNOTSTICKY" UidNotSticky
 
--- RFC 5464
+-- RFC 5464: resp-text-code =/ "METADATA" SP "LONGENTRIES" SP number / "METADATA" SP ("MAXSIZE" SP number / "TOOMANY" /
+-- "NOPRIVATE")
 unfoldable pub metadata_code : Rule CodeValue
 metadata_code = long_entries or max_size or too_many or no_private
 
+-- any other code is denied
 unfoldable pub any_code : Rule CodeValue
 any_code = basic_code or uid_code or metadata_code
 
@@ -194,5 +203,6 @@ code_of_r = names "READ-ONLY" ReadOnly or names "READ-WRITE" ReadWrite
 unfoldable pub code_of_t : Rule CodeValue
 code_of_t = names "TRYCREATE" TryCreate
 
+-- "[" resp-text-code "]"
 unfoldable pub response_code : Rule CodeValue
 response_code = tag "[" ▹ any_code ◃ tag "]"

@@ -26,6 +26,8 @@ uid_validity = gives UidValidity (word "UIDVALIDITY " ▹ number)
 unfoldable pub unseen : Rule StatusAttribute
 unseen = gives Unseen (word "UNSEEN " ▹ number)
 
+-- status-att SP number, where status-att = "MESSAGES" / "RECENT" / "UIDNEXT" / "UIDVALIDITY" / "UNSEEN"; or
+-- status-att-val =/ "HIGHESTMODSEQ" SP mod-sequence-valzer
 unfoldable pub status_item : Rule StatusAttribute
 status_item = highest_mod_seq or messages or recent or uid_next or uid_validity or unseen
 
@@ -33,12 +35,13 @@ status_item = highest_mod_seq or messages or recent or uid_next or uid_validity 
 unfoldable pub item_of_u : Rule StatusAttribute
 item_of_u = uid_next or uid_validity or unseen
 
+-- "(" [status-att-list] ")", where status-att-list = status-att SP number *(SP status-att SP number)
 unfoldable pub status_items : Rule (List StatusAttribute)
 status_items = list_of status_item
 
 unfoldable pub found_number : Rule ℕ
 found_number = sp ▹ number
 
--- numbers, each behind a space, maybe none; some servers end them by a space
+-- *(SP nz-number), where zero is read, too, and a space may stand at the end, as some servers write it
 unfoldable pub found_numbers : Rule (List ℕ)
 found_numbers = many found_number ◃ maybe_space

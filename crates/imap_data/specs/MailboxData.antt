@@ -48,6 +48,9 @@ thrid = gives GmailThrId gmail_thrid
 unfoldable pub sort : Rule DatumValue
 sort = gives Sort (word "SORT" ▹ found_numbers)
 
+-- mailbox-data = "FLAGS" SP flag-list / "LIST" SP mailbox-list / "LSUB" SP mailbox-list / "SEARCH" *(SP nz-number) /
+-- "STATUS" SP mailbox SP "(" [status-att-list] ")" / number SP "EXISTS" / number SP "RECENT";
+-- sort-data = "SORT" *(SP nz-number); and Gmail's items
 unfoldable pub mailbox_datum : Rule DatumValue
 mailbox_datum =
     flags
@@ -67,6 +70,7 @@ mailbox_datum =
 unfoldable pub datum_of_number : Rule DatumValue
 datum_of_number = exists or recent
 
+-- "LIST" SP mailbox-list / "LSUB" SP mailbox-list
 unfoldable pub list_or_lsub : Rule DatumValue
 list_or_lsub = list or lsub
 

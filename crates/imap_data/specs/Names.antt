@@ -81,7 +81,9 @@ IsLentAttribute other = Unit {0}
 abbrev pub extension_of : Bytes → NameAttributeValue
 extension_of bytes = Extension (as_text bytes)
 
--- a word is taken by its prefix: what stands behind it is left
+-- mbx-list-oflag = "\Noinferiors" / flag-extension; mbx-list-sflag = "\Noselect" / "\Marked" / "\Unmarked";
+-- use-attr = "\All" / "\Archive" / "\Drafts" / "\Flagged" / "\Junk" / "\Sent" / "\Trash" / use-attr-ext. A word is
+-- taken by its prefix: what stands behind it is left.
 unfoldable pub name_attribute : Rule NameAttributeValue
 name_attribute =
     names "\\Noinferiors" NoInferiors
@@ -115,5 +117,7 @@ list_of_parts (attributes, (delimiter, name)) =
       name = name;
     }
 
+-- mailbox-list = "(" [mbx-list-flags] ")" SP (DQUOTE QUOTED-CHAR DQUOTE / nil) SP mailbox, where any text may stand in
+-- the quotes
 unfoldable pub list_data : Rule ListValue
 list_data = gives list_of_parts (name_attributes ⨾ sp ▹ delimiter ⨾ sp ▹ mailbox)

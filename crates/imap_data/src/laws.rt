@@ -16,7 +16,7 @@ ghost use Rattle.imap_data.specs.Names as names;
 ghost use Rattle.imap_data.specs.Counts as counts;
 ghost use Rattle.imap_items.specs.Gmail as gmail;
 ghost use Rattle.imap_data.specs.MailboxData as mailbox_data;
-ghost use Rattle.imap_data.specs.Names.{attribute_content, list_content};
+ghost use Rattle.imap_data.specs.Names.{NameAttributeValue, ListValue, attribute_content, list_content, lent_attribute, lent_list};
 ghost use Rattle.imap_data.specs.DatumValues.{datum_content};
 ghost use Rattle.imap_extensions.specs.Annotations as annotations;
 ghost use Rattle.imap_extensions.specs.Annotations.{metadata_value};
@@ -29,7 +29,7 @@ ghost use Rattle.imap_items.specs.Rights as rights;
 ghost use Rattle.imap_extensions.specs.Acls as acls;
 ghost use Rattle.imap_extensions.specs.Acls.{acl_entry_content, acl_content, list_rights_content, my_rights_content};
 ghost use Rattle.imap_data.specs.Annotations as metadata;
-ghost use Rattle.std.specs.Prelude.{map, option_map};
+ghost use Rattle.std.specs.Prelude.{◌≡◌, map, option_map};
 ghost use Rattle.imap_grammar.specs.Text.{lent_text};
 ghost use Rattle.imap_grammar.specs.ReadBack.{SpellsAndReadsBack, Closes, EndsItem, as_is};
 ghost use Rattle.imap_items.specs.Capabilities.{lent_capability};
@@ -39,11 +39,12 @@ ghost use Rattle.imap_items.specs.GmailTexts.{canonical_label_list, spells_label
 ghost use Rattle.imap_items.specs.CapabilityTexts.{canonical_capabilities, spells_capability_data, spells_enabled_data};
 ghost use Rattle.imap_items.specs.UidSetTexts.{canonical_uid_set, spells_uid_set};
 ghost use Rattle.imap_items.specs.MailboxTexts.{canonical_mailbox, spells_mailbox};
-ghost use Rattle.imap_data.specs.Codes.{lent_code};
-ghost use Rattle.imap_data.specs.DatumValues.{lent_datum};
+ghost use Rattle.imap_data.specs.Codes.{CodeValue, lent_code};
+ghost use Rattle.imap_data.specs.DatumValues.{DatumValue, lent_datum};
 ghost use Rattle.imap_extensions.specs.Quotas.{lent_quota, lent_quota_root};
 ghost use Rattle.imap_extensions.specs.Ids.{lent_id};
 ghost use Rattle.imap_extensions.specs.Acls.{lent_acl, lent_list_rights, lent_my_rights};
+ghost use Rattle.imap_data.specs.Owned.{owned_code, owned_attribute, owned_list, owned_datum};
 ghost use Rattle.imap_data.specs.CodeTexts.{canonical_response_code, spells_response_code};
 ghost use Rattle.imap_data.specs.MailboxDataTexts.{canonical_datum, spells_datum};
 ghost use Rattle.imap_extensions.specs.QuotaTexts.{canonical_quota, spells_quota, canonical_quota_root, spells_quota_root};
@@ -147,6 +148,17 @@ pub fn hashing()
     ensures quota { HashesAlike ⟦<Quota<'static> as Hash>⟧.hash_input quota_content }
     ensures quota_root { HashesAlike ⟦<QuotaRoot<'static> as Hash>⟧.hash_input quota_root_content }
     ensures acl_right { HashesAlike ⟦<AclRight as Hash>⟧.hash_input (λ x. x) }
+{}
+
+/// An owned value says the same as the value that it was made from. Of those of `imap_items` and `imap_extensions` the
+/// laws of these say it.
+#[tactic(auto, using(crate::proofs::Owned::owned_code_says, crate::proofs::Owned::owned_attribute_says, crate::proofs::Owned::owned_list_says, crate::proofs::Owned::owned_datum_says))]
+pub fn owning()
+    ensures response_code { (c : CodeValue) → lent_code (owned_code c) ≡ lent_code c }
+    ensures name_attribute { (a : NameAttributeValue) →
+        lent_attribute (owned_attribute a) ≡ lent_attribute a }
+    ensures list_data { (l : ListValue) → lent_list (owned_list l) ≡ lent_list l }
+    ensures mailbox_datum { (d : DatumValue) → lent_datum (owned_datum d) ≡ lent_datum d }
 {}
 
 /// What each rule takes spells the value that it yields. On the canonical text of a value that it yields, the rule

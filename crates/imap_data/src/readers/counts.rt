@@ -61,8 +61,8 @@ fn item_of_u(i: &[u8]) -> IResult<&[u8], StatusAttribute>
     unseen(i)
 }
 
-/// An item of STATUS: its word in any case, and a number (RFC 3501, section 9: status-att-list; RFC 4551, section 4:
-/// status-att-val). No memory.
+// An item of STATUS: its word in any case, and a number (RFC 3501, section 9: status-att-list; RFC 4551, section 4:
+// status-att-val). No memory.
 #[tactic(auto, using(crate::proofs::FirstBytes::item_none, crate::proofs::FirstBytes::item_is_highest_mod_seq, crate::proofs::FirstBytes::item_is_messages, crate::proofs::FirstBytes::item_is_recent, crate::proofs::FirstBytes::item_is_of_u, crate::proofs::FirstBytes::item_other))]
 pub(crate) fn status_item(i: &[u8]) -> IResult<&[u8], StatusAttribute>
     ensures { StepsExactly counts.status_item (λ x. x) i.now result }
@@ -77,14 +77,14 @@ pub(crate) fn status_item(i: &[u8]) -> IResult<&[u8], StatusAttribute>
     }
 }
 
-/// Items of STATUS in parentheses, maybe none.
+// Items of STATUS in parentheses, maybe none.
 pub(crate) fn status_items(alloc: Global, i: &[u8]) -> IResult<&[u8], Vec<StatusAttribute>>
     ensures { Steps counts.status_items (λ x. x.items) i.now result }
 {
     parenthesized_list(alloc, status_item, i)
 }
 
-/// A number behind a space. No memory.
+// A number behind a space. No memory.
 #[tactic(auto, unfolding(crate::specs::Counts::found_number))]
 pub(crate) fn found_number(i: &[u8]) -> IResult<&[u8], u32>
     ensures { StepsExactly counts.found_number (λ x. x) i.now result }
@@ -99,8 +99,8 @@ fn spaced_numbers(alloc: Global, i: &[u8]) -> IResult<&[u8], Vec<u32>>
     repeated(alloc, found_number, i)
 }
 
-/// Numbers, each behind a space, maybe none, and maybe a space behind them (RFC 3501, section 9: mailbox-data; RFC
-/// 5256, section 5: sort-data).
+// Numbers, each behind a space, maybe none, and maybe a space behind them (RFC 3501, section 9: mailbox-data; RFC
+// 5256, section 5: sort-data).
 #[tactic(auto, unfolding(crate::specs::Counts::found_numbers))]
 pub(crate) fn found_numbers(alloc: Global, i: &[u8]) -> IResult<&[u8], Vec<u32>>
     ensures { Steps counts.found_numbers (λ x. x.items) i.now result }

@@ -1,5 +1,6 @@
 //! Data of a mailbox.
 
+ghost use Rattle.std.specs.Prelude.{◌⊎◌};
 ghost use Rattle.imap_grammar.specs.Answer.{Answers, Steps, StepsExactly};
 ghost use Rattle.imap_grammar.specs.Memory.{BeginsWord, FailsOnlyIf, SucceedsFor};
 ghost use Rattle.imap_data.specs.MailboxData as rules;
@@ -26,7 +27,8 @@ fn flags(alloc: Global, i: &[u8]) -> IResult<&[u8], MailboxDatum<'_>>
 #[tactic(auto, unfolding(crate::specs::MailboxData::list))]
 #[inline(always)]
 fn list(alloc: Global, i: &[u8]) -> IResult<&[u8], MailboxDatum<'_>>
-    ensures { Steps rules.list datum_value i.now result }
+    ensures steps { Steps rules.list datum_value i.now result }
+    ensures memory { FailsOnlyIf (BeginsWord "LIST " i.now) result }
 {
     worded!(i: b"LIST ", list_data(alloc) => MailboxDatum::List)
 }
@@ -34,7 +36,8 @@ fn list(alloc: Global, i: &[u8]) -> IResult<&[u8], MailboxDatum<'_>>
 #[tactic(auto, unfolding(crate::specs::MailboxData::lsub))]
 #[inline(always)]
 fn lsub(alloc: Global, i: &[u8]) -> IResult<&[u8], MailboxDatum<'_>>
-    ensures { Steps rules.lsub datum_value i.now result }
+    ensures steps { Steps rules.lsub datum_value i.now result }
+    ensures memory { FailsOnlyIf (BeginsWord "LSUB " i.now) result }
 {
     worded!(i: b"LSUB ", list_data(alloc) => MailboxDatum::List)
 }
@@ -109,13 +112,14 @@ fn datum_of_number(i: &[u8]) -> IResult<&[u8], MailboxDatum<'_>>
 
 /// `LIST` or `LSUB`, and what it says of a mailbox (RFC 3501, section 9: mailbox-data).
 ///
-/// Any other word, or a part that is missing, is `Error`. It takes memory for the attributes, and for texts that are
-/// not UTF-8.
+/// Any other word, or a part that is missing, is `Error`. It takes memory only behind `LIST` or `LSUB`, for the
+/// attributes, and for texts that are not UTF-8.
 #[tactic(auto, using(imap_grammar::proofs::Agreement::answered), unfolding(crate::specs::MailboxData::list_or_lsub))]
 #[inline(always)]
 pub fn list_or_lsub(alloc: Global, i: &[u8]) -> IResult<&[u8], MailboxDatum<'_>>
     ensures steps { Steps rules.list_or_lsub datum_value i.now result }
     ensures answer { Answers rules.list_or_lsub datum_value i.now result }
+    ensures memory { FailsOnlyIf (BeginsWord "LIST " i.now ⊎ BeginsWord "LSUB " i.now) result }
 {
     first!(list(alloc, i));
     lsub(alloc, i)

@@ -77,10 +77,10 @@ fn second(i: &[u8]) -> Option<&u8>
     i.get(1)
 }
 
-/// An attribute of a name: a known word in any case, or any other with its backslash
-/// (RFC 3501, section 9: mbx-list-flags; RFC 6154, section 6: use-attr). No memory.
-///
-/// All begin with a backslash, so the byte behind it tells which are tried.
+// An attribute of a name: a known word in any case, or any other with its backslash
+// (RFC 3501, section 9: mbx-list-flags; RFC 6154, section 6: use-attr). No memory.
+//
+// All begin with a backslash, so the byte behind it tells which are tried.
 #[tactic(auto, using(crate::proofs::SecondBytes::attribute_alone, crate::proofs::SecondBytes::attribute_is_of_n, crate::proofs::SecondBytes::attribute_is_of_m_u, crate::proofs::SecondBytes::attribute_is_of_a, crate::proofs::SecondBytes::attribute_is_of_d_f_j, crate::proofs::SecondBytes::attribute_is_of_s_t, crate::proofs::SecondBytes::attribute_is_other))]
 pub(crate) fn name_attribute(i: &[u8]) -> IResult<&[u8], NameAttribute<'_>>
     ensures { StepsExactly names.name_attribute attribute_value i.now result }
@@ -119,7 +119,7 @@ fn delimiter(alloc: Global, i: &[u8]) -> IResult<&[u8], Option<CowStr<'_>>>
     Ok((rest, None))
 }
 
-/// What LIST and LSUB say of a mailbox (RFC 3501, section 9: mailbox-list).
+// What LIST and LSUB say of a mailbox (RFC 3501, section 9: mailbox-list).
 #[tactic(auto, unfolding(crate::specs::Names::list_data))]
 #[inline(always)]
 pub(crate) fn list_data(alloc: Global, i: &[u8]) -> IResult<&[u8], MailboxListData<'_>>
