@@ -9,3 +9,4 @@ pub mod CodeTexts
 pub mod NameTexts
 pub mod MailboxDataTexts
 pub mod Owned
+pub mod Constants

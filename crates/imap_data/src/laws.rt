@@ -30,6 +30,7 @@ ghost use Rattle.imap_extensions.specs.Acls as acls;
 ghost use Rattle.imap_extensions.specs.Acls.{acl_entry_content, acl_content, list_rights_content, my_rights_content};
 ghost use Rattle.imap_data.specs.Annotations as metadata;
 ghost use Rattle.std.specs.Prelude.{◌≡◌, map, option_map};
+ghost use Rattle.std.specs.List.{AllByRecursion};
 ghost use Rattle.imap_grammar.specs.Text.{lent_text};
 ghost use Rattle.imap_grammar.specs.ReadBack.{SpellsAndReadsBack, Closes, EndsItem, as_is};
 ghost use Rattle.imap_items.specs.Capabilities.{lent_capability};
@@ -45,6 +46,7 @@ ghost use Rattle.imap_extensions.specs.Quotas.{lent_quota, lent_quota_root};
 ghost use Rattle.imap_extensions.specs.Ids.{lent_id};
 ghost use Rattle.imap_extensions.specs.Acls.{lent_acl, lent_list_rights, lent_my_rights};
 ghost use Rattle.imap_data.specs.Owned.{owned_code, owned_attribute, owned_list, owned_datum};
+ghost use Rattle.imap_data.specs.Constants.{IsReadBy, code_texts, attribute_texts};
 ghost use Rattle.imap_data.specs.CodeTexts.{canonical_response_code, spells_response_code};
 ghost use Rattle.imap_data.specs.MailboxDataTexts.{canonical_datum, spells_datum};
 ghost use Rattle.imap_extensions.specs.QuotaTexts.{canonical_quota, spells_quota, canonical_quota_root, spells_quota_root};
@@ -148,6 +150,12 @@ pub fn hashing()
     ensures quota { HashesAlike ⟦<Quota<'static> as Hash>⟧.hash_input quota_content }
     ensures quota_root { HashesAlike ⟦<QuotaRoot<'static> as Hash>⟧.hash_input quota_root_content }
     ensures acl_right { HashesAlike ⟦<AclRight as Hash>⟧.hash_input (λ x. x) }
+{}
+
+/// Each value that holds nothing is read from its text, whatever follows that.
+pub fn constants()
+    ensures response_code { AllByRecursion (IsReadBy codes.response_code) code_texts }
+    ensures name_attribute { AllByRecursion (IsReadBy names.name_attribute) attribute_texts }
 {}
 
 /// An owned value says the same as the value that it was made from. Of those of `imap_items` and `imap_extensions` the
