@@ -1,5 +1,5 @@
--- Response codes (RFC 3501, RFC 4551 and RFC 5464: resp-text-code, in sections 9, 4 and 5; RFC 4315, section 4:
--- resp-code-apnd, resp-code-copy).
+-- Response codes (RFC 3501, section 9, RFC 4551, section 4, RFC 4315, section 4, and RFC 5464, section 5:
+-- resp-text-code; RFC 4315, section 4: resp-code-apnd, resp-code-copy).
 use Rattle.std.specs.Prelude.{◌≡◌, ℕ, ◌⊎◌, List, ◌++◌, Option, Some, option_map, map, codes}
 use Rattle.imap_grammar.specs.Text.{Bytes, Text, text_of, lent_text}
 use Rattle.imap_grammar.specs.Memory.{BeginsWord}
@@ -51,7 +51,7 @@ code_value (code.MetadataMaxSize n) = MetadataMaxSize n
 code_value code.MetadataTooMany = MetadataTooMany
 code_value code.MetadataNoPrivate = MetadataNoPrivate
 
--- with all texts borrowed: two values are the same where these are one
+-- with all texts borrowed: two values say the same where these are equal
 abbrev pub lent_code : CodeValue → CodeValue
 lent_code (BadCharset charsets) = BadCharset (option_map (map lent_text) charsets)
 lent_code (Capabilities capabilities) = Capabilities (map lent_capability capabilities)
@@ -183,7 +183,7 @@ metadata_code = long_entries or max_size or too_many or no_private
 unfoldable pub any_code : Rule CodeValue
 any_code = basic_code or uid_code or metadata_code
 
--- alternatives of `any_code` by their first byte
+-- ---- no further rules: those alternatives of `any_code` that may start with one byte, as the reader tries them
 
 unfoldable pub code_of_a : Rule CodeValue
 code_of_a = names "ALERT" Alert or append_uid

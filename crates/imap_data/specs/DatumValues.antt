@@ -47,7 +47,7 @@ IsNumber (GmailMsgId n) = Unit {0}
 IsNumber (GmailThrId n) = Unit {0}
 IsNumber other = ⊥
 
--- ---- with all texts borrowed: two values are the same where these are one
+-- ---- with all texts borrowed: two values say the same where these are equal
 
 abbrev pub lent_datum : DatumValue → DatumValue
 lent_datum (Flags flags) = Flags (map lent_text flags)

@@ -65,7 +65,7 @@ mailbox_datum =
     or thrid
     or sort
 
--- alternatives of `mailbox_datum` by their first byte
+-- ---- no further rules: those alternatives of `mailbox_datum` that may start with one byte, as the reader tries them
 
 unfoldable pub datum_of_number : Rule DatumValue
 datum_of_number = exists or recent

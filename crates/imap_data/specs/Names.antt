@@ -1,5 +1,5 @@
--- Attributes of mailbox names and the data of LIST (RFC 3501, section 9: mailbox-list, mbx-list-flags; RFC 6154,
--- section 6: use-attr).
+-- Attributes of mailbox names and the data of LIST (RFC 3501, section 9: mailbox-list, mbx-list-flags,
+-- mbx-list-oflag, mbx-list-sflag; RFC 6154, section 6: use-attr).
 use Rattle.std.specs.Prelude.{List, Option, None, Some, option_map, map}
 use Rattle.imap_grammar.specs.Text.{Bytes, Text, as_text, text_of, lent_text}
 use Rattle.imap_grammar.specs.Rule.{Rule, gives, nothing, ◌⨾◌, ◌▹◌, ◌or◌}
@@ -50,7 +50,7 @@ list_value l =
       name = text_of l.name;
     }
 
--- ---- with all texts borrowed: two values are the same where these are one
+-- ---- with all texts borrowed: two values say the same where these are equal
 
 abbrev pub lent_attribute : NameAttributeValue → NameAttributeValue
 lent_attribute (Extension t) = Extension (lent_text t)

@@ -109,7 +109,7 @@ list_rights_value r =
 abbrev pub my_rights_value : MyRights → MyRightsValue
 my_rights_value r = record { mailbox = text_of r.mailbox; rights = r.rights.items }
 
--- ---- with all texts borrowed: two values are the same where these are one
+-- ---- with all texts borrowed: two values say the same where these are equal
 
 abbrev pub lent_acl_entry : AclEntryValue → AclEntryValue
 lent_acl_entry e = record { identifier = lent_text e.identifier; rights = e.rights }

@@ -25,7 +25,7 @@ pub record MetadataValue : Type 0 where
 abbrev pub metadata_value : Metadata → MetadataValue
 metadata_value m = record { entry = string_bytes m.entry; value = option_map string_bytes m.value }
 
--- ---- entry names
+-- ---- entry names: RFC 5464 has entry = astring; the Rust crate reads only the paths below
 
 -- a byte of a component: from 26 to 127, but none of `*`, `%`, `/`
 abbrev pub is_component_byte : ℕ → Bool

@@ -11,7 +11,7 @@ use Rattle.imap_extensions.specs.Ids.{IdValue, map_of_pairs}
 abbrev pub canonical_field : Bytes × Text → Pieces
 canonical_field (key, value) = lit key then space then literal_text value
 
--- the fields by rising bytes of their names; no field at all is one without a value
+-- the fields in the order of their names' bytes; where there are none, one pair of an empty name and NIL
 abbrev pub canonical_fields : List (Bytes × Text) → Pieces
 canonical_fields [] = words "(" then lit [] then words " NIL)"
 canonical_fields (e ∷ es) = list_text canonical_field (e ∷ es)

@@ -1,6 +1,6 @@
 -- What an implementation says of itself (RFC 2971, section 4: id_response, id_params_list), with any blanks between the
--- parts. Its value is a finite map from the keys' bytes to texts: a key has no mark of its own, since of two equal ones
--- either may be the one that is kept.
+-- parts, and at least one pair in a list. Its value is a finite map from the bytes of keys to texts. It doesn't say
+-- whether a key is borrowed: of two equal keys either may be kept.
 use Rattle.std.specs.Prelude.{List, Option, None, Some, [], ◌∷◌, option_map, map}
 use Rattle.imap_grammar.specs.Text.{Text, Bytes, text_of, lent_text}
 use Rattle.imap_grammar.specs.Rule.{Rule, nothing, gives, list1, ◌⨾◌, ◌▹◌, ◌◃◌, ◌or◌}
@@ -53,7 +53,7 @@ id_value m = from_entries (map entry_value m.entries)
 abbrev pub pair_value : CowStr Global × Option (CowStr Global) → Text × Option Text
 pair_value p = (text_of p.0, option_map text_of p.1)
 
--- ---- with all texts borrowed: two maps are the same where these are one
+-- ---- with all texts borrowed: two maps say the same where these are equal
 
 abbrev pub lent_entry : Bytes × Text → Bytes × Text
 lent_entry e = (e.0, lent_text e.1)

@@ -61,7 +61,7 @@ quota_root_value q =
       quota_root_names = map text_of q.quota_root_names.items;
     }
 
--- ---- with all texts borrowed: two values are the same where these are one
+-- ---- with all texts borrowed: two values say the same where these are equal
 
 abbrev pub lent_quota_resource_name : QuotaResourceNameValue → QuotaResourceNameValue
 lent_quota_resource_name (Atom t) = Atom (lent_text t)

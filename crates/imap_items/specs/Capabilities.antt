@@ -19,7 +19,7 @@ capability_value kind.Imap4rev1 = Imap4rev1
 capability_value (kind.Auth t) = Auth (text_of t)
 capability_value (kind.Atom t) = Atom (text_of t)
 
--- with its text borrowed: two values are the same where these are one
+-- with its text borrowed: two values say the same where these are equal
 abbrev pub lent_capability : CapabilityValue → CapabilityValue
 lent_capability (Auth t) = Auth (lent_text t)
 lent_capability (Atom t) = Atom (lent_text t)

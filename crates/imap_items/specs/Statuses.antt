@@ -12,7 +12,7 @@ unfoldable pub status : Rule Status
 status =
     names "OK" Ok or names "NO" No or names "BAD" Bad or names "PREAUTH" PreAuth or names "BYE" Bye
 
--- the alternatives by their first byte
+-- ---- no further rules: the alternatives that may start with one byte, as the reader tries them
 
 unfoldable pub ok_word : Rule Status
 ok_word = names "OK" Ok

@@ -24,7 +24,7 @@ IsOrdered (member.Uid n) = Unit {0}
 
 -- ---- rules
 
--- the ends in either order
+-- a range with its smaller end first, whichever end was written first
 abbrev pub in_order : Range → MemberValue
 in_order r = UidRange (fresh (min r.start r.end) (max r.start r.end))
 
