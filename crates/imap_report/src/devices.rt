@@ -23,7 +23,7 @@ pub trait Source {
         ensures failed { MatchResult result (λ n. has_failed self.new ≡ has_failed self.old) (λ e.
             has_failed self.new ≡ true) };
 
-    /// Whether a read has failed.
+    /// Whether a read has failed. `run` and `cat` ask that none has yet.
     fn failed(&self) -> bool
         ensures { result ≡ has_failed self.now };
 }
@@ -48,7 +48,7 @@ pub trait Sink {
             length buf.now ≡ 0 → has_failed self.new ≡ has_failed self.old) }
         ensures failed { OnErr result (has_failed self.new ≡ true) };
 
-    /// Whether a write has failed.
+    /// Whether a write has failed. `run` and `cat` ask that none has yet.
     fn failed(&self) -> bool
         ensures { result ≡ has_failed self.now };
 }
@@ -65,11 +65,8 @@ pub(crate) fn write_all<W: Sink>(writer: &mut W, bytes: &[u8]) -> Result<(), Fau
     let mut rest = bytes;
     'pieces: while !rest.is_empty() {
         match writer.write(rest) {
-            Err(_) => return Err(Fault::Write),
+            Err(_) | Ok(0) => return Err(Fault::Write),
             Ok(n) => {
-                if n == 0 {
-                    return Err(Fault::Write);
-                }
                 let (_, after) = rest.split_at(n);
                 rest = after;
             }

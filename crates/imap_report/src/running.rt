@@ -13,6 +13,9 @@ use crate::writers::Writing;
 use imap_proto::stream::{End, Feed};
 use std::alloc::Global;
 
+// How many bytes one read asks for.
+const PIECE: usize = 4096;
+
 // Reads a piece and feeds it, and tells how many bytes it has: none only at the end. The reader failed exactly where
 // the fault is `Read`.
 fn take_piece<R: Source>(reader: &mut R, feed: &mut Feed) -> Result<usize, Fault>
@@ -27,7 +30,7 @@ fn take_piece<R: Source>(reader: &mut R, feed: &mut Feed) -> Result<usize, Fault
     ensures failed { FailsAs Fault.Read (R.has_failed reader.new) result }
     ensures kinds { IfErr result (λ e. (¬ (e ≡ Fault.Write)) × (¬ (e ≡ Fault.TooLong))) }
 {
-    let mut buffer = [0; 4096];
+    let mut buffer = [0; PIECE];
     match reader.read(&mut buffer) {
         Err(_) => Err(Fault::Read),
         Ok(n) => {
@@ -55,19 +58,12 @@ fn count_on<R: Source>(reader: &mut R, counted: usize) -> Result<usize, Fault>
     ensures kinds { IfErr result (λ e. ¬ (e ≡ Fault.Write)) }
 {
     let mut total = counted;
-    let mut buffer = [0; 4096];
+    let mut buffer = [0; PIECE];
     'reads: loop {
         match reader.read(&mut buffer) {
             Err(_) => return Err(Fault::Read),
-            Ok(n) => {
-                if n == 0 {
-                    return Ok(total);
-                }
-                match total.checked_add(n) {
-                    Some(more) => total = more,
-                    None => return Err(Fault::TooLong),
-                }
-            }
+            Ok(0) => return Ok(total),
+            Ok(n) => total = total.checked_add(n).ok_or(Fault::TooLong)?,
         }
     }
 }
@@ -104,8 +100,8 @@ fn tell_responses<R: Source, W: Sink>(
         match tell(alloc, &mut feed, writer)? {
             End::Waits => {}
             End::Denied => {
-                let n = count_on(reader, feed.held().len())?;
-                return Ok((End::Denied, n));
+                let left = count_on(reader, feed.held().len())?;
+                return Ok((End::Denied, left));
             }
         }
     }
@@ -137,8 +133,8 @@ pub fn run<R: Source, W: Sink>(
         e ≡ Fault.TooLong →
         ReadsAtLeast (2 ^ 64 - 1) (R.remaining reader.old) (R.remaining reader.new)) }
 {
-    let (end, n) = tell_responses(alloc, reader, writer)?;
-    tell_last(alloc, end, n, writer)
+    let (end, left) = tell_responses(alloc, reader, writer)?;
+    tell_last(alloc, end, left, writer)
 }
 
 /// The report of these bytes, and what its last line tells.

@@ -88,17 +88,17 @@ pub(crate) fn tell<W: Sink>(alloc: Global, feed: &mut Feed, writer: &mut W) -> R
 }
 
 // The last line, where so many bytes are left and no response stands at their front.
-fn last_line(alloc: Global, end: End, n: usize) -> Result<(Finish, String), AllocError>
+fn last_line(alloc: Global, end: End, left: usize) -> Result<(Finish, String), AllocError>
     ensures { IfOk result (λ x.
-        (m : List ℕ) → EndsAs m end → length m ≡ n → IsReport m (string_bytes x.1) x.0) }
+        (m : List ℕ) → EndsAs m end → length m ≡ left → IsReport m (string_bytes x.1) x.0) }
 {
     match end {
-        End::Denied => Ok((Finish::Denied, line_of(alloc, "denied", n)?)),
+        End::Denied => Ok((Finish::Denied, line_of(alloc, "denied", left)?)),
         End::Waits => {
-            if n == 0 {
+            if left == 0 {
                 return Ok((Finish::End, String::from_str(alloc, "end\n")?));
             }
-            Ok((Finish::Waiting, line_of(alloc, "waiting", n)?))
+            Ok((Finish::Waiting, line_of(alloc, "waiting", left)?))
         }
     }
 }
@@ -108,24 +108,24 @@ fn last_line(alloc: Global, end: End, n: usize) -> Result<(Finish, String), Allo
 pub(crate) fn tell_last<W: Sink>(
     alloc: Global,
     end: End,
-    n: usize,
+    left: usize,
     writer: &mut W,
 ) -> Result<Finish, Fault>
     requires { W.has_failed writer.old ≡ false }
     ensures whole { IfOk result (λ f.
         (m : List ℕ) →
         EndsAs m end →
-        length m ≡ n →
+        length m ≡ left →
         Writes (W.contents writer.old) (W.contents writer.new) m f) }
     ensures begun { OnErr result
         ((m : List ℕ) →
         EndsAs m end →
-        length m ≡ n →
+        length m ≡ left →
         Begins (W.contents writer.old) (W.contents writer.new) m) }
     ensures failed { FailsAs Fault.Write (W.has_failed writer.new) result }
     ensures kinds { IfErr result (λ e. (¬ (e ≡ Fault.Read)) × (¬ (e ≡ Fault.TooLong))) }
 {
-    let (finish, text) = last_line(alloc, end, n)?;
+    let (finish, text) = last_line(alloc, end, left)?;
     write_all(writer, text.as_bytes())?;
     Ok(finish)
 }

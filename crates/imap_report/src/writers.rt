@@ -39,13 +39,9 @@ impl<W: Write + Drop> Sink for Writing<W> {
 
     fn write(&mut self, buf: &[u8]) -> io::Result<usize> {
         let result = self.inner.write(buf);
-        match &result {
-            Err(_) => self.has_failed = true,
-            Ok(n) => {
-                if *n == 0 && !buf.is_empty() {
-                    self.has_failed = true;
-                }
-            }
+        let took_none = matches!(result, Ok(0)) && !buf.is_empty();
+        if result.is_err() || took_none {
+            self.has_failed = true;
         }
         result
     }

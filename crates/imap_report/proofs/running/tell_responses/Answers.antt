@@ -33,25 +33,25 @@ pieces-preserved g c =
       writes = c.in_ok-tell.ensures.failed;
     }
 
-pub returns-in_err-n-in-Denied-clause-begun : goal.returns-in_err-n-in-Denied-clause-begun
-returns-in_err-n-in-Denied-clause-begun g c =
+pub returns-in_err-left-in-Denied-clause-begun : goal.returns-in_err-left-in-Denied-clause-begun
+returns-in_err-left-in-Denied-clause-begun g c =
     let so_far = some_read _ _ _ _ _ _ _ _ _ c.pieces.invariant.so_far c.in_ok-n.ensures.taken c.if-n-eq0.false in
-    on_err _ (stops_behind _ _ _ _ _ _ _ 0 (lines_told _ _ _ _ _ _ _ _ so_far c.in_ok-tell.ensures.told) c.in_err-n-in-Denied.ensures.some)
+    on_err _ (stops_behind _ _ _ _ _ _ _ 0 (lines_told _ _ _ _ _ _ _ _ so_far c.in_ok-tell.ensures.told) c.in_err-left-in-Denied.ensures.some)
 
-pub returns-in_err-n-in-Denied-clause-long : goal.returns-in_err-n-in-Denied-clause-long
-returns-in_err-n-in-Denied-clause-long g c =
+pub returns-in_err-left-in-Denied-clause-long : goal.returns-in_err-left-in-Denied-clause-long
+returns-in_err-left-in-Denied-clause-long g c =
     let so_far = some_read _ _ _ _ _ _ _ _ _ c.pieces.invariant.so_far c.in_ok-n.ensures.taken c.if-n-eq0.false in
     let told = lines_told _ _ _ _ _ _ _ _ so_far c.in_ok-tell.ensures.told in
-    let long : c.in_err-n-in-Denied.field-0.0 ≡ TooLong → ReadsAtLeast (2 ^ 64 - 1) (g.R.Source.remaining c.args.reader.now) (g.R.Source.remaining c.count_on.new.reader) =
-    λ is. reads_long_behind _ _ _ _ _ c.tell.new.feed _ (2 ^ 64 - 1) told (rw c.held-in-Denied.ensures at (c.in_err-n-in-Denied.ensures.long is)) in
+    let long : c.in_err-left-in-Denied.field-0.0 ≡ TooLong → ReadsAtLeast (2 ^ 64 - 1) (g.R.Source.remaining c.args.reader.now) (g.R.Source.remaining c.count_on.new.reader) =
+    λ is. reads_long_behind _ _ _ _ _ c.tell.new.feed _ (2 ^ 64 - 1) told (rw c.held-in-Denied.ensures at (c.in_err-left-in-Denied.ensures.long is)) in
     search rules
 
 pub returns-in-Denied-clause-told : goal.returns-in-Denied-clause-told
 returns-in-Denied-clause-told g c =
     let so_far = some_read _ _ _ _ _ _ _ _ _ c.pieces.invariant.so_far c.in_ok-n.ensures.taken c.if-n-eq0.false in
-    let read = c.in_ok-n-in-Denied.ensures.read in
+    let read = c.in_ok-left-in-Denied.ensures.read in
     ends_denied _ _ _ _ _ c.tell.new.feed read.0 _ _ (lines_told _ _ _ _ _ _ _ _ so_far c.in_ok-tell.ensures.told) (subst (EndsAs c.tell.new.feed) c.in-Denied.is c.in_ok-tell.ensures.ends) read.1
-    (read.2 ∙ ap (λ k. length k + length read.0) c.held-in-Denied.ensures) c.in_ok-n-in-Denied.ensures.end
+    (read.2 ∙ ap (λ k. length k + length read.0) c.held-in-Denied.ensures) c.in_ok-left-in-Denied.ensures.end
 
 pub returns-clause-begun : goal.returns-clause-begun
 returns-clause-begun g c = stops_here _ _ _ _ _ _ c.pieces.invariant.so_far
