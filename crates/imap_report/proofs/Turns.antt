@@ -1,5 +1,5 @@
 -- Reports, a line at a time.
-use Rattle.std.proofs.Common.{◌≡◌, ℕ, ◌-◌, List, [], ◌∷◌, ◌++◌, length, Option, Some, Result, Ok, Err, refl, sym, ap, subst, ◌∙◌, append_assoc, arith}
+use Rattle.std.proofs.Common.{◌≡◌, ◌≢◌, ℕ, ◌-◌, List, [], ◌∷◌, ◌++◌, length, Option, Some, Result, Ok, Err, refl, sym, ap, subst, ◌∙◌, append_assoc, arith}
 use Rattle.std.specs.Prelude.{codes, OnErr}
 use Rattle.std.specs.Io.KnownBytes.{Appends}
 use Rattle.std.proofs.lemmas.List.{length-append, append-nil}
@@ -31,6 +31,22 @@ waiting_report m text n w l some t = subst (λ x. IsReport m x Waiting) (sym (t 
 pub end_report : (m text : List ℕ) → length m ≡ 0 → text ≡ codes "end\n" → IsReport m text End
 end_report [] text n t = subst (λ x. IsReport [] x End) (sym t) ends
 end_report (b ∷ m) text n t = absurd (omega arith)
+
+-- ---- a report has some text
+
+behind_some : (a b : List ℕ) → a ≢ [] → a ++ b ≢ []
+behind_some [] b some = absurd (some refl)
+behind_some (x ∷ a) b some = λ e. cc
+
+line_some : (name : List ℕ) (n : ℕ) → line name n ≢ []
+line_some [] n = λ e. cc
+line_some (b ∷ name) n = λ e. cc
+
+report_some : (m text : List ℕ) (f : Finish) → IsReport m text f → text ≢ []
+report_some m text f (next k r rest more h y p) = behind_some (line (name_of r) (length k - length rest)) more (line_some (name_of r) (length k - length rest))
+report_some m text f ends = λ e. cc
+report_some m text f (waits k some w) = line_some (codes "waiting") (length k)
+report_some m text f (denied k d) = line_some (codes "denied") (length k)
 
 -- ---- there is always a report, and one only
 
@@ -127,12 +143,13 @@ told_begun m rest old now new so_far begun = (
     so_far.text ++ begun.3.0,
     begun.3.1,
     ap (λ (k : List ℕ). so_far.text ++ k) begun.3.2 ∙ sym (append_assoc so_far.text begun.3.0 begun.3.1),
-    appends_both old now new so_far.text begun.3.0 so_far.written begun.3.3,
+    begun.3.3,
+    appends_both old now new so_far.text begun.3.0 so_far.written begun.3.4,
   ),
 )
 
 pub nothing_begun : (m : List ℕ) (old : Option (List ℕ)) → Begins old old m
-nothing_begun m old = let all = some_report m in (all.0, all.1, all.2, ([], all.0, refl, appends_nothing old))
+nothing_begun m old = let all = some_report m in (all.0, all.1, all.2, ([], all.0, refl, report_some m all.0 all.1 all.2, appends_nothing old))
 
 -- of whatever ends so
 pub none_begun : (end : Stop) (n : ℕ) (old : Option (List ℕ)) (m : List ℕ) → EndsAs m end → length m ≡ n → Begins old old m
@@ -148,7 +165,7 @@ line_begun m after text r old new y t w =
       text ++ more.0,
       more.1,
       subst (λ x. IsReport m (x ++ more.0) more.1) (sym t) (next m r after more.0 more.1 y more.2),
-      (w.0, w.1 ++ more.0, ap (λ (k : List ℕ). k ++ more.0) w.2 ∙ append_assoc w.0 w.1 more.0, w.3),
+      (w.0, w.1 ++ more.0, ap (λ (k : List ℕ). k ++ more.0) w.2 ∙ append_assoc w.0 w.1 more.0, behind_some w.1 more.0 w.3, w.4),
     )
 
 -- ---- responses of a feed

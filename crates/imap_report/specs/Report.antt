@@ -71,7 +71,7 @@ IsTurn held left (Stop end) = EndsAs held end × (left ≡ held)
 abbrev pub Writes : Option (List ℕ) → Option (List ℕ) → List ℕ → Finish → Type 0
 Writes old new m finish = (text : List ℕ) × IsReport m text finish × Appends old new text
 
--- a beginning of the report was appended
+-- a beginning of the report was appended, and not all of it
 abbrev pub Begins : Option (List ℕ) → Option (List ℕ) → List ℕ → Type 0
 Begins old new m =
     (text : List ℕ) × (finish : Finish) × IsReport m text finish × AppendsFront old new text
@@ -82,7 +82,7 @@ abbrev pub ReportsAll :
 ReportsAll remaining left old new finish =
     (input : List ℕ) × Consumes remaining left input × IsAtEnd left × Writes old new input finish
 
--- a beginning of the report of what was read was written
+-- a beginning of the report of what was read was written, and not all of it
 abbrev pub ReportsSome :
     Option (List ℕ) → Option (List ℕ) → Option (List ℕ) → Option (List ℕ) → Type 0
 ReportsSome remaining left old new =

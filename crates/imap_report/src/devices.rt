@@ -53,7 +53,7 @@ pub trait Sink {
         ensures { result ≡ has_failed self.now };
 }
 
-/// Writes all of the bytes. `Write`, the only fault: the writer failed.
+/// Writes all of the bytes. `Write`, the only fault: the writer failed before the last byte.
 pub(crate) fn write_all<W: Sink>(writer: &mut W, bytes: &[u8]) -> Result<(), Fault>
     requires { W.has_failed writer.old ≡ false }
     ensures ok { OnOk result (Appends (W.contents writer.old) (W.contents writer.new) bytes.now) }

@@ -110,7 +110,7 @@ fn tell_responses<R: Source, W: Sink>(
 
 /// Reads all input piece by piece and writes its report: a line for each response as soon as the bytes read tell it,
 /// and a last line that tells what is left. It takes memory for a piece, for what waits, and for a response. After a
-/// `Fault` what was written is a beginning of the report of what was read.
+/// `Fault` what was written is a beginning of the report of what was read, and never all of it.
 ///
 /// `Read`: the reader failed. `Write`: the writer failed. `TooLong`: at least 2^64 - 1 bytes were read.
 /// `OutOfMemory`: memory ran out. Where a device failed no other answer comes than its fault.
