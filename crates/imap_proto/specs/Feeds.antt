@@ -1,5 +1,5 @@
 -- Feeds: what a call gives of the bytes that are held, and what stands in all the pieces of a stream.
-use Rattle.std.specs.Prelude.{◌≡◌, ℕ, ◌<◌, List, ◌++◌, length, map, Option, None, Some, Result, Ok, Err}
+use Rattle.std.specs.Prelude.{◌≡◌, ℕ, ◌<◌, List, [], ◌∷◌, ◌++◌, length, map, Option, None, Some, Result, Ok, Err}
 use Rattle.imap_grammar.specs.declared.answer.Err.{Err as Fault}
 use Rattle.imap_grammar.specs.Answer.{Stops}
 use Rattle.imap_grammar.specs.Meaning.{Denies}
@@ -14,7 +14,7 @@ use Rattle.imap_proto.specs.declared.stream.Whole.{Whole}
 use Rattle.imap_proto.specs.Responses.{ResponseValue, response_value, lent_response}
 use Rattle.imap_proto.specs.Owned.{owned_response}
 use Rattle.imap_proto.specs.Lines.{response}
-use Rattle.imap_proto.specs.Streams.{Waiting, Splits}
+use Rattle.imap_proto.specs.Streams.{Waiting, Splits, Fed}
 
 -- what is held waits until so many bytes were put behind it
 abbrev pub WaitsFor : Bytes → ℕ → Type 0
@@ -39,6 +39,22 @@ Gave held (Some r) left =
     × (meaning response).yields held v left
     × (response_value r ≡ owned_response v)
 Gave held None left = Waiting held × (left ≡ held)
+
+-- whatever pieces a feed was fed, and whatever it has given: it was fed one piece more
+abbrev pub IsFedMore : Bytes → Bytes → Bytes → Type 0
+IsFedMore held piece left =
+    (pieces : List Bytes) (vs : List ResponseValue) →
+    Fed pieces vs held →
+    Fed (pieces ++ piece ∷ []) vs left
+
+-- and it has given one response more, this one, with all its texts owned
+abbrev pub HasGivenMore : Bytes → Response → Bytes → Type 0
+HasGivenMore held r left =
+    (pieces : List Bytes) (vs : List ResponseValue) →
+    Fed pieces vs held →
+    (v : ResponseValue)
+    × (response_value r ≡ owned_response v)
+    × Fed pieces (vs ++ v ∷ []) left
 
 -- it is denied only where no response begins with what is held, whatever is put behind it
 abbrev pub RefusesAs : Bytes → FeedError → Type 0

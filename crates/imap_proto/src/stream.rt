@@ -4,8 +4,8 @@
 
 ghost use Rattle.std.specs.Prelude.{◌≡◌, ◌≤◌, ◌<◌, ◌+◌, ◌++◌, [], List, ℕ, length, map, drop, IfOk, IfErr, IfSome, OnOk, OnErr};
 ghost use Rattle.imap_proto.specs.declared.stream.FeedError.TheVariants.{OutOfMemory};
-ghost use Rattle.imap_proto.specs.Streams.{joined};
-ghost use Rattle.imap_proto.specs.Feeds.{Gave, IsOwnedFront, WaitsFor, RefusesAs, TakesAll, IsWhole};
+ghost use Rattle.imap_proto.specs.Streams.{Fed, joined};
+ghost use Rattle.imap_proto.specs.Feeds.{Gave, HasGivenMore, IsFedMore, IsOwnedFront, WaitsFor, RefusesAs, TakesAll, IsWhole};
 
 use crate::response::Response;
 use imap_bytes::at::Reached;
@@ -105,7 +105,8 @@ fn owned_front(alloc: Global, held: &[u8]) -> Reached<Response<'static>>
 impl Feed {
     /// A feed that holds nothing. No memory.
     pub fn new(alloc: Global) -> Feed
-        ensures { result ≡ [] }
+        ensures empty { result ≡ [] }
+        ensures begins { Fed [] [] result }
     {
         Feed {
             alloc,
@@ -118,6 +119,7 @@ impl Feed {
     /// Puts a piece behind what it holds. It takes memory; `Err`: memory ran out, and the feed is as it was.
     pub fn feed(&mut self, piece: &[u8]) -> Result<(), AllocError>
         ensures fed { OnOk result (self.new ≡ self.old ++ piece.now) }
+        ensures goes_on { OnOk result (IsFedMore self.old piece.now self.new) }
         ensures kept { OnErr result (self.new ≡ self.old) }
     {
         self.bytes.extend_from_slice(piece)?;
@@ -141,6 +143,7 @@ impl Feed {
     /// A response takes at least one byte, so a loop over `next` ends.
     pub fn next(&mut self) -> Result<Option<Response<'static>>, FeedError>
         ensures gives { IfOk result (λ r. Gave self.old r self.new) }
+        ensures goes_on { IfOk result (λ r. IfSome r (λ x. HasGivenMore self.old x self.new)) }
         ensures fewer { IfOk result (λ r. IfSome r (λ _. length self.new < length self.old)) }
         ensures denied { IfErr result (RefusesAs self.old) }
         ensures kept { OnErr result (self.new ≡ self.old) }

@@ -5,7 +5,7 @@ use Rattle.imap_proto.proofs.stream.read_pieces.Goals as goal
 use Rattle.imap_proto.proofs.stream.read_pieces.Goals.{in-Waits+in_ok-end-in-Waits, in-Denied}
 
 pub loop-piece-init : goal.loop-piece-init
-loop-piece-init c = rw (c.new-feed.ensures, c.new-responses.ensures.items) (read_nothing _)
+loop-piece-init c = rw (c.new-feed.ensures.empty, c.new-responses.ensures.items) (read_nothing _)
 
 pub loop-piece-preserved : goal.loop-piece-preserved
 loop-piece-preserved c =

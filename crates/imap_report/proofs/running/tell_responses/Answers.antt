@@ -9,8 +9,8 @@ use Rattle.imap_report.proofs.running.tell_responses.Goals as goal
 
 pub pieces-init : goal.pieces-init
 pieces-init g c = record {
-  so_far = rw c.new-feed.ensures (nothing_yet _ _);
-  waits = rw c.new-feed.ensures nothing_waits;
+  so_far = rw c.new-feed.ensures.empty (nothing_yet _ _);
+  waits = rw c.new-feed.ensures.empty nothing_waits;
   reads = c.requires.reads;
   writes = c.requires.writes;
 }

@@ -4,7 +4,7 @@ use Rattle.imap_grammar.specs.Rule.{meaning}
 use Rattle.imap_grammar.specs.declared.answer.Err.TheVariants.{Error}
 use Rattle.imap_grammar.proofs.Agreement.{agrees}
 use Rattle.imap_proto.specs.Lines.{response}
-use Rattle.imap_proto.specs.Streams.{Waiting}
+use Rattle.imap_proto.specs.Streams.{Waiting, gave}
 use Rattle.imap_proto.specs.Feeds.{WaitsFor}
 use Rattle.imap_proto.proofs.Streams.{shorter}
 use Rattle.imap_proto.proofs.Feeds.{waits_for_size, waits_for_some, waiting, left_behind, gave_front}
@@ -44,6 +44,9 @@ returns-in-Err-Error-clause-denied c = subst (Denies (meaning response)) c.held.
 
 pub returns-in-Ok-clause-fewer : goal.returns-in-Ok-clause-fewer
 returns-in-Ok-clause-fewer c = let gave = returns-in-Ok-clause-gives c in shorter _ _ gave.0 gave.1
+
+pub returns-in-Ok-clause-goes_on : goal.returns-in-Ok-clause-goes_on
+returns-in-Ok-clause-goes_on c = λ pieces vs f. let given = returns-in-Ok-clause-gives c in (given.0, given.2, gave pieces vs _ given.0 _ f given.1)
 
 pub returns-in-Err-Error-clause-kept : goal.returns-in-Err-Error-clause-kept
 returns-in-Err-Error-clause-kept c = search rules depth 2
