@@ -8,11 +8,14 @@ pub mod readers;
 pub mod spanned;
 
 pub use imap_attributes::{AttributeValue, owned_attributes};
-pub use imap_sections::{MessageSection, SectionPath, section, section_msgtext, section_part};
+pub use imap_sections::{
+    BodyStructParser, MessageSection, PartsError, SectionPath, search, section, section_msgtext,
+    section_part,
+};
 pub use imap_shapes::{
     Address, BodyContentCommon, BodyContentSinglePart, BodyExt1Part, BodyExtMPart, BodyExtension,
-    BodyFields, BodyParams, BodyStructParser, BodyStructure, ContentDisposition, ContentEncoding,
-    ContentType, Envelope, PartsError, search, shapes, spans,
+    BodyFields, BodyParams, BodyStructure, ContentDisposition, ContentEncoding, ContentType,
+    Envelope, shapes, spans,
 };
 pub use imap_structure::{MAX_BODY_DEPTH, MAX_EXTENSION_DEPTH};
 pub use readers::attributes::msg_att_body_section;

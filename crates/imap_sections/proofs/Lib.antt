@@ -1,3 +1,4 @@
 pub mod SectionFirstBytes
 pub mod SectionTexts
 pub mod Equality
+pub mod Visits

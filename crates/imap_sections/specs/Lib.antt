@@ -1,3 +1,4 @@
 pub mod SectionValues
 pub mod Sections
 pub mod SectionTexts
+pub mod Search

@@ -1,7 +1,6 @@
 pub mod Places
 pub mod Lists
 pub mod Trees
-pub mod Visits
 pub mod Changed
 pub mod Equality
 pub mod EqualTrees

@@ -3,7 +3,6 @@ pub mod EnvelopeValues
 pub mod FieldValues
 pub mod ExtensionValues
 pub mod BodyValues
-pub mod Search
 pub mod Lent
 pub mod Changed
 pub mod Equality

@@ -10,7 +10,6 @@ ghost use Rattle.imap_shapes.specs.BodyValues.{type_seen, common_seen, single_se
 ghost use Rattle.imap_shapes.specs.Equality.{TellsByTexts};
 ghost use Rattle.imap_shapes.specs.Lent.{lent_address, lent_envelope, lent_params, lent_encoding, lent_disposition, lent_extension, lent_type, lent_common, lent_single, lent_body};
 
-use crate::search::PartsError;
 use crate::shapes::bodies::{BodyContentCommon, BodyContentSinglePart, BodyStructure, ContentType};
 use crate::shapes::envelopes::{Address, Envelope};
 use crate::shapes::extensions::{BodyExtension, ContentDisposition};
@@ -42,13 +41,10 @@ pub fn equality<S: PartialEq, B: PartialEq>()
         Tells B.eq (λ b. lent_text (g b)) →
         Tells ⟦<BodyStructure<S, B> as PartialEq>⟧.eq (λ x. lent_body (body_seen f g x)) }
     ensures spanned_text { Tells ⟦<SpannedText as PartialEq>⟧.eq (λ x. x) }
-    ensures parts_error { Tells ⟦<PartsError as PartialEq>⟧.eq (λ x. x) }
 {}
 
 /// A clone takes no memory, and is the same value.
 pub fn cloning()
     ensures spanned_text { CopiesFreely ⟦<SpannedText as Clone>⟧.is_infallible
         ⟦<SpannedText as Clone>⟧.is_clone }
-    ensures parts_error { CopiesFreely ⟦<PartsError as Clone>⟧.is_infallible
-        ⟦<PartsError as Clone>⟧.is_clone }
 {}

@@ -1,16 +1,15 @@
-//! What bodies of messages are made of: types generic in their texts, one map a type over them, and part search.
+//! What bodies of messages are made of: types generic in their texts. For each type, a map that changes its texts:
+//! into owned ones, or from spans to what they name in a message.
 #![tactic(auto)]
 
 pub mod laws;
 pub mod maps;
 mod owned;
-pub mod search;
 pub mod shapes;
 pub mod spans;
 mod types;
 mod values;
 
-pub use search::{BodyStructParser, PartsError};
 pub use types::bodies::{BodyContentCommon, BodyContentSinglePart, BodyStructure, ContentType};
 pub use types::envelopes::{Address, Envelope};
 pub use types::extensions::{BodyExt1Part, BodyExtMPart, BodyExtension, ContentDisposition};

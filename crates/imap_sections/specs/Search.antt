@@ -3,8 +3,8 @@ use Rattle.std.specs.Prelude.{◌≡◌, ℕ, suc, ◌+◌, List, [], ◌∷◌,
 use Rattle.imap_grammar.specs.Text.{text_of}
 use Rattle.imap_shapes.specs.Spans.{bytes_of}
 use Rattle.imap_shapes.specs.BodyValues.{BodyValue, Basic, TextBody, Message, Multipart, Bodies, no_bodies, one_body, body_seen}
-use Rattle.imap_shapes.specs.declared.search.Part.{Part}
-use Rattle.imap_shapes.specs.declared.search.BodyStructParser.{BodyStructParser}
+use Rattle.imap_sections.specs.declared.search.Part.{Part}
+use Rattle.imap_sections.specs.declared.search.BodyStructParser.{BodyStructParser}
 
 -- The bodies inside a body at a path, parent before child and left to right.
 -- Children of a multipart count from 1; the body inside a message is none here.

@@ -2,8 +2,8 @@ use Rattle.std.proofs.Common.{rules, refl, ap, sym, ◌∙◌, ◌+◌, arith, a
 use Rattle.std.proofs.lemmas.Grind.{common_steps}
 use Rattle.std.proofs.lemmas.List.{append-nil}
 use Rattle.std.proofs.lemmas.Result.{err_from_is_err_and}
-use Rattle.imap_shapes.proofs.Visits.{visited_multipart, opened, many_here, crowded, uncrowded, not_crowded, none_left, visited_alone, few_alone, alone_not_crowded}
-use Rattle.imap_shapes.proofs.search.+visit.Goals as goal
+use Rattle.imap_sections.proofs.Visits.{visited_multipart, opened, many_here, crowded, uncrowded, not_crowded, none_left, visited_alone, few_alone, alone_not_crowded}
+use Rattle.imap_sections.proofs.search.+visit.Goals as goal
 
 pub returns-in_err-hold-clause-many : goal.returns-in_err-hold-clause-many
 returns-in_err-hold-clause-many t c =

@@ -8,7 +8,7 @@ use Rattle.std.specs.declared.borrow.CowSlice.{CowSlice}
 use Rattle.imap_grammar.specs.Text.{text_of}
 use Rattle.imap_shapes.specs.Spans.{bytes_of}
 use Rattle.imap_shapes.specs.BodyValues.{BodyValue, no_bodies, one_body, bodies_of, body_seen}
-use Rattle.imap_shapes.specs.Search.{visited, visited_from, count, is_crowded, too_many, too_many_in, FindsFirst}
+use Rattle.imap_sections.specs.Search.{visited, visited_from, count, is_crowded, too_many, too_many_in, FindsFirst}
 use Rattle.imap_shapes.specs.declared.shapes.extensions.BodyExtension.{BodyExtension}
 use Rattle.imap_shapes.specs.declared.shapes.bodies.BodyContentCommon.{BodyContentCommon}
 use Rattle.imap_shapes.specs.declared.shapes.bodies.BodyStructure.{BodyStructure}

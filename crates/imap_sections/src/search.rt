@@ -6,10 +6,10 @@ ghost use Rattle.std.specs.Fn.{FnReturnsAt};
 ghost use Rattle.imap_grammar.specs.Text.{text_of};
 ghost use Rattle.imap_shapes.specs.Spans.{bytes_of};
 ghost use Rattle.imap_shapes.specs.BodyValues.{body_seen};
-ghost use Rattle.imap_shapes.specs.Search.{visited, too_many, is_crowded, part_seen, parts_of, FindsFirst};
-ghost use Rattle.imap_shapes.specs.declared.search.PartsError.TheVariants.{TooManyParts, OutOfMemory};
+ghost use Rattle.imap_sections.specs.Search.{visited, too_many, is_crowded, part_seen, parts_of, FindsFirst};
+ghost use Rattle.imap_sections.specs.declared.search.PartsError.TheVariants.{TooManyParts, OutOfMemory};
 
-use crate::types::bodies::BodyStructure;
+use imap_shapes::BodyStructure;
 use std::alloc::{AllocError, AllocFailed, Global};
 use thiserror::Error;
 

@@ -2,8 +2,8 @@ use Rattle.std.proofs.Common.{◌≡◌, ◌++◌, ◌+◌, map, drop}
 use Rattle.imap_grammar.specs.Text.{text_of}
 use Rattle.imap_shapes.specs.Spans.{bytes_of}
 use Rattle.imap_shapes.specs.BodyValues.{bodies_of, body_seen}
-use Rattle.imap_shapes.specs.Search.{visited, visited_from, too_many, too_many_in, part_seen}
-use Rattle.imap_shapes.proofs.search.+visit.Given as goal
+use Rattle.imap_sections.specs.Search.{visited, visited_from, too_many, too_many_in, part_seen}
+use Rattle.imap_sections.proofs.search.+visit.Given as goal
 
 abbrev pub invariant-loop-inner : goal.invariant-loop-inner
 invariant-loop-inner l = record {

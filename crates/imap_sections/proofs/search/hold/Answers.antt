@@ -1,7 +1,7 @@
 use Rattle.std.proofs.Common.{refl, ◌≡◌}
 use Rattle.std.specs.List.{each_same}
 use Rattle.std.proofs.lemmas.List.{map-append}
-use Rattle.imap_shapes.proofs.search.hold.Goals as goal
+use Rattle.imap_sections.proofs.search.hold.Goals as goal
 
 pub returns : goal.returns
 returns c =

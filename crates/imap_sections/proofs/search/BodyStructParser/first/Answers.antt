@@ -1,10 +1,10 @@
 use Rattle.std.proofs.Common.{false, subst, refl, All, Some, ◌∙◌}
 use Rattle.std.proofs.lemmas.List.{take_all}
 use Rattle.std.specs.Fn.{FnReturnsAt}
-use Rattle.imap_shapes.specs.Search.{FindsFirst}
-use Rattle.imap_shapes.specs.declared.search.Part.{Part}
-use Rattle.imap_shapes.proofs.Visits.{found_here, not_here}
-use Rattle.imap_shapes.proofs.search.BodyStructParser.first.Goals as goal
+use Rattle.imap_sections.specs.Search.{FindsFirst}
+use Rattle.imap_sections.specs.declared.search.Part.{Part}
+use Rattle.imap_sections.proofs.Visits.{found_here, not_here}
+use Rattle.imap_sections.proofs.search.BodyStructParser.first.Goals as goal
 
 pub returns-then-f : goal.returns-then-f
 returns-then-f g c =
