@@ -1,4 +1,4 @@
-//! What spans name in a message: the real values of attributes that are kept as spans.
+//! From spans to values: what they name in a message.
 
 ghost use Rattle.std.specs.Prelude.{◌≡◌, IfOk};
 ghost use Rattle.imap_grammar.specs.Positions.{named_in};

@@ -1,4 +1,4 @@
-//! One map a type over its texts: owned values and what spans name are instances of it.
+//! For each type, a map that changes its texts: into owned ones, or from spans to what they name in a message.
 
 /// The value that `$made` is `Ok` of. Where `$made` is an error, the values `$before` are dropped, and the error is
 /// returned from the function.

@@ -142,8 +142,8 @@ fn mime(m: &[u8], p: usize) -> Reached<MessageSection>
     Ok((p, MessageSection::Mime))
 }
 
-/// What of a message is meant (RFC 3501, section 9: section-msgtext). No memory: names of header fields are read and
-/// dropped.
+/// What of a message is meant (RFC 3501, section 9: section-msgtext). What begins with neither `HEADER` nor `TEXT` is
+/// `Error`. No memory: names of header fields are read and dropped.
 #[tactic(auto, using(imap_grammar::proofs::Memory::exactly_never_at, crate::proofs::SectionFirstBytes::msgtext_none, crate::proofs::SectionFirstBytes::msgtext_is_header, crate::proofs::SectionFirstBytes::msgtext_is_text, crate::proofs::SectionFirstBytes::msgtext_other))]
 #[inline(always)]
 pub fn section_msgtext(m: &[u8], p: usize) -> Reached<MessageSection>
@@ -161,7 +161,8 @@ pub fn section_msgtext(m: &[u8], p: usize) -> Reached<MessageSection>
     }
 }
 
-/// What of a part is meant (RFC 3501, section 9: section-text). No memory.
+/// What of a part is meant (RFC 3501, section 9: section-text). What begins with none of `HEADER`, `TEXT` and `MIME` is
+/// `Error`. No memory.
 #[tactic(auto, unfolding(crate::specs::Sections::section_text))]
 pub fn section_text(m: &[u8], p: usize) -> Reached<MessageSection>
     requires { p ≤ length m.now }
@@ -182,7 +183,9 @@ fn dotted_number(m: &[u8], p: usize) -> Reached<u32>
     number(m, p)
 }
 
-/// The path of a part (RFC 3501, section 9: section-part). It takes memory for the path.
+/// The path of a part: numbers with dots between (RFC 3501, section 9: section-part, zero allowed).
+///
+/// No digit in front, or a first number past 32 bits, is `Error`. It takes memory for the path.
 #[tactic(auto, unfolding(crate::specs::Sections::section_part))]
 pub fn section_part(alloc: Global, m: &[u8], p: usize) -> Reached<Vec<u32>>
     requires { p ≤ length m.now }
@@ -227,8 +230,10 @@ fn part_path(alloc: Global, m: &[u8], p: usize) -> Reached<SectionPath>
     Ok((p, SectionPath::Part(numbers, what)))
 }
 
-/// What of a message is meant, or of which part (RFC 3501, section 9: section-spec). It takes memory for the path of
-/// a part.
+/// What of a message is meant, or of which part (RFC 3501, section 9: section-spec).
+///
+/// What begins with none of `HEADER`, `TEXT` and a number below 2^32 is `Error`; so is `MIME`, which is of parts alone.
+/// It takes memory for the path of a part.
 #[tactic(auto, unfolding(crate::specs::Sections::section_spec))]
 pub fn section_spec(alloc: Global, m: &[u8], p: usize) -> Reached<SectionPath>
     requires { p ≤ length m.now }
@@ -247,7 +252,9 @@ fn maybe_spec(alloc: Global, m: &[u8], p: usize) -> Reached<Option<SectionPath>>
     maybe!(section_spec(alloc, m, p), p)
 }
 
-/// A section in brackets, maybe an empty one (RFC 3501, section 9: section). It takes memory for the path of a part.
+/// A section in brackets, `None` where they are empty (RFC 3501, section 9: section).
+///
+/// No `[`, or behind it neither `]` nor a section and then `]`, is `Error`. It takes memory for the path of a part.
 #[tactic(auto, unfolding(crate::specs::Sections::section))]
 pub fn section(alloc: Global, m: &[u8], p: usize) -> Reached<Option<SectionPath>>
     requires { p ≤ length m.now }

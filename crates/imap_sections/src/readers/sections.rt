@@ -12,7 +12,7 @@ use imap_bytes::IResult;
 use imap_bytes::at::span::rest;
 use std::alloc::Global;
 
-/// The path of a part: numbers by dots (RFC 3501, section 9: section-part, zero allowed).
+/// The path of a part: numbers with dots between (RFC 3501, section 9: section-part, zero allowed).
 ///
 /// No digit in front, or a first number past 32 bits, is `Error`. It takes memory for the path.
 #[tactic(auto, using(imap_grammar::proofs::Agreement::answered))]
@@ -27,7 +27,8 @@ pub fn section_part(alloc: Global, i: &[u8]) -> IResult<&[u8], Vec<u32>>
 /// `HEADER`, `HEADER.FIELDS` or `HEADER.FIELDS.NOT` with names of header fields, or `TEXT` (RFC 3501, section 9:
 /// section-msgtext).
 ///
-/// It takes no memory: the names are read and dropped. Where the names are denied, `HEADER` alone is read.
+/// What begins with neither `HEADER` nor `TEXT` is `Error`. Where the names are denied, `HEADER` alone is read. It takes
+/// no memory: the names are read and dropped.
 #[tactic(auto, using(imap_grammar::proofs::Agreement::exact_answered))]
 pub fn section_msgtext(i: &[u8]) -> IResult<&[u8], MessageSection>
     ensures steps { StepsExactly sections.section_msgtext (λ x. x) i.now result }
@@ -40,7 +41,7 @@ pub fn section_msgtext(i: &[u8]) -> IResult<&[u8], MessageSection>
 
 /// A section in brackets, `None` where they are empty (RFC 3501, section 9: section).
 ///
-/// No `[`, or what is no section in the brackets, is `Error`. It takes memory for the path of a part.
+/// No `[`, or behind it neither `]` nor a section and then `]`, is `Error`. It takes memory for the path of a part.
 #[tactic(auto, using(imap_grammar::proofs::Agreement::answered))]
 pub fn section(alloc: Global, i: &[u8]) -> IResult<&[u8], Option<SectionPath>>
     ensures steps { Steps sections.section (option_map path_value) i.now result }
@@ -51,7 +52,9 @@ pub fn section(alloc: Global, i: &[u8]) -> IResult<&[u8], Option<SectionPath>>
 }
 
 impl MessageSection {
-    /// What `section_msgtext` reads, or `MIME` (RFC 3501, section 9: section-text). It takes no memory.
+    /// What `section_msgtext` reads, or `MIME` (RFC 3501, section 9: section-text).
+    ///
+    /// What begins with none of `HEADER`, `TEXT` and `MIME` is `Error`. It takes no memory.
     #[tactic(auto, using(imap_grammar::proofs::Agreement::exact_answered))]
     pub fn parse(i: &[u8]) -> IResult<&[u8], MessageSection>
         ensures steps { StepsExactly sections.section_text (λ x. x) i.now result }
@@ -66,7 +69,8 @@ impl MessageSection {
 impl SectionPath {
     /// What of a message is meant, or of which part (RFC 3501, section 9: section-spec).
     ///
-    /// It takes memory for the path of a part.
+    /// What begins with none of `HEADER`, `TEXT` and a number below 2^32 is `Error`; so is `MIME`, which is of parts
+    /// alone. It takes memory for the path of a part.
     #[tactic(auto, using(imap_grammar::proofs::Agreement::answered))]
     pub fn parse(alloc: Global, i: &[u8]) -> IResult<&[u8], SectionPath>
         ensures steps { Steps sections.section_spec path_value i.now result }
