@@ -2,3 +2,4 @@ pub mod SectionFirstBytes
 pub mod SectionTexts
 pub mod Equality
 pub mod Visits
+pub mod Memory

@@ -1,6 +1,6 @@
 //! Part search: the path of the first body at which a predicate holds.
 
-ghost use Rattle.std.specs.Prelude.{◌≡◌, ◌++◌, ◌∷◌, ℕ, [], true, false, Some, Err, map, slice_get, IfOk, OnOk, IfErr};
+ghost use Rattle.std.specs.Prelude.{◌≡◌, ◌++◌, ◌∷◌, ℕ, List, [], true, false, Some, Err, map, slice_get, IfOk, OnOk, IfErr};
 ghost use Rattle.std.specs.Option.{option_map};
 ghost use Rattle.std.specs.Fn.{FnReturnsAt};
 ghost use Rattle.imap_grammar.specs.Text.{text_of};
@@ -130,8 +130,8 @@ impl<'b, 'a> BodyStructParser<'b, 'a> {
         Ok(BodyStructParser { parts })
     }
 
-    /// The path of the first body at which f holds, and `None` where it holds at none. It takes memory for the path;
-    /// `Err`: memory ran out.
+    /// The path of the first body at which f holds, and `None` where it holds at none. It takes memory for that path
+    /// alone; `Err`: memory ran out.
     ///
     /// Joined by dots, a path is the section of its part. The empty path is root's: where root is no multipart, its
     /// section is `1` (RFC 3501, section 6.4.5).
@@ -144,9 +144,12 @@ impl<'b, 'a> BodyStructParser<'b, 'a> {
         requires { (i : ℕ) (part : _) →
             slice_get (parts_of self.now) i ≡ Some part →
             F.pre f part.body }
-        ensures { IfOk result (λ found.
+        ensures first { IfOk result (λ found.
             FindsFirst (λ p. FnReturnsAt F.Fn f p.body.now) (λ p. p.path.items) (parts_of self.now)
             (option_map (λ v. v.items) found)) }
+        ensures memory { IfErr result (λ e. (found : List ℕ)
+            × FindsFirst (λ p. FnReturnsAt F.Fn f p.body.now) (λ p. p.path.items)
+            (parts_of self.now) (Some found)) }
     {
         let Some(part) = self.first(f) else {
             return Ok(None);

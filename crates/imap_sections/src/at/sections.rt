@@ -1,9 +1,12 @@
 //! Sections at a position.
 
-ghost use Rattle.std.specs.Prelude.{◌≤◌, length};
+ghost use Rattle.std.specs.Prelude.{◌≡◌, ◌≤◌, length, drop, IfErr, IsTrue};
 ghost use Rattle.std.specs.Option.{option_map};
 ghost use Rattle.imap_grammar.specs.Positions.{Ahead, named_in, StepsAt, StepsExactlyAt};
 ghost use Rattle.imap_grammar.specs.Memory.{NeverFails};
+ghost use Rattle.imap_grammar.specs.Meaning.{begins};
+ghost use Rattle.imap_grammar.specs.Classes.{is_digit};
+ghost use Rattle.imap_grammar.specs.declared.answer.Err.TheVariants.{Failure};
 ghost use Rattle.imap_grammar.specs.Rule.{opt, otherwise, ◌▹◌};
 ghost use Rattle.imap_grammar.specs.Tags as tags;
 ghost use Rattle.imap_bytes.specs.Strings as strings;
@@ -185,12 +188,14 @@ fn dotted_number(m: &[u8], p: usize) -> Reached<u32>
 
 /// The path of a part: numbers with dots between (RFC 3501, section 9: section-part, zero allowed).
 ///
-/// No digit in front, or a first number past 32 bits, is `Error`. It takes memory for the path.
+/// No digit in front, or a first number past 32 bits, is `Error`. It takes memory for the path, and none where no digit is in front.
 #[tactic(auto, unfolding(crate::specs::Sections::section_part))]
 pub fn section_part(alloc: Global, m: &[u8], p: usize) -> Reached<Vec<u32>>
     requires { p ≤ length m.now }
     ensures steps { StepsAt sections.section_part (λ x. x.items) m.now p result }
     ensures ahead { Ahead m.now p result }
+    ensures memory { IfErr result (λ e.
+        e ≡ Failure → IsTrue (begins is_digit (drop p m.now))) }
 {
     let (mut q, first) = number(m, p)?;
     let mut items = list_of_one(alloc, first)?;
@@ -224,6 +229,8 @@ fn part_path(alloc: Global, m: &[u8], p: usize) -> Reached<SectionPath>
     requires { p ≤ length m.now }
     ensures steps { StepsAt sections.part_path path_value m.now p result }
     ensures ahead { Ahead m.now p result }
+    ensures memory { IfErr result (λ e.
+        e ≡ Failure → IsTrue (begins is_digit (drop p m.now))) }
 {
     let (p, numbers) = section_part(alloc, m, p)?;
     let (p, what) = maybe_part_text(m, p)?;
@@ -233,12 +240,14 @@ fn part_path(alloc: Global, m: &[u8], p: usize) -> Reached<SectionPath>
 /// What of a message is meant, or of which part (RFC 3501, section 9: section-spec).
 ///
 /// What begins with none of `HEADER`, `TEXT` and a number below 2^32 is `Error`; so is `MIME`, which is of parts alone.
-/// It takes memory for the path of a part.
+/// It takes memory for the path of a part, and none where no digit is in front.
 #[tactic(auto, unfolding(crate::specs::Sections::section_spec))]
 pub fn section_spec(alloc: Global, m: &[u8], p: usize) -> Reached<SectionPath>
     requires { p ≤ length m.now }
     ensures steps { StepsAt sections.section_spec path_value m.now p result }
     ensures ahead { Ahead m.now p result }
+    ensures memory { IfErr result (λ e.
+        e ≡ Failure → IsTrue (begins is_digit (drop p m.now))) }
 {
     first!(section_msgtext(m, p), what => SectionPath::Full(what));
     part_path(alloc, m, p)

@@ -1,8 +1,11 @@
 //! Sections.
 
+ghost use Rattle.std.specs.Prelude.{IsTrue};
 ghost use Rattle.std.specs.Option.{option_map};
 ghost use Rattle.imap_grammar.specs.Answer.{Answers, Steps, StepsExactly};
-ghost use Rattle.imap_grammar.specs.Memory.{NeverFails};
+ghost use Rattle.imap_grammar.specs.Memory.{FailsOnlyIf, NeverFails};
+ghost use Rattle.imap_grammar.specs.Meaning.{begins};
+ghost use Rattle.imap_grammar.specs.Classes.{is_digit};
 ghost use Rattle.imap_sections.specs.Sections as sections;
 ghost use Rattle.imap_sections.specs.SectionValues.{path_value};
 
@@ -14,11 +17,12 @@ use std::alloc::Global;
 
 /// The path of a part: numbers with dots between (RFC 3501, section 9: section-part, zero allowed).
 ///
-/// No digit in front, or a first number past 32 bits, is `Error`. It takes memory for the path.
+/// No digit in front, or a first number past 32 bits, is `Error`. It takes memory for the path, and none where no digit is in front.
 #[tactic(auto, using(imap_grammar::proofs::Agreement::answered))]
 pub fn section_part(alloc: Global, i: &[u8]) -> IResult<&[u8], Vec<u32>>
     ensures steps { Steps sections.section_part (λ x. x.items) i.now result }
     ensures answer { Answers sections.section_part (λ x. x.items) i.now result }
+    ensures memory { FailsOnlyIf (IsTrue (begins is_digit i.now)) result }
 {
     let (q, path) = at::sections::section_part(alloc, i, 0)?;
     Ok((rest(i, q), path))
@@ -70,11 +74,12 @@ impl SectionPath {
     /// What of a message is meant, or of which part (RFC 3501, section 9: section-spec).
     ///
     /// What begins with none of `HEADER`, `TEXT` and a number below 2^32 is `Error`; so is `MIME`, which is of parts
-    /// alone. It takes memory for the path of a part.
+    /// alone. It takes memory for the path of a part, and none where no digit is in front.
     #[tactic(auto, using(imap_grammar::proofs::Agreement::answered))]
     pub fn parse(alloc: Global, i: &[u8]) -> IResult<&[u8], SectionPath>
         ensures steps { Steps sections.section_spec path_value i.now result }
         ensures answer { Answers sections.section_spec path_value i.now result }
+        ensures memory { FailsOnlyIf (IsTrue (begins is_digit i.now)) result }
     {
         let (q, path) = at::sections::section_spec(alloc, i, 0)?;
         Ok((rest(i, q), path))
