@@ -12,7 +12,7 @@ use imap_sections::SectionPath;
 use imap_shapes::made;
 use imap_shapes::maps::change::{BodyChange, Change};
 use imap_shapes::maps::envelopes::mapped_envelope;
-use imap_shapes::maps::parts::{mapped_list, mapped_text};
+use imap_shapes::maps::parts::{mapped_optional_text, mapped_texts};
 use std::alloc::{AllocError, Global};
 
 fn copied_section(
@@ -58,33 +58,37 @@ impl<S: Drop, B: Drop, Y: Drop> Parts<S, B, Y> {
             } => others.push_reserved(Parts::BodySection {
                 section: copied_section(alloc, section)?,
                 index: *index,
-                contents: mapped_text(d, contents)?,
+                contents: mapped_optional_text(d, contents)?,
             }),
             Parts::BodyStructure(body) => return push_body(e, body, others),
             Parts::Envelope(envelope) => others.push_reserved(Parts::Envelope(mapped_envelope(
                 alloc, d, envelope,
             )?)),
-            Parts::Flags(flags) => others.push_reserved(Parts::Flags(mapped_list(
+            Parts::Flags(flags) => others.push_reserved(Parts::Flags(mapped_texts(
                 alloc, c, flags,
             )?)),
             Parts::InternalDate(date) => others.push_reserved(Parts::InternalDate(c.change(date)?)),
             Parts::ModSeq(n) => others.push_reserved(Parts::ModSeq(*n)),
-            Parts::Rfc822(message) => others.push_reserved(Parts::Rfc822(mapped_text(d, message)?)),
-            Parts::Rfc822Header(header) => others.push_reserved(Parts::Rfc822Header(mapped_text(
-                d, header,
+            Parts::Rfc822(message) => others.push_reserved(Parts::Rfc822(mapped_optional_text(
+                d, message,
             )?)),
+            Parts::Rfc822Header(header) => others.push_reserved(Parts::Rfc822Header(
+                mapped_optional_text(d, header)?,
+            )),
             Parts::Rfc822Size(n) => others.push_reserved(Parts::Rfc822Size(*n)),
-            Parts::Rfc822Text(text) => others.push_reserved(Parts::Rfc822Text(mapped_text(
+            Parts::Rfc822Text(text) => others.push_reserved(Parts::Rfc822Text(mapped_optional_text(
                 d, text,
             )?)),
             Parts::Uid(n) => others.push_reserved(Parts::Uid(*n)),
-            Parts::GmailLabels(labels) => others.push_reserved(Parts::GmailLabels(mapped_list(
+            Parts::GmailLabels(labels) => others.push_reserved(Parts::GmailLabels(mapped_texts(
                 alloc, c, labels,
             )?)),
             Parts::GmailMsgId(n) => others.push_reserved(Parts::GmailMsgId(*n)),
             Parts::GmailThrId(n) => others.push_reserved(Parts::GmailThrId(*n)),
             Parts::EmailId(id) => others.push_reserved(Parts::EmailId(c.change(id)?)),
-            Parts::ThreadId(id) => others.push_reserved(Parts::ThreadId(mapped_text(c, id)?)),
+            Parts::ThreadId(id) => others.push_reserved(Parts::ThreadId(mapped_optional_text(
+                c, id,
+            )?)),
             Parts::Unknown => others.push_reserved(Parts::Unknown),
         }
         Ok(())

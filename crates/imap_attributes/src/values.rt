@@ -14,7 +14,7 @@ impl AttributeSpans {
     pub fn value<'a>(&self, alloc: Global, m: &'a [u8]) -> Result<AttributeValue<'a>, AllocError>
         ensures { IfOk result (λ v. attribute_value v ≡ parts_in (named_in m.now) self.now) }
     {
-        let texts = NamedTexts { alloc, m };
-        self.try_map(alloc, &texts, &NamedBytes { m }, &texts)
+        let texts = NamedTexts { alloc, message: m };
+        self.try_map(alloc, &texts, &NamedBytes { message: m }, &texts)
     }
 }

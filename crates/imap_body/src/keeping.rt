@@ -138,38 +138,38 @@ impl<'a> KeepAttribute for Named<'a> {
 
     ghost keeps = { λ k read kept.
         map attribute_value kept
-        ≡ map (attribute_said (λ n. text_of) (λ n. bytes_of) k.m.now) read };
+        ≡ map (attribute_said (λ n. text_of) (λ n. bytes_of) k.message.now) read };
 
     fn behind(&self, _m: &[u8], p: usize) -> Named<'a> {
-        let (_, m) = self.m.split_at(p);
+        let (_, message) = self.message.split_at(p);
         Named {
             alloc: self.alloc,
-            m,
+            message,
         }
     }
 
     fn flags(&self, alloc: Global, m: &[u8], p: usize) -> Reached<Vec<CowStr<'a>>>
         requires start { p ≤ length m.now }
-        requires serves { self.now.m.now ≡ m.now }
+        requires serves { self.now.message.now ≡ m.now }
         ensures steps { StepsAt flags.flag_list (λ x. map text_of x.items) m.now p result }
         ensures ahead { Ahead m.now p result }
         ensures rests { RestsOn (λ n x. map text_of x.items) result }
     {
-        let (_, i) = self.m.split_at(p);
+        let (_, i) = self.message.split_at(p);
         let (rest, flags) = readers::flag_list(alloc, i)?;
-        Ok((self.m.len() - rest.len(), flags))
+        Ok((self.message.len() - rest.len(), flags))
     }
 
     fn labels(&self, alloc: Global, m: &[u8], p: usize) -> Reached<Vec<CowStr<'a>>>
         requires start { p ≤ length m.now }
-        requires serves { self.now.m.now ≡ m.now }
+        requires serves { self.now.message.now ≡ m.now }
         ensures steps { StepsAt gmail.gmail_label_list (λ x. map text_of x.items) m.now p result }
         ensures ahead { Ahead m.now p result }
         ensures rests { RestsOn (λ n x. map text_of x.items) result }
     {
-        let (_, i) = self.m.split_at(p);
+        let (_, i) = self.message.split_at(p);
         let (rest, labels) = readers::gmail_label_list(alloc, i)?;
-        Ok((self.m.len() - rest.len(), labels))
+        Ok((self.message.len() - rest.len(), labels))
     }
 
     fn start(&self, alloc: Global) -> Result<Vec<AttributeValue<'a>>, AllocError> {
@@ -184,13 +184,13 @@ impl<'a> KeepAttribute for Named<'a> {
     ) -> Result<(), AllocError>
         ensures { (read : List (SpannedAttribute _ _)) →
             map attribute_value kept.old.items
-            ≡ map (attribute_said (λ n. text_of) (λ n. bytes_of) self.now.m.now) read →
+            ≡ map (attribute_said (λ n. text_of) (λ n. bytes_of) self.now.message.now) read →
             OnOk result
             (map attribute_value kept.new.items
-            ≡ map (attribute_said (λ n. text_of) (λ n. bytes_of) self.now.m.now)
+            ≡ map (attribute_said (λ n. text_of) (λ n. bytes_of) self.now.message.now)
             (read ++ attribute.entry ∷ [])) }
     {
-        attribute.push_value(self.m, kept)
+        attribute.push_value(self.message, kept)
     }
 }
 

@@ -70,7 +70,7 @@ pub struct Named<'a> {
     /// Where memory is taken for texts whose bytes are not UTF-8.
     pub alloc: Global,
     /// The message that is read.
-    pub m: &'a [u8],
+    pub message: &'a [u8],
 }
 
 impl<'a> Keep for Named<'a> {
@@ -78,7 +78,7 @@ impl<'a> Keep for Named<'a> {
 
     type Text = CowStr<'a>;
 
-    ghost serves = { λ k m. k.m.now ≡ m };
+    ghost serves = { λ k m. k.message.now ≡ m };
 
     ghost bytes_said = { λ n t. bytes_of t };
 
@@ -86,11 +86,11 @@ impl<'a> Keep for Named<'a> {
 
     // What it gives is borrowed from the message that it holds, so that it may outlive the loan of m.
     fn bytes(&self, _m: &[u8], span: Span) -> CowSlice<'a, u8> {
-        CowSlice::Borrowed(span.bytes(self.m))
+        CowSlice::Borrowed(span.bytes(self.message))
     }
 
     #[inline(always)]
     fn text(&self, _m: &[u8], text: SpannedText) -> Result<CowStr<'a>, AllocError> {
-        text.named_in(self.alloc, self.m)
+        text.named_in(self.alloc, self.message)
     }
 }

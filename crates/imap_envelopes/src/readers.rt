@@ -36,6 +36,6 @@ pub fn envelope(alloc: Global, i: &[u8]) -> IResult<&[u8], Envelope<'_>>
     ensures steps { Steps envelopes.envelope (envelope_seen bytes_of) i.now result }
     ensures answer { Answers envelopes.envelope (envelope_seen bytes_of) i.now result }
 {
-    let (q, envelope) = at::envelopes::envelope(&Named { alloc, m: i }, alloc, i, 0)?;
+    let (q, envelope) = at::envelopes::envelope(&Named { alloc, message: i }, alloc, i, 0)?;
     Ok((rest(i, q), envelope))
 }

@@ -48,6 +48,10 @@ impl shapes::bodies::BodyStructure<SpannedText, Span> {
             body_seen text_of bytes_of b
             ≡ body_seen (text_in (named_in m.now)) (bytes_in (named_in m.now)) self.now) }
     {
-        self.try_map(alloc, &NamedTexts { alloc, m }, &NamedBytes { m })
+        self.try_map(
+            alloc,
+            &NamedTexts { alloc, message: m },
+            &NamedBytes { message: m },
+        )
     }
 }

@@ -70,6 +70,6 @@ pub fn attribute_list(alloc: Global, i: &[u8]) -> IResult<&[u8], Vec<AttributeVa
     ensures steps { Steps rules.attribute_list (λ x. map attribute_value x.items) i.now result }
     ensures answer { Answers rules.attribute_list (λ x. map attribute_value x.items) i.now result }
 {
-    let (q, values) = made!(kept_list(&Named { alloc, m: i }, alloc, i, 0));
+    let (q, values) = made!(kept_list(&Named { alloc, message: i }, alloc, i, 0));
     Ok((rest(i, q), values))
 }

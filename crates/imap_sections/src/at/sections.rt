@@ -188,7 +188,8 @@ fn dotted_number(m: &[u8], p: usize) -> Reached<u32>
 
 /// The path of a part: numbers with dots between (RFC 3501, section 9: section-part, zero allowed).
 ///
-/// No digit in front, or a first number past 32 bits, is `Error`. It takes memory for the path, and none where no digit is in front.
+/// No digit in front, or a first number past 32 bits, is `Error`. It takes memory for the path, and none without a digit
+/// in front.
 #[tactic(auto, unfolding(crate::specs::Sections::section_part))]
 pub fn section_part(alloc: Global, m: &[u8], p: usize) -> Reached<Vec<u32>>
     requires { p ≤ length m.now }
@@ -240,7 +241,7 @@ fn part_path(alloc: Global, m: &[u8], p: usize) -> Reached<SectionPath>
 /// What of a message is meant, or of which part (RFC 3501, section 9: section-spec).
 ///
 /// What begins with none of `HEADER`, `TEXT` and a number below 2^32 is `Error`; so is `MIME`, which is of parts alone.
-/// It takes memory for the path of a part, and none where no digit is in front.
+/// It takes memory for the path of a part, and none without a digit in front.
 #[tactic(auto, unfolding(crate::specs::Sections::section_spec))]
 pub fn section_spec(alloc: Global, m: &[u8], p: usize) -> Reached<SectionPath>
     requires { p ≤ length m.now }

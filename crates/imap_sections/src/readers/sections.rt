@@ -17,7 +17,8 @@ use std::alloc::Global;
 
 /// The path of a part: numbers with dots between (RFC 3501, section 9: section-part, zero allowed).
 ///
-/// No digit in front, or a first number past 32 bits, is `Error`. It takes memory for the path, and none where no digit is in front.
+/// No digit in front, or a first number past 32 bits, is `Error`. It takes memory for the path, and none without a digit
+/// in front.
 #[tactic(auto, using(imap_grammar::proofs::Agreement::answered))]
 pub fn section_part(alloc: Global, i: &[u8]) -> IResult<&[u8], Vec<u32>>
     ensures steps { Steps sections.section_part (λ x. x.items) i.now result }
@@ -31,8 +32,9 @@ pub fn section_part(alloc: Global, i: &[u8]) -> IResult<&[u8], Vec<u32>>
 /// `HEADER`, `HEADER.FIELDS` or `HEADER.FIELDS.NOT` with names of header fields, or `TEXT` (RFC 3501, section 9:
 /// section-msgtext).
 ///
-/// What begins with neither `HEADER` nor `TEXT` is `Error`. Where the names are denied, `HEADER` alone is read. It takes
-/// no memory: the names are read and dropped.
+/// What begins with neither `HEADER` nor `TEXT` is `Error`. Where the names are denied, `HEADER` alone is read.
+///
+/// It takes no memory: the names are read and dropped.
 #[tactic(auto, using(imap_grammar::proofs::Agreement::exact_answered))]
 pub fn section_msgtext(i: &[u8]) -> IResult<&[u8], MessageSection>
     ensures steps { StepsExactly sections.section_msgtext (λ x. x) i.now result }
@@ -74,7 +76,7 @@ impl SectionPath {
     /// What of a message is meant, or of which part (RFC 3501, section 9: section-spec).
     ///
     /// What begins with none of `HEADER`, `TEXT` and a number below 2^32 is `Error`; so is `MIME`, which is of parts
-    /// alone. It takes memory for the path of a part, and none where no digit is in front.
+    /// alone. It takes memory for the path of a part, and none without a digit in front.
     #[tactic(auto, using(imap_grammar::proofs::Agreement::answered))]
     pub fn parse(alloc: Global, i: &[u8]) -> IResult<&[u8], SectionPath>
         ensures steps { Steps sections.section_spec path_value i.now result }

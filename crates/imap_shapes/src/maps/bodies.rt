@@ -9,7 +9,7 @@ ghost use Rattle.imap_shapes.specs.BodyValues.{type_seen, common_seen, single_se
 use super::change::Change;
 use super::extensions::{mapped_disposition, mapped_extension};
 use super::fields::mapped_params;
-use super::parts::{mapped_text, mapped_texts};
+use super::parts::{mapped_optional_text, mapped_optional_texts};
 use crate::shapes::bodies::{BodyContentCommon, BodyContentSinglePart, BodyStructure, ContentType};
 use crate::shapes::extensions::BodyExtension;
 use std::alloc::{AllocError, Global};
@@ -43,8 +43,17 @@ impl<S> BodyContentCommon<S> {
     {
         let ty = made!(self.ty.try_map(alloc, c));
         let disposition = made!(mapped_disposition(alloc, c, &self.disposition), ty);
-        let language = made!(mapped_texts(alloc, c, &self.language), disposition, ty);
-        let location = made!(mapped_text(c, &self.location), language, disposition, ty);
+        let language = made!(
+            mapped_optional_texts(alloc, c, &self.language),
+            disposition,
+            ty
+        );
+        let location = made!(
+            mapped_optional_text(c, &self.location),
+            language,
+            disposition,
+            ty
+        );
         Ok(BodyContentCommon {
             ty,
             disposition,
@@ -64,9 +73,9 @@ impl<S> BodyContentSinglePart<S> {
         ensures { IfOk result (λ x. single_seen C.after x ≡ single_seen (C.before c.now) self.now) }
     {
         Ok(BodyContentSinglePart {
-            id: mapped_text(c, &self.id)?,
-            md5: mapped_text(c, &self.md5)?,
-            description: mapped_text(c, &self.description)?,
+            id: mapped_optional_text(c, &self.id)?,
+            md5: mapped_optional_text(c, &self.md5)?,
+            description: mapped_optional_text(c, &self.description)?,
             transfer_encoding: self.transfer_encoding.try_map(c)?,
             octets: self.octets,
         })

@@ -81,18 +81,18 @@ impl<'a, 'b> BodyChange<BodyStructure<'a>> for Owning<'b> {
 #[derive(Drop)]
 pub struct NamedBytes<'a> {
     /// The message.
-    pub m: &'a [u8],
+    pub message: &'a [u8],
 }
 
 impl<'a> Change<Span> for NamedBytes<'a> {
     type To = CowSlice<'a, u8>;
 
-    ghost before = { λ c s. bytes_in (named_in c.m.now) s };
+    ghost before = { λ c s. bytes_in (named_in c.message.now) s };
 
     ghost after = { bytes_of };
 
     fn change(&self, x: &Span) -> Result<CowSlice<'a, u8>, AllocError> {
-        Ok(CowSlice::Borrowed(x.part(self.m)))
+        Ok(CowSlice::Borrowed(x.part(self.message)))
     }
 }
 
@@ -102,18 +102,18 @@ pub struct NamedTexts<'a> {
     /// Where memory is taken for texts whose bytes are not UTF-8, and for bodies.
     pub alloc: Global,
     /// The message.
-    pub m: &'a [u8],
+    pub message: &'a [u8],
 }
 
 impl<'a> Change<SpannedText> for NamedTexts<'a> {
     type To = CowStr<'a>;
 
-    ghost before = { λ c s. text_in (named_in c.m.now) s };
+    ghost before = { λ c s. text_in (named_in c.message.now) s };
 
     ghost after = { text_of };
 
     fn change(&self, x: &SpannedText) -> Result<CowStr<'a>, AllocError> {
-        x.named_in(self.alloc, self.m)
+        x.named_in(self.alloc, self.message)
     }
 }
 
@@ -121,7 +121,7 @@ impl<'a> BodyChange<Box<shapes::bodies::BodyStructure<SpannedText, Span>>> for N
     type To = BodyStructure<'a>;
 
     ghost before = { λ c b.
-        body_seen (text_in (named_in c.m.now)) (bytes_in (named_in c.m.now)) b.value };
+        body_seen (text_in (named_in c.message.now)) (bytes_in (named_in c.message.now)) b.value };
 
     ghost after = { body_seen text_of bytes_of };
 
@@ -129,6 +129,6 @@ impl<'a> BodyChange<Box<shapes::bodies::BodyStructure<SpannedText, Span>>> for N
         &self,
         body: &Box<shapes::bodies::BodyStructure<SpannedText, Span>>,
     ) -> Result<BodyStructure<'a>, AllocError> {
-        body.value(self.alloc, self.m)
+        body.value(self.alloc, self.message)
     }
 }

@@ -4,7 +4,7 @@ ghost use Rattle.std.specs.Prelude.{◌≡◌, IfOk, map};
 ghost use Rattle.imap_shapes.specs.EnvelopeValues.{address_seen, addresses_seen, envelope_seen};
 
 use super::change::Change;
-use super::parts::mapped_text;
+use super::parts::mapped_optional_text;
 use crate::shapes::envelopes::{Address, Envelope};
 use std::alloc::{AllocError, Global};
 
@@ -15,15 +15,15 @@ impl<B> Address<B> {
             address_seen C.after a ≡ address_seen (C.before c.now) self.now) }
     {
         Ok(Address {
-            name: mapped_text(c, &self.name)?,
-            adl: mapped_text(c, &self.adl)?,
-            mailbox: mapped_text(c, &self.mailbox)?,
-            host: mapped_text(c, &self.host)?,
+            name: mapped_optional_text(c, &self.name)?,
+            adl: mapped_optional_text(c, &self.adl)?,
+            mailbox: mapped_optional_text(c, &self.mailbox)?,
+            host: mapped_optional_text(c, &self.host)?,
         })
     }
 }
 
-fn mapped_list<B, C: Change<B>>(
+fn mapped_address_list<B, C: Change<B>>(
     alloc: Global,
     c: &C,
     addresses: &Vec<Address<B>>,
@@ -50,7 +50,7 @@ fn mapped_addresses<B, C: Change<B>>(
 {
     match addresses {
         None => Ok(None),
-        Some(addresses) => Ok(Some(mapped_list(alloc, c, addresses)?)),
+        Some(addresses) => Ok(Some(mapped_address_list(alloc, c, addresses)?)),
     }
 }
 
@@ -63,16 +63,16 @@ impl<B> Envelope<B> {
             envelope_seen C.after e ≡ envelope_seen (C.before c.now) self.now) }
     {
         Ok(Envelope {
-            date: mapped_text(c, &self.date)?,
-            subject: mapped_text(c, &self.subject)?,
+            date: mapped_optional_text(c, &self.date)?,
+            subject: mapped_optional_text(c, &self.subject)?,
             from: mapped_addresses(alloc, c, &self.from)?,
             sender: mapped_addresses(alloc, c, &self.sender)?,
             reply_to: mapped_addresses(alloc, c, &self.reply_to)?,
             to: mapped_addresses(alloc, c, &self.to)?,
             cc: mapped_addresses(alloc, c, &self.cc)?,
             bcc: mapped_addresses(alloc, c, &self.bcc)?,
-            in_reply_to: mapped_text(c, &self.in_reply_to)?,
-            message_id: mapped_text(c, &self.message_id)?,
+            in_reply_to: mapped_optional_text(c, &self.in_reply_to)?,
+            message_id: mapped_optional_text(c, &self.message_id)?,
         })
     }
 }

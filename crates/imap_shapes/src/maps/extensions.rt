@@ -6,7 +6,7 @@ ghost use Rattle.imap_shapes.specs.ExtensionValues.{disposition_seen, extension_
 
 use super::change::Change;
 use super::fields::mapped_params;
-use super::parts::{mapped_text, mapped_texts};
+use super::parts::{mapped_optional_text, mapped_optional_texts};
 use crate::shapes::extensions::{BodyExt1Part, BodyExtMPart, BodyExtension, ContentDisposition};
 use std::alloc::{AllocError, Global};
 
@@ -54,7 +54,7 @@ impl<S> BodyExtension<S> {
     {
         match self {
             BodyExtension::Num(n) => Ok(BodyExtension::Num(*n)),
-            BodyExtension::Str(text) => Ok(BodyExtension::Str(mapped_text(c, text)?)),
+            BodyExtension::Str(text) => Ok(BodyExtension::Str(mapped_optional_text(c, text)?)),
             BodyExtension::List(members) => {
                 let mut mapped = Vec::with_capacity(alloc, members.len())?;
                 for member in members {
@@ -93,10 +93,10 @@ impl<S> BodyExt1Part<S> {
             ext_1part_seen C.after x ≡ ext_1part_seen (C.before c.now) self.now) }
     {
         Ok(BodyExt1Part {
-            md5: mapped_text(c, &self.md5)?,
+            md5: mapped_optional_text(c, &self.md5)?,
             disposition: mapped_disposition(alloc, c, &self.disposition)?,
-            language: mapped_texts(alloc, c, &self.language)?,
-            location: mapped_text(c, &self.location)?,
+            language: mapped_optional_texts(alloc, c, &self.language)?,
+            location: mapped_optional_text(c, &self.location)?,
             extension: mapped_extension(alloc, c, &self.extension)?,
         })
     }
@@ -116,8 +116,8 @@ impl<S> BodyExtMPart<S> {
         Ok(BodyExtMPart {
             param: mapped_params(alloc, c, &self.param)?,
             disposition: mapped_disposition(alloc, c, &self.disposition)?,
-            language: mapped_texts(alloc, c, &self.language)?,
-            location: mapped_text(c, &self.location)?,
+            language: mapped_optional_texts(alloc, c, &self.language)?,
+            location: mapped_optional_text(c, &self.location)?,
             extension: mapped_extension(alloc, c, &self.extension)?,
         })
     }

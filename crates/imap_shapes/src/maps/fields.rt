@@ -4,7 +4,7 @@ ghost use Rattle.std.specs.Prelude.{◌≡◌, IfOk, map};
 ghost use Rattle.imap_shapes.specs.FieldValues.{pair_seen, params_seen, encoding_seen, fields_seen};
 
 use super::change::Change;
-use super::parts::mapped_text;
+use super::parts::mapped_optional_text;
 use crate::shapes::fields::{BodyFields, BodyParams, ContentEncoding};
 use std::alloc::{AllocError, Global};
 
@@ -66,8 +66,8 @@ impl<S> BodyFields<S> {
     {
         Ok(BodyFields {
             param: mapped_params(alloc, c, &self.param)?,
-            id: mapped_text(c, &self.id)?,
-            description: mapped_text(c, &self.description)?,
+            id: mapped_optional_text(c, &self.id)?,
+            description: mapped_optional_text(c, &self.description)?,
             transfer_encoding: self.transfer_encoding.try_map(c)?,
             octets: self.octets,
         })

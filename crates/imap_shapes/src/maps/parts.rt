@@ -1,6 +1,6 @@
 //! Maps of texts that may be missing, and of lists of texts.
 
-ghost use Rattle.std.specs.Prelude.{◌≡◌, IfOk, map};
+ghost use Rattle.std.specs.Prelude.{◌≡◌, None, IfOk, IsOk, map};
 ghost use Rattle.std.specs.Option.{option_map};
 ghost use Rattle.imap_shapes.specs.ExtensionValues.{languages_seen};
 
@@ -8,8 +8,13 @@ use super::change::Change;
 use std::alloc::{AllocError, Global};
 
 /// A text that may be missing, changed. It takes memory only where c does; `Err`: memory ran out.
-pub fn mapped_text<X, C: Change<X>>(c: &C, text: &Option<X>) -> Result<Option<C::To>, AllocError>
-    ensures { IfOk result (λ t. option_map C.after t ≡ option_map (C.before c.now) text.now) }
+pub fn mapped_optional_text<X, C: Change<X>>(
+    c: &C,
+    text: &Option<X>,
+) -> Result<Option<C::To>, AllocError>
+    ensures changed { IfOk result (λ t.
+        option_map C.after t ≡ option_map (C.before c.now) text.now) }
+    ensures memory { text.now ≡ None → IsOk result }
 {
     match text {
         None => Ok(None),
@@ -18,7 +23,7 @@ pub fn mapped_text<X, C: Change<X>>(c: &C, text: &Option<X>) -> Result<Option<C:
 }
 
 /// A list of texts, each of them changed. It takes memory for the list, and where c does; `Err`: memory ran out.
-pub fn mapped_list<X, C: Change<X>>(
+pub fn mapped_texts<X, C: Change<X>>(
     alloc: Global,
     c: &C,
     texts: &Vec<X>,
@@ -33,7 +38,7 @@ pub fn mapped_list<X, C: Change<X>>(
     Ok(mapped)
 }
 
-pub(crate) fn mapped_texts<X, C: Change<X>>(
+pub(crate) fn mapped_optional_texts<X, C: Change<X>>(
     alloc: Global,
     c: &C,
     texts: &Option<Vec<X>>,
@@ -43,6 +48,6 @@ pub(crate) fn mapped_texts<X, C: Change<X>>(
 {
     match texts {
         None => Ok(None),
-        Some(texts) => Ok(Some(mapped_list(alloc, c, texts)?)),
+        Some(texts) => Ok(Some(mapped_texts(alloc, c, texts)?)),
     }
 }

@@ -21,6 +21,6 @@ pub fn body_structure(alloc: Global, i: &[u8]) -> IResult<&[u8], BodyStructure<'
     ensures steps { Steps bodies.body_structure (body_seen text_of bytes_of) i.now result }
     ensures answer { Answers bodies.body_structure (body_seen text_of bytes_of) i.now result }
 {
-    let (q, body) = at::bodies::body_structure(&Named { alloc, m: i }, alloc, i, 0)?;
+    let (q, body) = at::bodies::body_structure(&Named { alloc, message: i }, alloc, i, 0)?;
     Ok((rest(i, q), Box::into_inner(body)))
 }

@@ -20,6 +20,6 @@ pub fn body_extension(alloc: Global, i: &[u8]) -> IResult<&[u8], BodyExtension<'
     ensures steps { Steps extensions.body_extension (extension_seen text_of) i.now result }
     ensures answer { Answers extensions.body_extension (extension_seen text_of) i.now result }
 {
-    let (q, extension) = at::extensions::body_extension(&Named { alloc, m: i }, alloc, i, 0)?;
+    let (q, extension) = at::extensions::body_extension(&Named { alloc, message: i }, alloc, i, 0)?;
     Ok((rest(i, q), extension))
 }

@@ -21,6 +21,6 @@ pub fn body_fields(alloc: Global, i: &[u8]) -> IResult<&[u8], BodyFields<'_>>
     ensures steps { Steps fields.body_fields (fields_seen text_of) i.now result }
     ensures answer { Answers fields.body_fields (fields_seen text_of) i.now result }
 {
-    let (q, fields) = at::fields::body_fields(&Named { alloc, m: i }, alloc, i, 0)?;
+    let (q, fields) = at::fields::body_fields(&Named { alloc, message: i }, alloc, i, 0)?;
     Ok((rest(i, q), fields))
 }

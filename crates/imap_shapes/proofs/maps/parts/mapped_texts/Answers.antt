@@ -1,6 +1,6 @@
 use Rattle.std.proofs.Common.{map, ◌∙◌, ◌++◌, ◌∷◌, [], ap}
 use Rattle.imap_shapes.proofs.Lists.{mapped_further, mapped_whole}
-use Rattle.imap_shapes.proofs.maps.parts.mapped_list.Goals as goal
+use Rattle.imap_shapes.proofs.maps.parts.mapped_texts.Goals as goal
 
 pub loop-text-preserved : goal.loop-text-preserved
 loop-text-preserved g c =

@@ -1,7 +1,7 @@
 use Rattle.std.proofs.Common.{map, ◌∙◌, ◌++◌, ◌∷◌, [], ap}
 use Rattle.imap_shapes.specs.EnvelopeValues.{address_seen}
 use Rattle.imap_shapes.proofs.Lists.{mapped_further, mapped_whole}
-use Rattle.imap_shapes.proofs.maps.envelopes.mapped_list.Goals as goal
+use Rattle.imap_shapes.proofs.maps.envelopes.mapped_address_list.Goals as goal
 
 pub loop-address-preserved : goal.loop-address-preserved
 loop-address-preserved g c =
