@@ -1,5 +1,5 @@
 -- To borrow all texts twice is to borrow them once: so a value with its texts borrowed is the same value.
-use Rattle.std.proofs.Common.{◌≡◌, [], ◌∷◌, None, Some, ap, ap₂, refl, map, sym, ◌∙◌}
+use Rattle.std.proofs.Common.{◌≡◌, true, [], ◌∷◌, None, Some, ap, ap₂, refl, map, sym, ◌∙◌}
 use Rattle.std.specs.Option.{option_map}
 use Rattle.std.specs.Cmp.Lexicographic.{nat_list_cmp_total}
 use Rattle.std.specs.FinMap.{get, same_map, slice_cmp-IsAntisymmetric, nat_cmp-IsAntisymmetric}
@@ -12,14 +12,10 @@ use Rattle.imap_extensions.specs.Quotas.{Storage, Message as MessageResource, At
 use Rattle.imap_extensions.specs.Ids.{lent_id}
 use Rattle.imap_extensions.specs.Acls.{lent_acl_entry, lent_acl}
 use Rattle.imap_extensions.proofs.Ids.{get-lent_id}
-use Rattle.imap_shapes.specs.declared.shapes.fields.ContentEncoding.TheVariants.{SevenBit, EightBit, Binary, Base64, QuotedPrintable, Other}
-use Rattle.imap_shapes.specs.ExtensionValues.{Num, Str, Listed as Members, no_extensions, one_extension}
-use Rattle.imap_shapes.specs.BodyValues.{Basic, TextBody, Message, Multipart, no_bodies, one_body}
-use Rattle.imap_shapes.specs.Lent.{lent_ntext, lent_address, lent_addresses, lent_envelope, lent_pair, lent_params, lent_encoding, lent_disposition, lent_extension, lent_extensions, lent_type, lent_common, lent_single, lent_last, lent_body, lent_bodies}
-use Rattle.imap_attributes.specs.AttributeValues.{BodySection, BodyStructure, Envelope, Flags as FlagsAttribute, InternalDate, ModSeq, Rfc822, Rfc822Header, Rfc822Size, Rfc822Text, Uid, GmailLabels as LabelsAttribute, GmailMsgId as MsgIdAttribute, GmailThrId as ThrIdAttribute, EmailId, ThreadId, Unknown}
 use Rattle.imap_attributes.specs.Changed.{lent_attribute}
 use Rattle.imap_proto.specs.Responses.{ResponseValue, Capabilities, Continue, Done, Data, Expunge, Vanished, Fetch, MailboxData, Quota, QuotaRoot, Id, Acl, ListRights, MyRights, lent_outcome, lent_response}
 use Rattle.imap_proto.specs.LineTexts.{Same}
+use Rattle.imap_proto.proofs.Marks.{attribute}
 
 abbrev Twice : {V : Type 0} → (V → V) → Type 0
 Twice {V} f = (v : V) → f (f v) ≡ f v
@@ -35,7 +31,7 @@ option-twice h (Some v) = ap (λ x. Some x) (h v)
 texts : Twice (map lent_text)
 texts = map-twice (λ t. refl)
 
-ntext : Twice lent_ntext
+ntext : Twice (option_map lent_text)
 ntext = option-twice (λ t. refl)
 
 -- ---- statuses, mailboxes
@@ -123,86 +119,6 @@ params : Twice lent_id
 params m = same_map nat_list_cmp_total (slice_cmp-IsAntisymmetric nat_cmp-IsAntisymmetric) _ _
     (λ q. get-lent_id (lent_id m) q ∙ ap (option_map lent_text) (get-lent_id m q) ∙ ntext (get m q) ∙ sym (get-lent_id m q))
 
--- ---- envelopes and bodies
-
-address : Twice lent_address
-address a = rw (ntext a.name, ntext a.adl, ntext a.mailbox, ntext a.host) refl
-
-addresses : Twice lent_addresses
-addresses = option-twice (map-twice address)
-
-envelope : Twice lent_envelope
-envelope e =
-    rw (ntext e.date, ntext e.subject, addresses e.from, addresses e.sender, addresses e.reply_to, addresses e.to, addresses e.cc, addresses e.bcc, ntext e.in_reply_to, ntext e.message_id) refl
-
-body_params : Twice lent_params
-body_params = option-twice (map-twice {f = lent_pair} (λ p. refl))
-
-encoding : Twice lent_encoding
-encoding SevenBit = refl
-encoding EightBit = refl
-encoding Binary = refl
-encoding Base64 = refl
-encoding QuotedPrintable = refl
-encoding (Other t) = refl
-
-disposition : Twice lent_disposition
-disposition d = rw (body_params d.params) refl
-
-mutual
-  extension : Twice lent_extension
-  extension (Num n) = refl
-  extension (Str t) = ap (λ x. Str x) (ntext t)
-  extension (Members es) = ap (λ x. Members x) (members es)
-
-  members : Twice lent_extensions
-  members no_extensions = refl
-  members (one_extension e es) = ap₂ (λ x xs. one_extension x xs) (extension e) (members es)
-
-last : Twice lent_last
-last = option-twice extension
-
-type : Twice lent_type
-type t = rw (body_params t.params) refl
-
-common : Twice lent_common
-common c = rw (type c.ty, option-twice disposition c.disposition, option-twice texts c.language, ntext c.location) refl
-
-single : Twice lent_single
-single s = rw (ntext s.id, ntext s.md5, ntext s.description, encoding s.transfer_encoding) refl
-
-mutual
-  body : Twice lent_body
-  body (Basic c s e) = rw (common c, single s, last e) refl
-  body (TextBody c s n e) = rw (common c, single s, last e) refl
-  body (Message c s v b n e) = rw (common c, single s, envelope v, body b, last e) refl
-  body (Multipart c bs e) = rw (common c, bodies bs, last e) refl
-
-  bodies : Twice lent_bodies
-  bodies no_bodies = refl
-  bodies (one_body b bs) = ap₂ (λ x xs. one_body x xs) (body b) (bodies bs)
-
--- ---- attributes
-
-attribute : Twice lent_attribute
-attribute (BodySection path origin contents) = ap (λ x. BodySection path origin x) (ntext contents)
-attribute (BodyStructure b) = ap (λ x. BodyStructure x) (body b)
-attribute (Envelope e) = ap (λ x. Envelope x) (envelope e)
-attribute (FlagsAttribute fs) = ap (λ x. FlagsAttribute x) (texts fs)
-attribute (InternalDate t) = refl
-attribute (ModSeq n) = refl
-attribute (Rfc822 t) = ap (λ x. Rfc822 x) (ntext t)
-attribute (Rfc822Header t) = ap (λ x. Rfc822Header x) (ntext t)
-attribute (Rfc822Size n) = refl
-attribute (Rfc822Text t) = ap (λ x. Rfc822Text x) (ntext t)
-attribute (Uid n) = refl
-attribute (LabelsAttribute ts) = ap (λ x. LabelsAttribute x) (texts ts)
-attribute (MsgIdAttribute n) = refl
-attribute (ThrIdAttribute n) = refl
-attribute (EmailId t) = refl
-attribute (ThreadId t) = ap (λ x. ThreadId x) (ntext t)
-attribute Unknown = refl
-
 -- ---- responses
 
 pub lent_is_same : (r : ResponseValue) → Same (lent_response r) r
@@ -212,7 +128,7 @@ lent_is_same (Done tag status o) = ap (λ x. Done tag status x) (outcome o)
 lent_is_same (Data status o) = ap (λ x. Data status x) (outcome o)
 lent_is_same (Expunge n) = refl
 lent_is_same (Vanished earlier uids) = refl
-lent_is_same (Fetch n attributes) = ap (λ x. Fetch n x) (map-twice attribute attributes)
+lent_is_same (Fetch n attributes) = ap (λ x. Fetch n x) (map-twice {f = lent_attribute} (attribute true) attributes)
 lent_is_same (MailboxData d) = ap (λ x. MailboxData x) (mailbox d)
 lent_is_same (Quota q) = ap (λ x. Quota x) (quota q)
 lent_is_same (QuotaRoot q) = ap (λ x. QuotaRoot x) (quota_root q)

@@ -9,6 +9,7 @@ ghost use Rattle.imap_proto.specs.Lines as rule;
 ghost use Rattle.imap_proto.specs.Streams.{SomeSplit, OneSplit, BeginningsWait, SplitsGoOn, FeedsSplit, CuttingsAlike};
 ghost use Rattle.imap_proto.specs.Feeds.{OneWhole, lent_whole};
 ghost use Rattle.imap_grammar.specs.ReadBack.{Spells};
+ghost use Rattle.imap_proto.specs.Owned.{owned_response};
 ghost use Rattle.imap_proto.specs.LineTexts.{spells_response, CanonicalReadsBack, Same};
 ghost use Rattle.imap_proto.specs.Responses.{ResponseValue, outcome_value, response_value, lent_outcome, lent_response};
 
@@ -60,6 +61,12 @@ pub fn read_back()
     ensures spells { Spells rule.response spells_response }
     ensures canonical { CanonicalReadsBack }
     ensures same { (r : ResponseValue) → Same (lent_response r) r }
+{}
+
+/// An owned response says the same as the response that it was made from.
+#[tactic(auto, using(crate::proofs::Owned::owned_is_same))]
+pub fn owning()
+    ensures { (r : ResponseValue) → Same (owned_response r) r }
 {}
 
 /// `==` tells whether two values say the same: texts by their bytes, whichever are borrowed.
