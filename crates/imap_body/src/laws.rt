@@ -21,7 +21,7 @@ ghost use Rattle.std.specs.Option.{option_map};
 ghost use Rattle.std.specs.Prelude.{ℕ, map};
 ghost use Rattle.imap_grammar.specs.ReadBack.{SpellsAndReadsBack, Closes, as_is};
 ghost use Rattle.imap_shapes.specs.Lent.{lent_address, lent_addresses, lent_envelope, lent_params, lent_encoding, lent_fields, lent_disposition, lent_languages, lent_extension, lent_ext_1part, lent_ext_mpart, lent_type, lent_common, lent_single, lent_body};
-ghost use Rattle.imap_sections.specs.SectionTexts.{canonical_text, canonical_part, canonical_path, canonical_section, spells_message_text, spells_text, spells_part, spells_path, spells_section};
+ghost use Rattle.imap_sections.specs.SectionTexts.{canonical_section_text, canonical_part, canonical_path, canonical_section, spells_message_text, spells_section_text, spells_part, spells_path, spells_section};
 ghost use Rattle.imap_attributes.specs.AttributeValues.{attribute_value};
 ghost use Rattle.imap_attributes.specs.Changed.{lent_attribute};
 ghost use Rattle.imap_body.specs.SpannedAttributes.{places_of_body, places_of, spanned_value};
@@ -101,10 +101,10 @@ pub fn stable()
 /// yields that value again, with all texts borrowed. What follows the text is left whole: any bytes that begin with `)`
 /// or CR, and after an attribute also with a space. Excepted is a text too long to be written as a literal.
 pub fn read_back()
-    ensures section_msgtext { SpellsAndReadsBack sections.section_msgtext as_is canonical_text
-        spells_message_text Closes }
-    ensures section_text { SpellsAndReadsBack sections.section_text as_is canonical_text spells_text
-        Closes }
+    ensures section_msgtext { SpellsAndReadsBack sections.section_msgtext as_is
+        canonical_section_text spells_message_text Closes }
+    ensures section_text { SpellsAndReadsBack sections.section_text as_is canonical_section_text
+        spells_section_text Closes }
     ensures section_part { SpellsAndReadsBack sections.section_part as_is canonical_part spells_part
         Closes }
     ensures section_spec { SpellsAndReadsBack sections.section_spec as_is canonical_path spells_path

@@ -22,7 +22,7 @@ use Rattle.imap_sections.specs.declared.types.sections.MessageSection.{MessageSe
 use Rattle.imap_sections.specs.declared.types.sections.MessageSection.TheVariants.{Header, Mime, Text}
 use Rattle.imap_sections.specs.SectionValues.{PathValue, Full, Part}
 use Rattle.imap_sections.specs.Sections.{header_names, header_list, fields_word, not_word, header_fields, section_msgtext, section_text, section_part, part_text, part_path, section_spec, section}
-use Rattle.imap_sections.specs.SectionTexts.{canonical_text, canonical_part, canonical_text_behind, canonical_path, canonical_spec, canonical_section, spells_header_names, spells_header_list, spells_message_text, spells_text, spells_part, spells_path, spells_section}
+use Rattle.imap_sections.specs.SectionTexts.{canonical_section_text, canonical_part, canonical_text_behind, canonical_path, canonical_spec, canonical_section, spells_header_names, spells_header_list, spells_message_text, spells_section_text, spells_part, spells_path, spells_section}
 
 -- what ends a section's text: `]`, and what ends any text
 abbrev pub ends_section : ℕ → Bool
@@ -56,7 +56,7 @@ fields_denied : (t : Bytes) → EndsSection t → Denies (meaning header_fields)
 unfolding header_fields fields_word
 fields_denied t g = denies-after _ _ _ (denies-tag _ _ _ (no_dot same_letter (codes "FIELDS") t refl refl refl g))
 
-fields_apart : Apart header_fields (names "HEADER" Header or names "TEXT" Text) canonical_text EndsSection
+fields_apart : Apart header_fields (names "HEADER" Header or names "TEXT" Text) canonical_section_text EndsSection
 unfolding header_fields fields_word
 fields_apart =
     apart-alt _ _ (apart-names (word "HEADER") Header fields_denied)
@@ -66,14 +66,14 @@ header_named : (meaning (names "HEADER" Header or names "TEXT" Text)).yields (co
 unfolding meaning
 header_named = inl ((codes "HEADER", Header), ([], (refl, refl), (refl, refl)), refl)
 
-pub reads_section_msgtext : ReadsBack section_msgtext as_is canonical_text EndsSection
+pub reads_section_msgtext : ReadsBack section_msgtext as_is canonical_section_text EndsSection
 unfolding section_msgtext
 reads_section_msgtext =
     reads-later_one Header (codes "HEADER") header_yields header_named fields_denied
     (first (reads-word _ _ Header (codes "HEADER") refl refl refl) (search apart_forms depth 20) (reads-word _ _ Text (codes "TEXT") refl refl refl))
     fields_apart
 
-pub reads_section_text : ReadsBack section_text as_is canonical_text EndsSection
+pub reads_section_text : ReadsBack section_text as_is canonical_section_text EndsSection
 unfolding section_text section_msgtext header_fields fields_word
 reads_section_text = first reads_section_msgtext (search apart_forms depth 20) (reads-word _ _ Mime (codes "MIME") refl refl refl)
 
@@ -91,7 +91,7 @@ reads_section_part = reads-as (reads-list1_until (takes-text ".") reads-number (
 word_ends : (t : Bytes) → BeginsWith not_digit t → EndsPart (46 ∷ t)
 word_ends t g = (refl, denies-behind (tag ".") number (46 ∷ t) (46 ∷ []) t (tag-on ◌==◌ (codes ".") (46 ∷ []) t refl) (denies-number t g))
 
-text_ends : (what : MessageSection) (t : Bytes) → EndsPart (46 ∷ (written (canonical_text what) ++ t))
+text_ends : (what : MessageSection) (t : Bytes) → EndsPart (46 ∷ (written (canonical_section_text what) ++ t))
 text_ends Header t = word_ends _ refl
 text_ends Mime t = word_ends _ refl
 text_ends Text t = word_ends _ refl
@@ -179,12 +179,12 @@ section_msgtext_spells =
     orˢ spells-names Text (spells-word "TEXT")
 
 -- what names a text of a message names one of a part
-of_part : (what : MessageSection) (c : Bytes) → spells_message_text what c → spells_text what c
+of_part : (what : MessageSection) (c : Bytes) → spells_message_text what c → spells_section_text what c
 of_part Header c h = h
 of_part Mime c h = absurd h
 of_part Text c h = h
 
-pub section_text_spells : Spells section_text spells_text
+pub section_text_spells : Spells section_text spells_section_text
 unfolding section_text
 section_text_spells = spells-wider section_msgtext_spells of_part orˢ spells-names Mime (spells-word "MIME")
 
@@ -210,10 +210,10 @@ section_spells = spells-tag "[" ▹ˢ (spells-gives Some section_spec_spells or�
 closes_section : (t : Bytes) → Closes t → EndsSection t
 closes_section = closes-in ends_section refl refl
 
-pub keeps_section_msgtext : SpellsAndReadsBack section_msgtext as_is canonical_text spells_message_text Closes
+pub keeps_section_msgtext : SpellsAndReadsBack section_msgtext as_is canonical_section_text spells_message_text Closes
 keeps_section_msgtext = record { spelled = section_msgtext_spells; back = reads-follow reads_section_msgtext closes_section }
 
-pub keeps_section_text : SpellsAndReadsBack section_text as_is canonical_text spells_text Closes
+pub keeps_section_text : SpellsAndReadsBack section_text as_is canonical_section_text spells_section_text Closes
 keeps_section_text = record { spelled = section_text_spells; back = reads-follow reads_section_text closes_section }
 
 pub keeps_section_part : SpellsAndReadsBack section_part as_is canonical_part spells_part Closes

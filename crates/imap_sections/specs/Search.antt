@@ -6,8 +6,8 @@ use Rattle.imap_shapes.specs.BodyValues.{BodyValue, Basic, TextBody, Message, Mu
 use Rattle.imap_sections.specs.declared.search.Part.{Part}
 use Rattle.imap_sections.specs.declared.search.BodyStructParser.{BodyStructParser}
 
--- The bodies inside a body at a path, parent before child and left to right.
--- Children of a multipart count from 1; the body inside a message is none here.
+-- A body at its path, and behind it the bodies inside multiparts, each with its path: parent before child, left to
+-- right. The bodies of a multipart count from 1. The body inside a message is not among them.
 abbrev mutual
   pub visited : List ℕ → BodyValue → List (List ℕ × BodyValue)
   visited path (Basic common other last) = (path, Basic common other last) ∷ []

@@ -9,20 +9,20 @@ use Rattle.imap_sections.specs.declared.types.sections.MessageSection.TheVariant
 use Rattle.imap_sections.specs.SectionValues.{PathValue, Full, Part}
 
 -- a header is told by one word, whichever of its fields were named
-abbrev pub canonical_text : MessageSection → Pieces
-canonical_text Header = words "HEADER"
-canonical_text Mime = words "MIME"
-canonical_text Text = words "TEXT"
+abbrev pub canonical_section_text : MessageSection → Pieces
+canonical_section_text Header = words "HEADER"
+canonical_section_text Mime = words "MIME"
+canonical_section_text Text = words "TEXT"
 
 abbrev pub canonical_part : List ℕ → Pieces
 canonical_part = separated (words ".") number_text
 
 abbrev pub canonical_text_behind : Option MessageSection → Pieces
 canonical_text_behind None = []
-canonical_text_behind (Some what) = words "." then canonical_text what
+canonical_text_behind (Some what) = words "." then canonical_section_text what
 
 abbrev pub canonical_path : PathValue → Pieces
-canonical_path (Full what) = canonical_text what
+canonical_path (Full what) = canonical_section_text what
 canonical_path (Part numbers what) = canonical_part numbers then canonical_text_behind what
 
 abbrev pub canonical_spec : Option PathValue → Pieces
@@ -34,10 +34,11 @@ canonical_section path = words "[" then canonical_spec path then words "]"
 
 -- ---- spelling
 
--- names of header fields, in brackets
+-- any names of header fields, with one space between, maybe none
 abbrev pub spells_header_names : Texts
 spells_header_names c = (names : List Bytes) × with_between (exactly " ") spells_astring names c
 
+-- the same in brackets, where a space may stand before the `)`
 abbrev pub spells_header_list : Texts
 spells_header_list = exactly "(" and spells_header_names and maybe (exactly " ") and exactly ")"
 
@@ -56,17 +57,17 @@ spells_message_text Mime = λ c. ⊥
 spells_message_text Text = in_any_case "TEXT"
 
 -- of a part
-abbrev pub spells_text : MessageSection → Texts
-spells_text Header = spells_header
-spells_text Mime = in_any_case "MIME"
-spells_text Text = in_any_case "TEXT"
+abbrev pub spells_section_text : MessageSection → Texts
+spells_section_text Header = spells_header
+spells_section_text Mime = in_any_case "MIME"
+spells_section_text Text = in_any_case "TEXT"
 
 abbrev pub spells_part : List ℕ → Texts
 spells_part = some_with_between (exactly ".") spells_number
 
 abbrev pub spells_text_behind : Option MessageSection → Texts
 spells_text_behind None = this []
-spells_text_behind (Some what) = exactly "." and spells_text what
+spells_text_behind (Some what) = exactly "." and spells_section_text what
 
 abbrev pub spells_path : PathValue → Texts
 spells_path (Full what) = spells_message_text what

@@ -33,7 +33,7 @@ header_fields = fields_word ▹ opt not_word ▹ sp ▹ header_list ▹ nothing 
 unfoldable pub section_msgtext : Rule MessageSection
 section_msgtext = header_fields or names "HEADER" Header or names "TEXT" Text
 
--- the alternatives by their first byte
+-- ---- no further rules: the alternatives that may start with one byte, as the reader tries them
 
 unfoldable pub header_text : Rule MessageSection
 header_text = header_fields or names "HEADER" Header
