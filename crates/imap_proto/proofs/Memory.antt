@@ -18,12 +18,12 @@ use Rattle.imap_grammar.specs.Classes.{is_text_char}
 use Rattle.imap_grammar.specs.Lists.{tried_of}
 use Rattle.imap_grammar.specs.Meaning.{is_word, begins, outside}
 use Rattle.imap_grammar.specs.Memory.{BeginsWord, FailsOnlyIf, SucceedsFor}
-use Rattle.imap_grammar.specs.Rule.{Rule, meaning, gives, nothing, opt, ◌⨾◌, ◌or◌}
+use Rattle.imap_grammar.specs.Rule.{Rule, meaning, gives, nothing, opt, ◌⨾◌, ◌▹◌, ◌or◌}
 use Rattle.imap_grammar.specs.Step.{step, ◌>>=◌, or_else, beside}
-use Rattle.imap_grammar.specs.Tags.{sp, crlf, same_letter}
+use Rattle.imap_grammar.specs.Tags.{tag, sp, crlf, same_letter}
 use Rattle.imap_grammar.specs.Text.{Bytes, Text, text_of, decoded, IsOwned}
 use Rattle.imap_grammar.proofs.Agreement.{agrees, reads, fails}
-use Rattle.imap_grammar.proofs.Memory.{none_yielded, of_part, given, before, second}
+use Rattle.imap_grammar.proofs.Memory.{none_yielded, of_part, given, before, second, wider, holds_already, begins_tag}
 use Rattle.imap_grammar.proofs.Joins.{tried_none}
 use Rattle.imap_grammar.proofs.ReadingWords.{letter}
 use Rattle.imap_grammar.proofs.Steps.{ok_is}
@@ -45,8 +45,8 @@ use Rattle.imap_proto.specs.declared.outcome.Outcome.{Outcome}
 use Rattle.imap_data.proofs.ListCodes.{list_code_yielded}
 use Rattle.imap_proto.specs.Outcomes.{outcome_of, outcome, plain_outcome, no_outcome, spaced_outcome}
 use Rattle.imap_proto.specs.Responses.{OutcomeValue, ResponseValue, Capabilities, MailboxData, Quota, QuotaRoot, Id, Acl, ListRights, MyRights}
-use Rattle.imap_proto.specs.Lines.{data_of, status_data, fetch_of, vanished_of, vanished_data, spaces, status_line, mailbox_line, list_line, capability_line, enabled_line, annotation_line, vanished_line, quota_line, id_line, acl_line, done_of, tagged, fetched_line}
-use Rattle.imap_proto.specs.Memory.{OutcomeTakesNone, TakesNone}
+use Rattle.imap_proto.specs.Lines.{data_of, status_data, fetch_of, vanished_of, vanished_data, spaces, status_line, mailbox_line, list_line, capability_line, enabled_line, annotation_line, vanished_line, quota_line, id_line, acl_line, done_of, request_tag, tagged, fetched_line}
+use Rattle.imap_proto.specs.Memory.{OutcomeTakesNone, TakesNone, BeginsTagged, MayWantMemory}
 
 -- ---- a word of text-chars in front of a line stands in front of the line's text too
 
@@ -299,3 +299,17 @@ acl_other = left_yields (made_yields Acl (λ v h. h))
 pub tagged_other : Yields (λ v. ¬ (TakesNone v)) tagged
 unfolding tagged
 tagged_other = made_yields done_of (λ v h. h)
+
+-- ---- behind what memory may be wanted
+
+pub begins_tagged : (m a b rest t x : Bytes) (s : Status) → step request_tag m ≡ Ok (a, t) → step sp a ≡ Ok (b, x) → step status b ≡ Ok (rest, s) → BeginsTagged m
+begins_tagged m a b rest t x s is then last = ((t, s), rest, reads (request_tag ⨾ sp ▹ status) m rest (t, s) (rw (is, then, last) refl))
+
+pub wants_continued : {A : Type 0} (m : Bytes) (result : Returned A) → FailsOnlyIf (BeginsWord "+" m) result → FailsOnlyIf (MayWantMemory m) result
+wants_continued m result h = wider (BeginsWord "+" m) (MayWantMemory m) result (λ p. inl (inl p)) h
+
+pub wants_datum : {A : Type 0} (m rest v : Bytes) (result : Returned A) → step (tag "* ") m ≡ Ok (rest, v) → FailsOnlyIf (MayWantMemory m) result
+wants_datum m rest v result is = holds_already (MayWantMemory m) result (inl (inr (begins_tag "* " m rest v refl is)))
+
+pub wants_tagged : {A : Type 0} (m : Bytes) (result : Returned A) → FailsOnlyIf (BeginsTagged m) result → FailsOnlyIf (MayWantMemory m) result
+wants_tagged m result h = wider (BeginsTagged m) (MayWantMemory m) result (λ p. inr p) h

@@ -1,10 +1,16 @@
--- For which responses no memory is taken.
-use Rattle.std.specs.Prelude.{Option, None, Some}
-use Rattle.imap_grammar.specs.Text.{Text}
+-- For which responses no memory is taken, and behind what memory may be wanted at all.
+use Rattle.std.specs.Prelude.{◌⊎◌, Option, None, Some}
+use Rattle.imap_grammar.specs.Memory.{BeginsWord}
+use Rattle.imap_grammar.specs.Rule.{meaning, ◌⨾◌, ◌▹◌}
+use Rattle.imap_grammar.specs.Tags.{sp}
+use Rattle.imap_grammar.specs.Text.{Bytes, Text}
 use Rattle.imap_items.specs.Copies.{IsLent}
+use Rattle.imap_items.specs.Statuses.{status}
+use Rattle.imap_items.specs.declared.types.statuses.Status.{Status}
 use Rattle.imap_extensions.specs.Ids.{IsNil}
 use Rattle.imap_data.specs.Codes.{CodeValue, HoldsNoList, BeginsListCode}
 use Rattle.imap_data.specs.DatumValues.{IsNumber}
+use Rattle.imap_proto.specs.Lines.{request_tag}
 use Rattle.imap_proto.specs.Responses.{OutcomeValue, ResponseValue, Continue, Data, Expunge, MailboxData, Id}
 
 -- A code without a list, and a borrowed text behind it. A text by itself also doesn't begin as a code that may hold a
@@ -27,3 +33,14 @@ TakesNone (Expunge n) = Unit {0}
 TakesNone (MailboxData datum) = IsNumber datum
 TakesNone (Id fields) = IsNil fields
 TakesNone other = ⊥
+
+-- ---- behind what memory may be wanted
+
+-- a tag, a space and a status stand in front
+abbrev pub BeginsTagged : Bytes → Type 0
+BeginsTagged m =
+    (v : Bytes × Status) × (rest : Bytes) × (meaning (request_tag ⨾ sp ▹ status)).yields m v rest
+
+-- `+`, or `* `, or the front of a tagged line up to its status
+abbrev pub MayWantMemory : Bytes → Type 0
+MayWantMemory m = (BeginsWord "+" m ⊎ BeginsWord "* " m) ⊎ BeginsTagged m

@@ -3,9 +3,9 @@
 ghost use Rattle.std.specs.Prelude.{◌≡◌, slice_get};
 ghost use Rattle.std.specs.Option.{option_copied};
 ghost use Rattle.imap_grammar.specs.Answer.{Steps, StepsExactly};
-ghost use Rattle.imap_grammar.specs.Memory.{SucceedsFor};
+ghost use Rattle.imap_grammar.specs.Memory.{BeginsWord, FailsOnlyIf, SucceedsFor};
 ghost use Rattle.imap_grammar.specs.Rule.{run1};
-ghost use Rattle.imap_proto.specs.Memory.{TakesNone};
+ghost use Rattle.imap_proto.specs.Memory.{BeginsTagged, MayWantMemory, TakesNone};
 ghost use Rattle.imap_proto.specs.Responses.{response_value};
 ghost use Rattle.imap_proto.specs.Lines as rule;
 
@@ -27,6 +27,7 @@ use std::alloc::Global;
 #[inline(never)]
 fn continuation(alloc: Global, i: &[u8]) -> IResult<&[u8], Response<'_>>
     ensures steps { Steps rule.continuation response_value i.now result }
+    ensures failure { FailsOnlyIf (BeginsWord "+" i.now) result }
     ensures memory { SucceedsFor TakesNone rule.continuation i.now result }
 {
     let (rest, _) = tag(b"+", i)?;
@@ -64,10 +65,11 @@ fn request_tag(i: &[u8]) -> IResult<&[u8], &str>
     }
 }
 
-#[tactic(auto, unfolding(crate::specs::Lines::tagged))]
+#[tactic(auto, using(crate::proofs::Memory::begins_tagged), unfolding(crate::specs::Lines::tagged))]
 #[inline(never)]
 fn tagged(alloc: Global, i: &[u8]) -> IResult<&[u8], Response<'_>>
-    ensures { Steps rule.tagged response_value i.now result }
+    ensures steps { Steps rule.tagged response_value i.now result }
+    ensures failure { FailsOnlyIf (BeginsTagged i.now) result }
 {
     let (rest, tag_text) = request_tag(i)?;
     let (rest, _) = tag(b" ", rest)?;
@@ -97,10 +99,11 @@ fn second(i: &[u8]) -> Option<&u8>
 ///
 /// Each arm returns what one call answers, so that an answer is copied once on its way. The number of a line is read
 /// here: it is small, and what stands behind it is told apart by its second byte.
-#[tactic(auto, using(crate::proofs::FirstBytes::response_none, crate::proofs::FirstBytes::response_plus, crate::proofs::FirstBytes::response_star, crate::proofs::FirstBytes::response_other, crate::proofs::FirstBytes::datum_none, crate::proofs::FirstBytes::datum_of_status, crate::proofs::FirstBytes::datum_of_number, crate::proofs::FirstBytes::datum_of_mailbox, crate::proofs::FirstBytes::datum_of_list, crate::proofs::FirstBytes::datum_of_capability, crate::proofs::FirstBytes::datum_of_enabled, crate::proofs::FirstBytes::datum_of_annotation, crate::proofs::FirstBytes::datum_of_vanished, crate::proofs::FirstBytes::datum_of_quota, crate::proofs::FirstBytes::datum_of_id, crate::proofs::FirstBytes::datum_of_acl, crate::proofs::FirstBytes::datum_other, crate::proofs::Numbered::number_stopped, crate::proofs::Numbered::number_and_fetch, crate::proofs::Numbered::number_and_count), unfolding(crate::specs::Lines::data_line))]
+#[tactic(auto, using(crate::proofs::FirstBytes::response_none, crate::proofs::FirstBytes::response_plus, crate::proofs::FirstBytes::response_star, crate::proofs::FirstBytes::response_other, crate::proofs::FirstBytes::datum_none, crate::proofs::FirstBytes::datum_of_status, crate::proofs::FirstBytes::datum_of_number, crate::proofs::FirstBytes::datum_of_mailbox, crate::proofs::FirstBytes::datum_of_list, crate::proofs::FirstBytes::datum_of_capability, crate::proofs::FirstBytes::datum_of_enabled, crate::proofs::FirstBytes::datum_of_annotation, crate::proofs::FirstBytes::datum_of_vanished, crate::proofs::FirstBytes::datum_of_quota, crate::proofs::FirstBytes::datum_of_id, crate::proofs::FirstBytes::datum_of_acl, crate::proofs::FirstBytes::datum_other, crate::proofs::Numbered::number_stopped, crate::proofs::Numbered::number_and_fetch, crate::proofs::Numbered::number_and_count, crate::proofs::Memory::wants_continued, crate::proofs::Memory::wants_datum, crate::proofs::Memory::wants_tagged), unfolding(crate::specs::Lines::data_line))]
 #[inline(never)]
 pub(crate) fn response(alloc: Global, i: &[u8]) -> IResult<&[u8], Response<'_>>
     ensures steps { Steps rule.response response_value i.now result }
+    ensures failure { FailsOnlyIf (MayWantMemory i.now) result }
     ensures memory { SucceedsFor TakesNone rule.response i.now result }
 {
     match i.first() {

@@ -2,7 +2,7 @@
 
 ghost use Rattle.std.specs.Prelude.{◌≡◌, map, option_map, string_bytes, IfOk};
 ghost use Rattle.imap_grammar.specs.Answer.{Answers, Steps};
-ghost use Rattle.imap_grammar.specs.Memory.{SucceedsFor};
+ghost use Rattle.imap_grammar.specs.Memory.{FailsOnlyIf, SucceedsFor};
 ghost use Rattle.imap_extensions.specs.Ids.{id_value};
 ghost use Rattle.imap_extensions.specs.Owned.{owned_id as owned_map};
 ghost use Rattle.imap_attributes.specs.AttributeValues.{attribute_value};
@@ -10,7 +10,7 @@ ghost use Rattle.imap_attributes.specs.Changed.{owned_attribute};
 ghost use Rattle.imap_proto.specs.Responses.{response_value, EndsLine};
 ghost use Rattle.imap_proto.specs.Owned.{owned_response};
 ghost use Rattle.imap_proto.specs.LineTexts.{Spelled};
-ghost use Rattle.imap_proto.specs.Memory.{TakesNone};
+ghost use Rattle.imap_proto.specs.Memory.{MayWantMemory, TakesNone};
 ghost use Rattle.imap_proto.specs.Lines as rule;
 
 use crate::lines;
@@ -175,16 +175,18 @@ impl<'a> Response<'a> {
     /// keys of an ID map: of two equal ones either may be kept.
     ///
     /// It takes memory for lists, envelopes and body structures, for the map of an ID, for the tag of a tagged line,
-    /// for the entry and the value of a `Metadata`, and for texts that are not UTF-8. So `Failure` is not answered
-    /// where the response is one number (`EXPUNGE`, `EXISTS`, `RECENT`, Gmail's), `ID NIL`, or an untagged status or a
-    /// continuation with no list in its code and a borrowed text. One kind is excepted: a text without a code that
-    /// begins as a code with a list does, as `[CAPABILITY`, since it is tried as that code first.
+    /// for the entry and the value of a `Metadata`, and for texts that are not UTF-8. So `Failure` is answered only
+    /// behind `+`, behind `* `, or behind a tag, a space and a status; and not where the response is one number
+    /// (`EXPUNGE`, `EXISTS`, `RECENT`, Gmail's), `ID NIL`, or an untagged status or a continuation with no list in its
+    /// code and a borrowed text. One kind is excepted: a text without a code that begins as a code with a list does, as
+    /// `[CAPABILITY`, since it is tried as that code first.
     #[inline(always)]
     pub fn parse(alloc: Global, msg: &'a [u8]) -> ParseResult<'a>
         ensures steps { Steps rule.response response_value msg.now result }
         ensures answer { Answers rule.response response_value msg.now result }
         ensures spells { IfOk result (λ x. Spelled msg.now x.0.now (response_value x.1)) }
         ensures line { IfOk result (λ x. EndsLine msg.now x.0.now) }
+        ensures failure { FailsOnlyIf (MayWantMemory msg.now) result }
         ensures memory { SucceedsFor TakesNone rule.response msg.now result }
     {
         lines::response(alloc, msg)

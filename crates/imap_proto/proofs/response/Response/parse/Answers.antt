@@ -15,5 +15,8 @@ returns-clause-spells c = line_spells _ _ _ c.response.ensures.steps
 pub returns-clause-line : goal.returns-clause-line
 returns-clause-line c = line_ends _ _ _ c.response.ensures.steps
 
+pub returns-clause-failure : goal.returns-clause-failure
+returns-clause-failure c = c.response.ensures.failure
+
 pub returns-clause-memory : goal.returns-clause-memory
 returns-clause-memory c = c.response.ensures.memory
