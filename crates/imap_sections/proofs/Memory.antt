@@ -1,12 +1,8 @@
 -- Where the path of a part takes memory: behind a digit.
 use Rattle.std.proofs.Common.{◌≡◌, ℕ, ◌^◌, List, [], ◌∷◌, Bool, true, false, Result, Ok, Err, refl, sym, ◌∙◌, inl, inr}
-use Rattle.std.specs.Prelude.{IfErr}
 use Rattle.std.proofs.lemmas.Bool.{cases_Bool}
-use Rattle.imap_grammar.specs.declared.answer.Err.{Err as Fault}
-use Rattle.imap_grammar.specs.declared.answer.Err.TheVariants.{Failure}
 use Rattle.imap_grammar.specs.Classes.{is_digit}
 use Rattle.imap_grammar.specs.Meaning.{begins, outside}
-use Rattle.imap_grammar.specs.Memory.{NeverFails}
 use Rattle.imap_grammar.specs.Step.{step}
 use Rattle.imap_grammar.proofs.Starts.{waited}
 use Rattle.imap_bytes.specs.Numbers.{number, digits}
@@ -20,8 +16,3 @@ begins_digit (b ∷ m) rest n h = elim (cases_Bool (is_digit b)) [
   | inl is ↦ is
   | inr other ↦ let d = no_number (2 ^ 32) (b ∷ m) (rw other refl) in absurd cc
 ]
-
--- it may fail for want of memory, since P holds
-pub may_fail : {A : Type 0} (P : Type 0) (result : Result A Fault) → P → IfErr result (λ e. e ≡ Failure → P)
-may_fail P (Ok x) p = tt
-may_fail P (Err e) p = λ q. p

@@ -1,12 +1,11 @@
 //! Sections at a position.
 
-ghost use Rattle.std.specs.Prelude.{◌≡◌, ◌≤◌, length, drop, IfErr, IsTrue};
+ghost use Rattle.std.specs.Prelude.{◌≤◌, length, drop, IsTrue};
 ghost use Rattle.std.specs.Option.{option_map};
 ghost use Rattle.imap_grammar.specs.Positions.{Ahead, named_in, StepsAt, StepsExactlyAt};
-ghost use Rattle.imap_grammar.specs.Memory.{NeverFails};
+ghost use Rattle.imap_grammar.specs.Memory.{FailsOnlyIf, NeverFails};
 ghost use Rattle.imap_grammar.specs.Meaning.{begins};
 ghost use Rattle.imap_grammar.specs.Classes.{is_digit};
-ghost use Rattle.imap_grammar.specs.declared.answer.Err.TheVariants.{Failure};
 ghost use Rattle.imap_grammar.specs.Rule.{opt, otherwise, ◌▹◌};
 ghost use Rattle.imap_grammar.specs.Tags as tags;
 ghost use Rattle.imap_bytes.specs.Strings as strings;
@@ -195,8 +194,7 @@ pub fn section_part(alloc: Global, m: &[u8], p: usize) -> Reached<Vec<u32>>
     requires { p ≤ length m.now }
     ensures steps { StepsAt sections.section_part (λ x. x.items) m.now p result }
     ensures ahead { Ahead m.now p result }
-    ensures memory { IfErr result (λ e.
-        e ≡ Failure → IsTrue (begins is_digit (drop p m.now))) }
+    ensures memory { FailsOnlyIf (IsTrue (begins is_digit (drop p m.now))) result }
 {
     let (mut q, first) = number(m, p)?;
     let mut items = list_of_one(alloc, first)?;
@@ -230,8 +228,7 @@ fn part_path(alloc: Global, m: &[u8], p: usize) -> Reached<SectionPath>
     requires { p ≤ length m.now }
     ensures steps { StepsAt sections.part_path path_value m.now p result }
     ensures ahead { Ahead m.now p result }
-    ensures memory { IfErr result (λ e.
-        e ≡ Failure → IsTrue (begins is_digit (drop p m.now))) }
+    ensures memory { FailsOnlyIf (IsTrue (begins is_digit (drop p m.now))) result }
 {
     let (p, numbers) = section_part(alloc, m, p)?;
     let (p, what) = maybe_part_text(m, p)?;
@@ -247,8 +244,7 @@ pub fn section_spec(alloc: Global, m: &[u8], p: usize) -> Reached<SectionPath>
     requires { p ≤ length m.now }
     ensures steps { StepsAt sections.section_spec path_value m.now p result }
     ensures ahead { Ahead m.now p result }
-    ensures memory { IfErr result (λ e.
-        e ≡ Failure → IsTrue (begins is_digit (drop p m.now))) }
+    ensures memory { FailsOnlyIf (IsTrue (begins is_digit (drop p m.now))) result }
 {
     first!(section_msgtext(m, p), what => SectionPath::Full(what));
     part_path(alloc, m, p)

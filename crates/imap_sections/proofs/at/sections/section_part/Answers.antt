@@ -8,7 +8,8 @@ use Rattle.imap_bytes.specs.Numbers.{number}
 use Rattle.imap_sections.specs.Sections.{section_part}
 use Rattle.imap_grammar.proofs.Joins.{tried_some, tried_none, tried_fault}
 use Rattle.imap_envelopes.proofs.Gathering.{first, next_one, all, stopped, onward}
-use Rattle.imap_sections.proofs.Memory.{begins_digit, may_fail}
+use Rattle.imap_grammar.proofs.Memory.{holds_already}
+use Rattle.imap_sections.proofs.Memory.{begins_digit}
 use Rattle.imap_sections.proofs.at.sections.section_part.Goals as goal
 
 pub numbers-init : goal.numbers-init
@@ -48,10 +49,10 @@ returns-in_err-after-clause-steps c =
     rw (p.1, p.2) (stops _ _ (stopped _ (tag "." ▹ number) _ _ c.in_err-after.field-0.0 c.numbers.invariant.gathered q.1 (rw q.0 at c.dotted_number.ensures.steps)))
 
 pub returns-in_err-items-clause-memory : goal.returns-in_err-items-clause-memory
-returns-in_err-items-clause-memory c = may_fail _ c.from_residual-in_err-items.result (begins_digit _ _ _ c.in_ok-q.ensures.steps)
+returns-in_err-items-clause-memory c = holds_already _ c.from_residual-in_err-items.result (begins_digit _ _ _ c.in_ok-q.ensures.steps)
 
 pub returns-in_err-after-clause-memory : goal.returns-in_err-after-clause-memory
-returns-in_err-after-clause-memory c = may_fail _ c.from_residual-in_err-after.result (begins_digit _ _ _ c.in_ok-q.ensures.steps)
+returns-in_err-after-clause-memory c = holds_already _ c.from_residual-in_err-after.result (begins_digit _ _ _ c.in_ok-q.ensures.steps)
 
 pub returns-in_err-push-clause-memory : goal.returns-in_err-push-clause-memory
-returns-in_err-push-clause-memory c = may_fail _ c.from_residual-in_err-push.result (begins_digit _ _ _ c.in_ok-q.ensures.steps)
+returns-in_err-push-clause-memory c = holds_already _ c.from_residual-in_err-push.result (begins_digit _ _ _ c.in_ok-q.ensures.steps)
