@@ -6,7 +6,7 @@ use Rattle.imap_items.specs.Owned.{owned_capability}
 use Rattle.imap_extensions.proofs.Owned.{list_says, option_says, texts_say}
 use Rattle.imap_data.specs.Codes.{CodeValue, BadCharset, Capabilities, PermanentFlags, lent_code}
 use Rattle.imap_data.specs.Names.{NameAttributeValue, ListValue, Extension, lent_attribute, lent_list}
-use Rattle.imap_data.specs.DatumValues.{DatumValue, Flags, Listed, Status, MetadataSolicited, MetadataUnsolicited, GmailLabels, lent_datum}
+use Rattle.imap_data.specs.DatumValues.{DatumValue, Flags, Listed, MetadataUnsolicited, GmailLabels, lent_datum}
 use Rattle.imap_data.specs.Owned.{owned_code, owned_attribute, owned_list, owned_datum}
 
 pub owned_capability_says : (c : CapabilityValue) → lent_capability (owned_capability c) ≡ lent_capability c

@@ -28,7 +28,7 @@ OutcomeTakesNone o = ReadsWithoutMemory o.code o.information
 -- and no owned text.
 abbrev pub TakesNone : ResponseValue → Type 0
 TakesNone (Continue o) = OutcomeTakesNone o
-TakesNone (Data status o) = OutcomeTakesNone o
+TakesNone (Data _ o) = OutcomeTakesNone o
 TakesNone (Expunge n) = Unit {0}
 TakesNone (MailboxData datum) = IsNumber datum
 TakesNone (Id fields) = IsNil fields

@@ -1,8 +1,8 @@
 -- Where the path of a part takes memory: behind a digit.
-use Rattle.std.proofs.Common.{◌≡◌, ℕ, ◌^◌, List, [], ◌∷◌, Bool, true, false, Result, Ok, Err, refl, sym, ◌∙◌, inl, inr}
+use Rattle.std.proofs.Common.{◌≡◌, ℕ, ◌^◌, List, [], ◌∷◌, true, Ok, refl, inl, inr}
 use Rattle.std.proofs.lemmas.Bool.{cases_Bool}
 use Rattle.imap_grammar.specs.Classes.{is_digit}
-use Rattle.imap_grammar.specs.Meaning.{begins, outside}
+use Rattle.imap_grammar.specs.Meaning.{begins}
 use Rattle.imap_grammar.specs.Step.{step}
 use Rattle.imap_grammar.proofs.Starts.{waited}
 use Rattle.imap_bytes.specs.Numbers.{number, digits}
