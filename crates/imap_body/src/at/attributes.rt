@@ -29,7 +29,7 @@ use imap_structure::at::bodies::body_structure;
 use std::alloc::Global;
 
 // What a reader of an attribute answers, where K keeps its strings.
-type ReachedAttribute<K> = Reached<AttributeKept<<K as Keep>::Text, <K as Keep>::Bytes>>;
+type Answer<K> = Reached<AttributeKept<<K as Keep>::Text, <K as Keep>::Bytes>>;
 
 #[tactic(auto, unfolding(crate::specs::Attributes::origin))]
 fn origin(m: &[u8], p: usize) -> Reached<u32>
@@ -52,7 +52,7 @@ fn maybe_origin(m: &[u8], p: usize) -> Reached<Option<u32>>
 }
 
 #[tactic(auto, unfolding(crate::specs::Attributes::section_contents))]
-fn section_contents<K: KeepAttribute>(keep: &K, alloc: Global, m: &[u8], p: usize) -> ReachedAttribute<K>
+fn section_contents<K: KeepAttribute>(keep: &K, alloc: Global, m: &[u8], p: usize) -> Answer<K>
     requires start { p ≤ length m.now }
     requires serves { K.serves keep.now m.now }
     ensures steps { StepsAt rules.section_contents
@@ -82,7 +82,7 @@ pub(crate) fn msg_att_body_section<K: KeepAttribute>(
     alloc: Global,
     m: &[u8],
     p: usize,
-) -> ReachedAttribute<K>
+) -> Answer<K>
     requires start { p ≤ length m.now }
     requires serves { K.serves keep.now m.now }
     ensures steps { StepsAt rules.msg_att_body_section
@@ -95,7 +95,7 @@ pub(crate) fn msg_att_body_section<K: KeepAttribute>(
 }
 
 #[tactic(auto, using(crate::proofs::Resting::structure_rests), unfolding(crate::specs::Attributes::structure))]
-fn structure<K: KeepAttribute>(keep: &K, alloc: Global, m: &[u8], p: usize) -> ReachedAttribute<K>
+fn structure<K: KeepAttribute>(keep: &K, alloc: Global, m: &[u8], p: usize) -> Answer<K>
     requires start { p ≤ length m.now }
     requires serves { K.serves keep.now m.now }
     ensures steps { StepsAt rules.structure (parts_said K.text_said K.bytes_said (named_in m.now))
@@ -110,7 +110,7 @@ fn structure<K: KeepAttribute>(keep: &K, alloc: Global, m: &[u8], p: usize) -> R
 
 // `BODY` is read once, whether a section or `STRUCTURE` stands behind it.
 #[tactic(auto, unfolding(crate::specs::Attributes::body_attribute))]
-fn body_attribute<K: KeepAttribute>(keep: &K, alloc: Global, m: &[u8], p: usize) -> ReachedAttribute<K>
+fn body_attribute<K: KeepAttribute>(keep: &K, alloc: Global, m: &[u8], p: usize) -> Answer<K>
     requires start { p ≤ length m.now }
     requires serves { K.serves keep.now m.now }
     ensures steps { StepsAt rules.body_attribute
@@ -124,7 +124,7 @@ fn body_attribute<K: KeepAttribute>(keep: &K, alloc: Global, m: &[u8], p: usize)
 }
 
 #[tactic(auto, unfolding(crate::specs::Attributes::whole_message))]
-fn whole_message<K: KeepAttribute>(keep: &K, m: &[u8], p: usize) -> ReachedAttribute<K>
+fn whole_message<K: KeepAttribute>(keep: &K, m: &[u8], p: usize) -> Answer<K>
     requires start { p ≤ length m.now }
     requires serves { K.serves keep.now m.now }
     ensures steps { StepsExactlyAt rules.whole_message
@@ -138,7 +138,7 @@ fn whole_message<K: KeepAttribute>(keep: &K, m: &[u8], p: usize) -> ReachedAttri
 }
 
 #[tactic(auto, unfolding(crate::specs::Attributes::message_header))]
-fn message_header<K: KeepAttribute>(keep: &K, m: &[u8], p: usize) -> ReachedAttribute<K>
+fn message_header<K: KeepAttribute>(keep: &K, m: &[u8], p: usize) -> Answer<K>
     requires start { p ≤ length m.now }
     requires serves { K.serves keep.now m.now }
     ensures steps { StepsExactlyAt rules.message_header
@@ -153,7 +153,7 @@ fn message_header<K: KeepAttribute>(keep: &K, m: &[u8], p: usize) -> ReachedAttr
 }
 
 #[tactic(auto, unfolding(crate::specs::Attributes::message_size))]
-fn message_size<K: KeepAttribute>(m: &[u8], p: usize) -> ReachedAttribute<K>
+fn message_size<K: KeepAttribute>(m: &[u8], p: usize) -> Answer<K>
     requires { p ≤ length m.now }
     ensures steps { StepsExactlyAt rules.message_size
         (parts_said K.text_said K.bytes_said (named_in m.now)) m.now p result }
@@ -166,7 +166,7 @@ fn message_size<K: KeepAttribute>(m: &[u8], p: usize) -> ReachedAttribute<K>
 }
 
 #[tactic(auto, unfolding(crate::specs::Attributes::message_text))]
-fn message_text<K: KeepAttribute>(keep: &K, m: &[u8], p: usize) -> ReachedAttribute<K>
+fn message_text<K: KeepAttribute>(keep: &K, m: &[u8], p: usize) -> Answer<K>
     requires start { p ≤ length m.now }
     requires serves { K.serves keep.now m.now }
     ensures steps { StepsExactlyAt rules.message_text
@@ -180,7 +180,7 @@ fn message_text<K: KeepAttribute>(keep: &K, m: &[u8], p: usize) -> ReachedAttrib
 }
 
 #[tactic(auto, unfolding(crate::specs::Attributes::message_part))]
-fn message_part<K: KeepAttribute>(keep: &K, m: &[u8], p: usize) -> ReachedAttribute<K>
+fn message_part<K: KeepAttribute>(keep: &K, m: &[u8], p: usize) -> Answer<K>
     requires start { p ≤ length m.now }
     requires serves { K.serves keep.now m.now }
     ensures steps { StepsExactlyAt rules.message_part
@@ -196,7 +196,7 @@ fn message_part<K: KeepAttribute>(keep: &K, m: &[u8], p: usize) -> ReachedAttrib
 
 // `RFC822` is read once, whether the whole message or a part of it is meant.
 #[tactic(auto, unfolding(crate::specs::Attributes::message_attribute))]
-fn message_attribute<K: KeepAttribute>(keep: &K, m: &[u8], p: usize) -> ReachedAttribute<K>
+fn message_attribute<K: KeepAttribute>(keep: &K, m: &[u8], p: usize) -> Answer<K>
     requires start { p ≤ length m.now }
     requires serves { K.serves keep.now m.now }
     ensures steps { StepsExactlyAt rules.message_attribute
@@ -211,7 +211,7 @@ fn message_attribute<K: KeepAttribute>(keep: &K, m: &[u8], p: usize) -> ReachedA
 
 #[tactic(auto, using(crate::proofs::Resting::envelope_rests), unfolding(crate::specs::Attributes::msg_att_envelope))]
 #[inline(never)] // Its stack frame is large, and a caller that inlined it would clear it at each call.
-fn msg_att_envelope<K: KeepAttribute>(keep: &K, alloc: Global, m: &[u8], p: usize) -> ReachedAttribute<K>
+fn msg_att_envelope<K: KeepAttribute>(keep: &K, alloc: Global, m: &[u8], p: usize) -> Answer<K>
     requires start { p ≤ length m.now }
     requires serves { K.serves keep.now m.now }
     ensures steps { StepsAt rules.msg_att_envelope
@@ -235,7 +235,7 @@ fn date(m: &[u8], p: usize) -> Reached<SpannedText>
 }
 
 #[tactic(auto, unfolding(crate::specs::Attributes::msg_att_internal_date))]
-fn msg_att_internal_date<K: KeepAttribute>(keep: &K, m: &[u8], p: usize) -> ReachedAttribute<K>
+fn msg_att_internal_date<K: KeepAttribute>(keep: &K, m: &[u8], p: usize) -> Answer<K>
     requires start { p ≤ length m.now }
     requires serves { K.serves keep.now m.now }
     ensures steps { StepsAt rules.msg_att_internal_date
@@ -250,7 +250,7 @@ fn msg_att_internal_date<K: KeepAttribute>(keep: &K, m: &[u8], p: usize) -> Reac
 }
 
 #[tactic(auto, unfolding(crate::specs::Attributes::msg_att_flags))]
-fn msg_att_flags<K: KeepAttribute>(keep: &K, alloc: Global, m: &[u8], p: usize) -> ReachedAttribute<K>
+fn msg_att_flags<K: KeepAttribute>(keep: &K, alloc: Global, m: &[u8], p: usize) -> Answer<K>
     requires start { p ≤ length m.now }
     requires serves { K.serves keep.now m.now }
     ensures steps { StepsAt rules.msg_att_flags
@@ -264,7 +264,7 @@ fn msg_att_flags<K: KeepAttribute>(keep: &K, alloc: Global, m: &[u8], p: usize) 
 }
 
 #[tactic(auto, unfolding(crate::specs::Attributes::msg_att_uid))]
-fn msg_att_uid<K: KeepAttribute>(m: &[u8], p: usize) -> ReachedAttribute<K>
+fn msg_att_uid<K: KeepAttribute>(m: &[u8], p: usize) -> Answer<K>
     requires { p ≤ length m.now }
     ensures steps { StepsExactlyAt rules.msg_att_uid
         (parts_said K.text_said K.bytes_said (named_in m.now)) m.now p result }
@@ -277,7 +277,7 @@ fn msg_att_uid<K: KeepAttribute>(m: &[u8], p: usize) -> ReachedAttribute<K>
 }
 
 #[tactic(auto, unfolding(crate::specs::Attributes::msg_att_mod_seq))]
-fn msg_att_mod_seq<K: KeepAttribute>(m: &[u8], p: usize) -> ReachedAttribute<K>
+fn msg_att_mod_seq<K: KeepAttribute>(m: &[u8], p: usize) -> Answer<K>
     requires { p ≤ length m.now }
     ensures steps { StepsExactlyAt rules.msg_att_mod_seq
         (parts_said K.text_said K.bytes_said (named_in m.now)) m.now p result }
@@ -292,12 +292,7 @@ fn msg_att_mod_seq<K: KeepAttribute>(m: &[u8], p: usize) -> ReachedAttribute<K>
 }
 
 #[tactic(auto, unfolding(crate::specs::Attributes::msg_att_gmail_labels))]
-fn msg_att_gmail_labels<K: KeepAttribute>(
-    keep: &K,
-    alloc: Global,
-    m: &[u8],
-    p: usize,
-) -> ReachedAttribute<K>
+fn msg_att_gmail_labels<K: KeepAttribute>(keep: &K, alloc: Global, m: &[u8], p: usize) -> Answer<K>
     requires start { p ≤ length m.now }
     requires serves { K.serves keep.now m.now }
     ensures steps { StepsAt rules.msg_att_gmail_labels
@@ -310,7 +305,7 @@ fn msg_att_gmail_labels<K: KeepAttribute>(
 }
 
 #[tactic(auto, unfolding(crate::specs::Attributes::msg_att_gmail_msgid))]
-fn msg_att_gmail_msgid<K: KeepAttribute>(m: &[u8], p: usize) -> ReachedAttribute<K>
+fn msg_att_gmail_msgid<K: KeepAttribute>(m: &[u8], p: usize) -> Answer<K>
     requires { p ≤ length m.now }
     ensures steps { StepsExactlyAt rules.msg_att_gmail_msgid
         (parts_said K.text_said K.bytes_said (named_in m.now)) m.now p result }
@@ -322,7 +317,7 @@ fn msg_att_gmail_msgid<K: KeepAttribute>(m: &[u8], p: usize) -> ReachedAttribute
 }
 
 #[tactic(auto, unfolding(crate::specs::Attributes::msg_att_gmail_thrid))]
-fn msg_att_gmail_thrid<K: KeepAttribute>(m: &[u8], p: usize) -> ReachedAttribute<K>
+fn msg_att_gmail_thrid<K: KeepAttribute>(m: &[u8], p: usize) -> Answer<K>
     requires { p ≤ length m.now }
     ensures steps { StepsExactlyAt rules.msg_att_gmail_thrid
         (parts_said K.text_said K.bytes_said (named_in m.now)) m.now p result }
@@ -369,7 +364,7 @@ fn bracketed_id(m: &[u8], p: usize) -> Reached<SpannedText>
 }
 
 #[tactic(auto, unfolding(crate::specs::Attributes::msg_att_email_id))]
-fn msg_att_email_id<K: KeepAttribute>(keep: &K, m: &[u8], p: usize) -> ReachedAttribute<K>
+fn msg_att_email_id<K: KeepAttribute>(keep: &K, m: &[u8], p: usize) -> Answer<K>
     requires start { p ≤ length m.now }
     requires serves { K.serves keep.now m.now }
     ensures steps { StepsAt rules.msg_att_email_id
@@ -384,7 +379,7 @@ fn msg_att_email_id<K: KeepAttribute>(keep: &K, m: &[u8], p: usize) -> ReachedAt
 }
 
 #[tactic(auto, unfolding(crate::specs::Attributes::msg_att_thread_id))]
-fn msg_att_thread_id<K: KeepAttribute>(keep: &K, m: &[u8], p: usize) -> ReachedAttribute<K>
+fn msg_att_thread_id<K: KeepAttribute>(keep: &K, m: &[u8], p: usize) -> Answer<K>
     requires start { p ≤ length m.now }
     requires serves { K.serves keep.now m.now }
     ensures steps { StepsAt rules.msg_att_thread_id
@@ -478,7 +473,7 @@ fn skipped_value(m: &[u8], p: usize) -> Reached<()>
 // attributes apart would clear the room that it needs.
 #[tactic(auto, unfolding(crate::specs::Attributes::msg_att_unknown))]
 #[inline(never)]
-fn msg_att_unknown<K: KeepAttribute>(m: &[u8], p: usize) -> ReachedAttribute<K>
+fn msg_att_unknown<K: KeepAttribute>(m: &[u8], p: usize) -> Answer<K>
     requires { p ≤ length m.now }
     ensures steps { StepsExactlyAt rules.msg_att_unknown
         (parts_said K.text_said K.bytes_said (named_in m.now)) m.now p result }
@@ -496,7 +491,7 @@ fn msg_att_unknown<K: KeepAttribute>(m: &[u8], p: usize) -> ReachedAttribute<K>
 
 #[tactic(auto, unfolding(crate::specs::Attributes::attribute_of_b))]
 #[inline(never)]
-fn attribute_of_b<K: KeepAttribute>(keep: &K, alloc: Global, m: &[u8], p: usize) -> ReachedAttribute<K>
+fn attribute_of_b<K: KeepAttribute>(keep: &K, alloc: Global, m: &[u8], p: usize) -> Answer<K>
     requires start { p ≤ length m.now }
     requires serves { K.serves keep.now m.now }
     ensures steps { StepsAt rules.attribute_of_b
@@ -510,7 +505,7 @@ fn attribute_of_b<K: KeepAttribute>(keep: &K, alloc: Global, m: &[u8], p: usize)
 
 #[tactic(auto, unfolding(crate::specs::Attributes::attribute_of_e))]
 #[inline(never)]
-fn attribute_of_e<K: KeepAttribute>(keep: &K, alloc: Global, m: &[u8], p: usize) -> ReachedAttribute<K>
+fn attribute_of_e<K: KeepAttribute>(keep: &K, alloc: Global, m: &[u8], p: usize) -> Answer<K>
     requires start { p ≤ length m.now }
     requires serves { K.serves keep.now m.now }
     ensures steps { StepsAt rules.attribute_of_e
@@ -525,7 +520,7 @@ fn attribute_of_e<K: KeepAttribute>(keep: &K, alloc: Global, m: &[u8], p: usize)
 
 #[tactic(auto, unfolding(crate::specs::Attributes::attribute_of_f))]
 #[inline(never)]
-fn attribute_of_f<K: KeepAttribute>(keep: &K, alloc: Global, m: &[u8], p: usize) -> ReachedAttribute<K>
+fn attribute_of_f<K: KeepAttribute>(keep: &K, alloc: Global, m: &[u8], p: usize) -> Answer<K>
     requires start { p ≤ length m.now }
     requires serves { K.serves keep.now m.now }
     ensures steps { StepsAt rules.attribute_of_f
@@ -539,7 +534,7 @@ fn attribute_of_f<K: KeepAttribute>(keep: &K, alloc: Global, m: &[u8], p: usize)
 
 #[tactic(auto, unfolding(crate::specs::Attributes::attribute_of_i))]
 #[inline(never)]
-fn attribute_of_i<K: KeepAttribute>(keep: &K, m: &[u8], p: usize) -> ReachedAttribute<K>
+fn attribute_of_i<K: KeepAttribute>(keep: &K, m: &[u8], p: usize) -> Answer<K>
     requires start { p ≤ length m.now }
     requires serves { K.serves keep.now m.now }
     ensures steps { StepsAt rules.attribute_of_i
@@ -553,7 +548,7 @@ fn attribute_of_i<K: KeepAttribute>(keep: &K, m: &[u8], p: usize) -> ReachedAttr
 
 #[tactic(auto, unfolding(crate::specs::Attributes::attribute_of_m))]
 #[inline(never)]
-fn attribute_of_m<K: KeepAttribute>(m: &[u8], p: usize) -> ReachedAttribute<K>
+fn attribute_of_m<K: KeepAttribute>(m: &[u8], p: usize) -> Answer<K>
     requires { p ≤ length m.now }
     ensures steps { StepsAt rules.attribute_of_m
         (parts_said K.text_said K.bytes_said (named_in m.now)) m.now p result }
@@ -566,7 +561,7 @@ fn attribute_of_m<K: KeepAttribute>(m: &[u8], p: usize) -> ReachedAttribute<K>
 
 #[tactic(auto, unfolding(crate::specs::Attributes::attribute_of_r))]
 #[inline(never)]
-fn attribute_of_r<K: KeepAttribute>(keep: &K, m: &[u8], p: usize) -> ReachedAttribute<K>
+fn attribute_of_r<K: KeepAttribute>(keep: &K, m: &[u8], p: usize) -> Answer<K>
     requires start { p ≤ length m.now }
     requires serves { K.serves keep.now m.now }
     ensures steps { StepsAt rules.attribute_of_r
@@ -580,7 +575,7 @@ fn attribute_of_r<K: KeepAttribute>(keep: &K, m: &[u8], p: usize) -> ReachedAttr
 
 #[tactic(auto, unfolding(crate::specs::Attributes::attribute_of_t))]
 #[inline(never)]
-fn attribute_of_t<K: KeepAttribute>(keep: &K, m: &[u8], p: usize) -> ReachedAttribute<K>
+fn attribute_of_t<K: KeepAttribute>(keep: &K, m: &[u8], p: usize) -> Answer<K>
     requires start { p ≤ length m.now }
     requires serves { K.serves keep.now m.now }
     ensures steps { StepsAt rules.attribute_of_t
@@ -594,7 +589,7 @@ fn attribute_of_t<K: KeepAttribute>(keep: &K, m: &[u8], p: usize) -> ReachedAttr
 
 #[tactic(auto, unfolding(crate::specs::Attributes::attribute_of_u))]
 #[inline(never)]
-fn attribute_of_u<K: KeepAttribute>(m: &[u8], p: usize) -> ReachedAttribute<K>
+fn attribute_of_u<K: KeepAttribute>(m: &[u8], p: usize) -> Answer<K>
     requires { p ≤ length m.now }
     ensures steps { StepsAt rules.attribute_of_u
         (parts_said K.text_said K.bytes_said (named_in m.now)) m.now p result }
@@ -607,7 +602,7 @@ fn attribute_of_u<K: KeepAttribute>(m: &[u8], p: usize) -> ReachedAttribute<K>
 
 #[tactic(auto, unfolding(crate::specs::Attributes::attribute_of_x))]
 #[inline(never)]
-fn attribute_of_x<K: KeepAttribute>(keep: &K, alloc: Global, m: &[u8], p: usize) -> ReachedAttribute<K>
+fn attribute_of_x<K: KeepAttribute>(keep: &K, alloc: Global, m: &[u8], p: usize) -> Answer<K>
     requires start { p ≤ length m.now }
     requires serves { K.serves keep.now m.now }
     ensures steps { StepsAt rules.attribute_of_x
@@ -627,12 +622,7 @@ fn attribute_of_x<K: KeepAttribute>(keep: &K, alloc: Global, m: &[u8], p: usize)
 /// It takes memory for lists, envelopes and body structures, and, where values are kept of its strings, for texts that
 /// are not UTF-8.
 #[tactic(auto, using(crate::proofs::AttributeFirstBytes::attribute_none, crate::proofs::AttributeFirstBytes::attribute_is_of_b, crate::proofs::AttributeFirstBytes::attribute_is_of_e, crate::proofs::AttributeFirstBytes::attribute_is_of_f, crate::proofs::AttributeFirstBytes::attribute_is_of_i, crate::proofs::AttributeFirstBytes::attribute_is_of_m, crate::proofs::AttributeFirstBytes::attribute_is_of_r, crate::proofs::AttributeFirstBytes::attribute_is_of_t, crate::proofs::AttributeFirstBytes::attribute_is_of_u, crate::proofs::AttributeFirstBytes::attribute_is_of_x, crate::proofs::AttributeFirstBytes::attribute_other))]
-pub(crate) fn attribute<K: KeepAttribute>(
-    keep: &K,
-    alloc: Global,
-    m: &[u8],
-    p: usize,
-) -> ReachedAttribute<K>
+pub(crate) fn attribute<K: KeepAttribute>(keep: &K, alloc: Global, m: &[u8], p: usize) -> Answer<K>
     requires start { p ≤ length m.now }
     requires serves { K.serves keep.now m.now }
     ensures steps { StepsAt rules.attribute (parts_said K.text_said K.bytes_said (named_in m.now))
