@@ -18,8 +18,8 @@ pub enum Needed {
 /// Why a reader has no value.
 #[derive(Clone, Debug, Drop, PartialEq, Eq, Error)]
 pub enum Err {
-    /// More bytes are needed to tell. Mostly some of them make a value; but a number or an atom is judged behind the byte
-    /// that ends it, so one that is too large, or no UTF-8, is still waited for before that.
+    /// More bytes are needed to tell. Mostly some of them make a value; but a number, an atom or the name of an entry
+    /// is judged behind the byte that ends it, so one that can't stand there is still waited for before that.
     #[error("more bytes are needed")]
     Incomplete(Needed),
     /// No bytes behind these can make a value.

@@ -1,5 +1,5 @@
-//! The classes of bytes. Those that runs are read by are told by tables, which are proved equal to their definitions.
-//! None takes memory.
+//! The classes of bytes. Text-chars, atom-chars, astring-chars and quoted-chars are told by tables, which are proved
+//! equal to their definitions. None takes memory.
 
 ghost use Rattle.std.specs.Prelude.{◌≡◌};
 ghost use Rattle.imap_grammar.specs.Classes as classes;

@@ -187,8 +187,8 @@ fn dotted_number(m: &[u8], p: usize) -> Reached<u32>
 
 /// The path of a part: numbers with dots between (RFC 3501, section 9: section-part, zero allowed).
 ///
-/// No digit in front, or a first number past 32 bits, is `Error`. It takes memory for the path, and none without a digit
-/// in front.
+/// No digit in front, or a first number past 32 bits, is `Error`. It takes memory for the path, and none without a
+/// digit in front.
 #[tactic(auto, unfolding(crate::specs::Sections::section_part))]
 pub fn section_part(alloc: Global, m: &[u8], p: usize) -> Reached<Vec<u32>>
     requires { p ≤ length m.now }

@@ -17,8 +17,8 @@ use std::alloc::Global;
 
 /// The path of a part: numbers with dots between (RFC 3501, section 9: section-part, zero allowed).
 ///
-/// No digit in front, or a first number past 32 bits, is `Error`. It takes memory for the path, and none without a digit
-/// in front.
+/// No digit in front, or a first number past 32 bits, is `Error`. It takes memory for the path, and none without a
+/// digit in front.
 #[tactic(auto, using(imap_grammar::proofs::Agreement::answered))]
 pub fn section_part(alloc: Global, i: &[u8]) -> IResult<&[u8], Vec<u32>>
     ensures steps { Steps sections.section_part (λ x. x.items) i.now result }
