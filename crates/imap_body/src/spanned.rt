@@ -109,8 +109,8 @@ pub(crate) fn spanned_attribute<K: KeepAttribute>(
 /// The attributes of a message in parentheses (RFC 3501, section 9: msg-att), each as its positions in m. All positions
 /// of an attribute lie in its span.
 ///
-/// An empty list, or one that has no `)` where its attributes end, is `Error`. It takes memory for the list, and for the
-/// lists, envelopes and body structures in it; for no text.
+/// An empty list, or one that has no `)` where its attributes end, is `Error`. It takes memory for the list, and for
+/// the lists, envelopes and body structures in it; for no text.
 pub fn attribute_list_at(alloc: Global, m: &[u8], p: usize) -> Reached<Vec<SpannedAttribute>>
     requires { p ≤ length m.now }
     ensures steps { StepsAt rules.attribute_list (λ x. map (attribute_in m.now) x.items) m.now p

@@ -312,7 +312,8 @@ pub fn body_extension<K: Keep>(
     extension(keep, alloc, MAX_EXTENSION_DEPTH, m, p)
 }
 
-// From here on, a field behind a space: one that its rule denies counts as missing, with its space, and nothing is read.
+// The readers below read a field behind a space. One that its rule denies counts as missing, with its space, and
+// nothing is read.
 
 #[inline(always)]
 fn maybe_nstring_text(m: &[u8], p: usize) -> Reached<Option<SpannedText>>
@@ -433,8 +434,8 @@ fn last_extension<K: Keep>(
 
 /// Extension data of a single part (RFC 3501, section 9: body-ext-1part).
 ///
-/// A field that its rule denies counts as missing, with its space: nothing is read for it, and the next field is tried in
-/// its place. It takes memory for lists, and, where values are kept of its strings, for texts that are not UTF-8.
+/// A field that its rule denies counts as missing, with its space: nothing is read for it, and the next field is tried
+/// in its place. It takes memory for lists, and, where values are kept of its strings, for texts that are not UTF-8.
 #[tactic(auto, unfolding(crate::specs::Extensions::body_ext_1part, imap_shapes::specs::ExtensionValues::ext_1part_seen))]
 pub fn body_ext_1part<K: Keep>(
     keep: &K,
@@ -468,8 +469,8 @@ pub fn body_ext_1part<K: Keep>(
 
 /// Extension data of a multipart (RFC 3501, section 9: body-ext-mpart).
 ///
-/// A field that its rule denies counts as missing, with its space: nothing is read for it, and the next field is tried in
-/// its place. It takes memory for lists, and, where values are kept of its strings, for texts that are not UTF-8.
+/// A field that its rule denies counts as missing, with its space: nothing is read for it, and the next field is tried
+/// in its place. It takes memory for lists, and, where values are kept of its strings, for texts that are not UTF-8.
 #[tactic(auto, unfolding(crate::specs::Extensions::body_ext_mpart, imap_shapes::specs::ExtensionValues::ext_mpart_seen))]
 pub fn body_ext_mpart<K: Keep>(
     keep: &K,
