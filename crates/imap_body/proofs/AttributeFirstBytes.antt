@@ -91,7 +91,7 @@ pub attribute_is_of_b : AtAny "bB" attribute attribute_of_b
 unfolding attribute_of_b
 attribute_is_of_b m h = of_body m h ∙ grouped msg_att_body_section msg_att_body_structure msg_att_unknown m ∙ same_or (msg_att_body_section or msg_att_body_structure) body_attribute msg_att_unknown msg_att_unknown body_once (itself msg_att_unknown) m
 
-of_message : AtAny "rR" attribute (msg_att_rfc822 or msg_att_rfc822_header or msg_att_rfc822_size or msg_att_rfc822_text or msg_att_unknown)
+pub of_message : AtAny "rR" attribute (msg_att_rfc822 or msg_att_rfc822_header or msg_att_rfc822_size or msg_att_rfc822_text or msg_att_unknown)
 unfolding attribute msg_att_body_section msg_att_body_structure msg_att_envelope msg_att_internal_date msg_att_flags msg_att_mod_seq msg_att_rfc822 msg_att_rfc822_header msg_att_rfc822_size msg_att_rfc822_text msg_att_uid msg_att_gmail_labels gmail_label_list msg_att_gmail_msgid gmail_msgid msg_att_gmail_thrid gmail_thrid msg_att_email_id msg_att_thread_id msg_att_unknown atom
 of_message = by_any "rR" attribute (msg_att_rfc822 or msg_att_rfc822_header or msg_att_rfc822_size or msg_att_rfc822_text or msg_att_unknown) (λ m. refl)
 

@@ -5,4 +5,5 @@ pub mod Standing
 pub mod Placing
 pub mod Behind
 pub mod AttributeTexts
+pub mod AttributeNumbers
 pub mod Equality

@@ -1,9 +1,9 @@
 -- The text of an attribute of a message: its word and its value.
-use Rattle.std.specs.Prelude.{ℕ, ◌⊎◌, List, [], Option, None, Some}
+use Rattle.std.specs.Prelude.{ℕ, ◌<◌, ◌⊎◌, List, [], ◌++◌, Option, None, Some}
 use Rattle.imap_grammar.specs.Classes.{is_atom_char, is_astring_char}
 use Rattle.imap_grammar.specs.Text.{Bytes, Text}
-use Rattle.imap_grammar.specs.Pieces.{Pieces, ◌then◌, words, space, number_text, plain, literal_text, ntext, list_text}
-use Rattle.imap_grammar.specs.Rule.{Rule}
+use Rattle.imap_grammar.specs.Pieces.{Pieces, written, ◌then◌, words, space, number_text, plain, literal_text, ntext, list_text}
+use Rattle.imap_grammar.specs.Rule.{Rule, meaning}
 use Rattle.imap_grammar.specs.ReadBack.{Texts, EndsItem, SpellsAndReadsBack}
 use Rattle.imap_grammar.specs.Spelling.{this, exactly, in_any_case, ◌and◌, all_of, some_of, utf8_of, as_it_is, maybe, nil_or, spells_number, spells_nstring, spells_string_text, spells_some_list}
 use Rattle.imap_items.specs.FlagTexts.{canonical_flag_list, spells_flag_list}
@@ -11,7 +11,7 @@ use Rattle.imap_items.specs.GmailTexts.{canonical_label_list, canonical_msgid, c
 use Rattle.imap_envelopes.specs.EnvelopeTexts.{canonical_envelope, behind_space, spells_bytes, spells_envelope}
 use Rattle.imap_structure.specs.BodyTexts.{canonical_body, spells_body}
 use Rattle.imap_sections.specs.SectionTexts.{canonical_section, spells_section}
-use Rattle.imap_body.specs.Attributes.{is_inside, is_bare}
+use Rattle.imap_body.specs.Attributes.{is_inside, is_bare, attribute}
 use Rattle.imap_attributes.specs.AttributeValues.{AttributeValue, BodySection, BodyStructure, Envelope, Flags, InternalDate, ModSeq, Rfc822, Rfc822Header, Rfc822Size, Rfc822Text, Uid, GmailLabels, GmailMsgId, GmailThrId, EmailId, ThreadId, Unknown}
 use Rattle.imap_attributes.specs.Changed.{lent_attribute}
 
@@ -111,3 +111,9 @@ spells_attributes = spells_some_list spells_attribute
 abbrev pub AttributeReadsBack : Rule AttributeValue → Type 0
 AttributeReadsBack r =
     SpellsAndReadsBack r lent_attribute canonical_attribute spells_attribute EndsItem
+
+-- The attribute is read with each number below the bound: from its canonical text, also before a space.
+abbrev pub ReadsEachBelow : ℕ → (ℕ → AttributeValue) → Type 0
+ReadsEachBelow bound value =
+    (n : ℕ) (t : Bytes) → n < bound → EndsItem t →
+    (meaning attribute).yields (written (canonical_attribute (value n)) ++ t) (value n) t

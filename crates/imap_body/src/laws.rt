@@ -1,7 +1,8 @@
 //! Laws of the rules of this crate, of `imap_envelopes`, of `imap_structure` and of `imap_sections`, and of `==` of
 //! what they read, as contracts of functions that do nothing.
 
-ghost use Rattle.imap_grammar.specs.Text.{text_of};
+ghost use Rattle.imap_grammar.specs.Text.{Bytes, text_of};
+ghost use Rattle.imap_grammar.specs.Step.{step};
 ghost use Rattle.imap_grammar.specs.Equality.{Tells};
 ghost use Rattle.imap_grammar.specs.Copying.{CopiesFreely};
 ghost use Rattle.imap_shapes.specs.Spans.{bytes_of};
@@ -18,14 +19,15 @@ ghost use Rattle.imap_structure.specs.Fields as fields;
 ghost use Rattle.imap_structure.specs.Extensions as extensions;
 ghost use Rattle.imap_structure.specs.Bodies as bodies;
 ghost use Rattle.std.specs.Option.{option_map};
-ghost use Rattle.std.specs.Prelude.{ℕ, map};
+ghost use Rattle.imap_structure.specs.declared.limits.TheConstants.{MAX_BODY_DEPTH, MAX_EXTENSION_DEPTH};
+ghost use Rattle.std.specs.Prelude.{ℕ, ◌≡◌, ◌^◌, map};
 ghost use Rattle.imap_grammar.specs.ReadBack.{SpellsAndReadsBack, Closes, as_is};
 ghost use Rattle.imap_shapes.specs.Lent.{lent_address, lent_addresses, lent_envelope, lent_params, lent_encoding, lent_fields, lent_disposition, lent_languages, lent_extension, lent_ext_1part, lent_ext_mpart, lent_type, lent_common, lent_single, lent_body};
 ghost use Rattle.imap_sections.specs.SectionTexts.{canonical_section_text, canonical_part, canonical_path, canonical_section, spells_message_text, spells_section_text, spells_part, spells_path, spells_section};
-ghost use Rattle.imap_attributes.specs.AttributeValues.{attribute_value};
+ghost use Rattle.imap_attributes.specs.AttributeValues.{attribute_value, ModSeq, Rfc822Size, Uid, GmailMsgId, GmailThrId};
 ghost use Rattle.imap_attributes.specs.Changed.{lent_attribute};
 ghost use Rattle.imap_body.specs.SpannedAttributes.{places_of_body, places_of, spanned_value};
-ghost use Rattle.imap_body.specs.AttributeTexts.{canonical_attributes, spells_attributes, AttributeReadsBack};
+ghost use Rattle.imap_body.specs.AttributeTexts.{canonical_attributes, spells_attributes, AttributeReadsBack, ReadsEachBelow};
 ghost use Rattle.imap_envelopes.specs.EnvelopeTexts.{canonical_address, canonical_addresses, canonical_envelope, spells_address, spells_addresses, spells_envelope};
 ghost use Rattle.imap_structure.specs.FieldTexts.{canonical_params, canonical_encoding, canonical_fields, spells_params, spells_encoding, spells_fields};
 ghost use Rattle.imap_structure.specs.ExtensionTexts.{canonical_disposition, canonical_languages, canonical_extension, canonical_ext_1part, canonical_ext_mpart, spells_disposition, spells_languages, spells_extension, spells_ext_1part, spells_ext_mpart};
@@ -97,6 +99,14 @@ pub fn stable()
     ensures attribute_list { Stable attributes.attribute_list }
 {}
 
+/// Bodies and extension lists nest as deep as the constants say.
+pub fn limits()
+    ensures body { (m : Bytes) →
+        step bodies.body_structure m ≡ step (bodies.body MAX_BODY_DEPTH) m }
+    ensures extension { (m : Bytes) →
+        step extensions.body_extension m ≡ step (extensions.extension MAX_EXTENSION_DEPTH) m }
+{}
+
 /// What each rule takes spells the value that it yields. On the canonical text of a value that it yields, the rule
 /// yields that value again, with all texts borrowed. What follows the text is left whole: any bytes that begin with `)`
 /// or CR, and after an attribute also with a space. Excepted is a text too long to be written as a literal.
@@ -160,6 +170,17 @@ pub fn read_back()
     ensures attribute { AttributeReadsBack attributes.attribute }
     ensures attribute_list { SpellsAndReadsBack attributes.attribute_list (map lent_attribute)
         canonical_attributes spells_attributes Closes }
+{}
+
+/// Each number that fits is read: of 32 bits as a size or a UID, of 64 bits as a mod-sequence value or a number of
+/// Gmail's. On the canonical text of the attribute with that number `attribute` yields just this, and leaves what
+/// follows whole: any bytes that begin with `)`, CR or a space.
+pub fn numbers()
+    ensures rfc822_size { ReadsEachBelow (2 ^ 32) Rfc822Size }
+    ensures uid { ReadsEachBelow (2 ^ 32) Uid }
+    ensures mod_seq { ReadsEachBelow (2 ^ 64) ModSeq }
+    ensures gmail_msgid { ReadsEachBelow (2 ^ 64) GmailMsgId }
+    ensures gmail_thrid { ReadsEachBelow (2 ^ 64) GmailThrId }
 {}
 
 // `==` tells body structures and attributes of spans by their positions.

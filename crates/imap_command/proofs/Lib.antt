@@ -4,3 +4,4 @@ pub mod Reader
 pub mod ReadBack
 pub mod ToldApart
 pub mod OneLine
+pub mod Refusals

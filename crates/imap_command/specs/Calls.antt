@@ -156,10 +156,16 @@ pub record Holds (calls : List Call) (command : Command) : Type 0 where
   pub text : command.args.items ≡ (told calls).text
   pub next_state : command.next_state ≡ (told calls).next_state
 
--- The call's numbers are in range. And if old is the text of calls that end in this state, new is
--- the text of these and one call more.
-pub record Adds (state : Stage) (call : Call) (old new : List ℕ) : Type 0 where
+-- The call may come first and leads to the typed state next, and new is its text.
+pub record Begins (call : Call) (next : Stage) (new : List ℕ) : Type 0 where
+  pub leads : after start call ≡ next
+  pub text : new ≡ begun (call ∷ [])
+
+-- The call's numbers are in range, and it leads from this state to the typed state next. And if old is
+-- the text of calls that end in this state, new is the text of these and one call more.
+pub record Adds (state : Stage) (call : Call) (next : Stage) (old new : List ℕ) : Type 0 where
   pub in_range : InRange call
+  pub leads : after state call ≡ next
   pub text :
       (calls : List Call) → stage calls ≡ state → old ≡ begun calls → new ≡ begun (call ∷ calls)
 

@@ -3,7 +3,7 @@
 ghost use Rattle.std.specs.Prelude.{◌≡◌, [], ◌∷◌, IfOk, OnOk};
 ghost use Rattle.std.specs.Option.{option_or};
 ghost use Rattle.imap_command.specs.Arguments.{refusal, Judges};
-ghost use Rattle.imap_command.specs.Calls.{begun, Holds};
+ghost use Rattle.imap_command.specs.Calls.{no_params, empty, Begins, Holds};
 ghost use Rattle.imap_command.specs.Calls as call;
 ghost use Rattle.imap_command.specs.OneLine.{Unrefused};
 
@@ -47,7 +47,7 @@ impl CommandBuilder {
     /// `OutOfMemory`: memory ran out.
     pub fn examine(alloc: Global, mailbox: &str) -> Result<SelectCommand<NoParams>, BuildError>
         ensures judged { Judges (refusal mailbox.now) result }
-        ensures text { IfOk result (λ command. command ≡ begun (call.examine mailbox.now ∷ [])) }
+        ensures begins { IfOk result (Begins (call.examine mailbox.now) no_params) }
         ensures unrefused { OnOk result (Unrefused (call.examine mailbox.now)) }
     {
         let args = with_argument(alloc, b"EXAMINE ", mailbox)?;
@@ -57,7 +57,7 @@ impl CommandBuilder {
     /// FETCH of messages by their numbers (RFC 3501, section 6.4.5). It takes memory; `Err`: memory
     /// ran out.
     pub fn fetch(alloc: Global) -> Result<FetchCommand<Empty>, AllocError>
-        ensures { IfOk result (λ command. command ≡ begun (call.fetch ∷ [])) }
+        ensures { IfOk result (Begins call.fetch empty) }
     {
         let args = Vec::from_slice(alloc, b"FETCH ")?;
         Ok(FetchCommand::with_text(args))
@@ -104,7 +104,7 @@ impl CommandBuilder {
     /// `OutOfMemory`: memory ran out.
     pub fn select(alloc: Global, mailbox: &str) -> Result<SelectCommand<NoParams>, BuildError>
         ensures judged { Judges (refusal mailbox.now) result }
-        ensures text { IfOk result (λ command. command ≡ begun (call.select mailbox.now ∷ [])) }
+        ensures begins { IfOk result (Begins (call.select mailbox.now) no_params) }
         ensures unrefused { OnOk result (Unrefused (call.select mailbox.now)) }
     {
         let args = with_argument(alloc, b"SELECT ", mailbox)?;
@@ -114,7 +114,7 @@ impl CommandBuilder {
     /// FETCH of messages by their unique identifiers (RFC 3501, section 6.4.8). It takes memory;
     /// `Err`: memory ran out.
     pub fn uid_fetch(alloc: Global) -> Result<FetchCommand<Empty>, AllocError>
-        ensures { IfOk result (λ command. command ≡ begun (call.uid_fetch ∷ [])) }
+        ensures { IfOk result (Begins call.uid_fetch empty) }
     {
         let args = Vec::from_slice(alloc, b"UID FETCH ")?;
         Ok(FetchCommand::with_text(args))

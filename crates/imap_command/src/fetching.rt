@@ -2,7 +2,7 @@
 
 ghost use Rattle.std.specs.Prelude.{◌≡◌, ℕ, List, IfOk};
 ghost use Rattle.std.specs.Range.{range_inclusive_start, range_inclusive_end};
-ghost use Rattle.imap_command.specs.Calls.{empty, modifiers, Adds, Finishes};
+ghost use Rattle.imap_command.specs.Calls.{empty, messages, modifiers, Adds, Finishes};
 ghost use Rattle.imap_command.specs.Calls as call;
 
 use crate::Command;
@@ -42,9 +42,9 @@ impl<T> FetchCommand<T> {
 
 impl FetchCommand<Empty> {
     /// Asks for the message with this number, behind `uid_fetch` with this UID (RFC 3501, sections 6.4.5
-    /// and 6.4.8). It takes memory; `Err`: memory ran out.
+    /// and 6.4.8). 0 is not refused, though no message has it. It takes memory; `Err`: memory ran out.
     pub fn num(self, number: u32) -> Result<FetchCommand<Messages>, AllocError>
-        ensures { IfOk result (Adds empty (call.num number) self) }
+        ensures { IfOk result (Adds empty (call.num number) messages self) }
     {
         let mut args = self.args;
         push_number(&mut args, u64::from(number))?;
@@ -52,11 +52,12 @@ impl FetchCommand<Empty> {
     }
 
     /// Asks for the messages from one number to another, behind `uid_fetch` from one UID to another
-    /// (RFC 3501, sections 6.4.5 and 6.4.8). It takes memory; `Err`: memory ran out.
+    /// (RFC 3501, sections 6.4.5 and 6.4.8). 0 is not refused, and the ends stay in their order: `10..=1` asks
+    /// for the same messages as `1..=10` (section 9: seq-range). It takes memory; `Err`: memory ran out.
     pub fn range(self, range: RangeInclusive<u32>) -> Result<FetchCommand<Messages>, AllocError>
         ensures { IfOk result
             (Adds empty (call.range (range_inclusive_start range) (range_inclusive_end range))
-            self) }
+            messages self) }
     {
         let mut args = self.args;
         push_range(&mut args, range)?;
@@ -64,9 +65,10 @@ impl FetchCommand<Empty> {
     }
 
     /// Asks for the messages from a number on, behind `uid_fetch` from a UID on (RFC 3501, sections 6.4.5
-    /// and 6.4.8). It takes memory; `Err`: memory ran out.
+    /// and 6.4.8). 0 is not refused. `n:*` always includes the last message, even where that is below n
+    /// (section 9: seq-range). It takes memory; `Err`: memory ran out.
     pub fn range_from(self, range: RangeFrom<u32>) -> Result<FetchCommand<Messages>, AllocError>
-        ensures { IfOk result (Adds empty (call.range_from range.start) self) }
+        ensures { IfOk result (Adds empty (call.range_from range.start) messages self) }
     {
         let mut args = self.args;
         push_open_range(&mut args, range.start)?;
@@ -75,10 +77,11 @@ impl FetchCommand<Empty> {
 }
 
 impl FetchCommand<Modifiers> {
-    /// Asks only for messages that changed after this mod-sequence (RFC 4551, section 3.3.1). A limit
-    /// that was set before stays. It takes memory; `Err`: memory ran out.
+    /// Asks only for messages that changed after this mod-sequence (RFC 4551, section 3.3.1). Call it once
+    /// in a command: each call writes brackets of its own, and FETCH has a rule for one pair only (RFC 4466,
+    /// section 2.4). It takes memory; `Err`: memory ran out.
     pub fn changed_since(self, mod_seq: u64) -> Result<FetchCommand<Modifiers>, AllocError>
-        ensures { IfOk result (Adds modifiers (call.changed_since mod_seq) self) }
+        ensures { IfOk result (Adds modifiers (call.changed_since mod_seq) modifiers self) }
     {
         let mut args = self.args;
         push_changed_since(&mut args, mod_seq)?;

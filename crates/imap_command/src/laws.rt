@@ -1,8 +1,10 @@
 //! Laws over the definitions of commands. Each is the contract of a function that does nothing.
 
-ghost use Rattle.std.specs.Prelude.{◌≡◌, ◌↔◌, IsTrue};
+ghost use Rattle.std.specs.Prelude.{◌≡◌, ◌↔◌, ℕ, List, All, None, IsTrue};
 ghost use Rattle.imap_command.specs.Apart.{CallsToldApart};
-ghost use Rattle.imap_command.specs.OneLine.{OneLine};
+ghost use Rattle.imap_command.specs.Arguments.{refusal};
+ghost use Rattle.imap_command.specs.Ascii.{nul, line_feed, carriage_return};
+ghost use Rattle.imap_command.specs.OneLine.{OneLine, RefusedAs, StaysInLine};
 
 use crate::command::State;
 use crate::errors::BuildError;
@@ -18,6 +20,15 @@ pub fn calls_told_apart()
 /// command is one line, and no argument brings in another (RFC 3501, section 9: command, quoted).
 pub fn one_line()
     ensures { OneLine }
+{}
+
+/// An argument without carriage return, line feed and zero byte is not refused. One that has such a byte is refused by
+/// the name of the first.
+pub fn refusals()
+    ensures accepted { (argument : List ℕ) → All StaysInLine argument → refusal argument ≡ None }
+    ensures carriage_return { RefusedAs carriage_return BuildError.CarriageReturn }
+    ensures line_feed { RefusedAs line_feed BuildError.LineFeed }
+    ensures nul { RefusedAs nul BuildError.Nul }
 {}
 
 /// `==` tells whether two values are the same.

@@ -3,6 +3,21 @@
 //! A [`CommandBuilder`] begins a command, later calls add to it, and the finished [`Command`] holds
 //! its text without tag and line end, and the state that it leads to. A call that takes memory
 //! answers an error where memory ran out, and the command is then given up.
+//!
+//! Where later calls may follow, a command ends in one of two ways. After `attr` or `cond_store` a list is
+//! still open, and `into_command` closes it, which takes memory; after `select`, `examine`, `attr_macro` or
+//! `changed_since` none is, and `Command::from` takes no memory. `check`, `close`, `list` and `login`
+//! answer a finished command.
+//!
+//! ```rust
+//! // UID FETCH 1:10 (FLAGS)
+//! let fetch = CommandBuilder::uid_fetch(alloc)?
+//!     .range(1..=10)?
+//!     .attr(Attribute::Flags)?
+//!     .into_command()?;
+//! // SELECT "INBOX"
+//! let select = Command::from(CommandBuilder::select(alloc, "INBOX")?);
+//! ```
 #![tactic(auto)]
 
 mod arguments;

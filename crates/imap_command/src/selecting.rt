@@ -49,7 +49,7 @@ impl SelectCommand<NoParams> {
     /// Asks for mod-sequences from now on (RFC 4551, section 3.7). It takes memory; `Err`: memory
     /// ran out.
     pub fn cond_store(self) -> Result<SelectCommand<Params>, AllocError>
-        ensures { IfOk result (Adds no_params call.cond_store self) }
+        ensures { IfOk result (Adds no_params call.cond_store params self) }
     {
         let mut args = self.args;
         args.extend_from_slice(b" (CONDSTORE")?;

@@ -30,11 +30,11 @@ pub enum Attribute {
     InternalDate,
     /// `MODSEQ`: the message's mod-sequence.
     ModSeq,
-    /// `RFC822`: the whole message.
+    /// `RFC822`: the whole message. The server sets `\Seen` by it; the builder has no PEEK.
     Rfc822,
     /// `RFC822.SIZE`: its size in bytes.
     Rfc822Size,
-    /// `RFC822.TEXT`: its text, without the header.
+    /// `RFC822.TEXT`: its text, without the header. The server sets `\Seen` by it, too.
     Rfc822Text,
     /// `UID`: its unique identifier.
     Uid,
@@ -46,31 +46,35 @@ pub enum Attribute {
     GmailThrId,
 }
 
-pub(crate) fn macro_text(group: AttrMacro) -> &'static [u8]
-    ensures { result.now ≡ macro_word group }
-{
-    match group {
-        AttrMacro::All => b"ALL",
-        AttrMacro::Fast => b"FAST",
-        AttrMacro::Full => b"FULL",
+impl AttrMacro {
+    pub(crate) fn word(self) -> &'static [u8]
+        ensures { result.now ≡ macro_word self }
+    {
+        match self {
+            AttrMacro::All => b"ALL",
+            AttrMacro::Fast => b"FAST",
+            AttrMacro::Full => b"FULL",
+        }
     }
 }
 
-pub(crate) fn attribute_text(attribute: Attribute) -> &'static [u8]
-    ensures { result.now ≡ attribute_word attribute }
-{
-    match attribute {
-        Attribute::Body => b"BODY",
-        Attribute::Envelope => b"ENVELOPE",
-        Attribute::Flags => b"FLAGS",
-        Attribute::InternalDate => b"INTERNALDATE",
-        Attribute::ModSeq => b"MODSEQ",
-        Attribute::Rfc822 => b"RFC822",
-        Attribute::Rfc822Size => b"RFC822.SIZE",
-        Attribute::Rfc822Text => b"RFC822.TEXT",
-        Attribute::Uid => b"UID",
-        Attribute::GmailLabels => b"X-GM-LABELS",
-        Attribute::GmailMsgId => b"X-GM-MSGID",
-        Attribute::GmailThrId => b"X-GM-THRID",
+impl Attribute {
+    pub(crate) fn word(self) -> &'static [u8]
+        ensures { result.now ≡ attribute_word self }
+    {
+        match self {
+            Attribute::Body => b"BODY",
+            Attribute::Envelope => b"ENVELOPE",
+            Attribute::Flags => b"FLAGS",
+            Attribute::InternalDate => b"INTERNALDATE",
+            Attribute::ModSeq => b"MODSEQ",
+            Attribute::Rfc822 => b"RFC822",
+            Attribute::Rfc822Size => b"RFC822.SIZE",
+            Attribute::Rfc822Text => b"RFC822.TEXT",
+            Attribute::Uid => b"UID",
+            Attribute::GmailLabels => b"X-GM-LABELS",
+            Attribute::GmailMsgId => b"X-GM-MSGID",
+            Attribute::GmailThrId => b"X-GM-THRID",
+        }
     }
 }

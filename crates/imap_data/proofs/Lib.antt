@@ -11,3 +11,4 @@ pub mod Takes
 pub mod ListCodes
 pub mod NumberData
 pub mod Owned
+mod AnyCase

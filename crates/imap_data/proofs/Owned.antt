@@ -1,6 +1,7 @@
--- An owned value says the same as the value that it was made from.
-use Rattle.std.proofs.Common.{◌≡◌, refl, ap, map}
-use Rattle.imap_grammar.specs.Text.{lent_text, owned_text}
+-- An owned value says the same as the value that it was made from; and the owned form of a value doesn't depend on which
+-- of its texts are borrowed.
+use Rattle.std.proofs.Common.{◌≡◌, List, refl, ap, map}
+use Rattle.imap_grammar.specs.Text.{Text, lent_text, owned_text}
 use Rattle.imap_items.specs.Capabilities.{CapabilityValue, lent_capability, Imap4rev1, Auth, Atom}
 use Rattle.imap_items.specs.Owned.{owned_capability}
 use Rattle.imap_extensions.proofs.Owned.{list_says, option_says, texts_say}
@@ -34,3 +35,34 @@ owned_datum_says (Listed l) = ap (λ x. Listed x) (owned_list_says l)
 owned_datum_says (MetadataUnsolicited box values) = ap (λ x. MetadataUnsolicited (lent_text box) x) (texts_say values)
 owned_datum_says (GmailLabels labels) = ap (λ x. GmailLabels x) (texts_say labels)
 owned_datum_says other = cc
+
+-- ---- owned forms of values whose texts are borrowed
+
+lent_capability_owned : (c : CapabilityValue) → owned_capability (lent_capability c) ≡ owned_capability c
+lent_capability_owned Imap4rev1 = refl
+lent_capability_owned (Auth t) = refl
+lent_capability_owned (Atom t) = refl
+
+lent_texts_owned : (ts : List Text) → map owned_text (map lent_text ts) ≡ map owned_text ts
+lent_texts_owned = list_says owned_text lent_text (λ t. refl)
+
+pub lent_code_owned : (c : CodeValue) → owned_code (lent_code c) ≡ owned_code c
+lent_code_owned (BadCharset c) = ap (λ x. BadCharset x) (option_says (map owned_text) (map lent_text) lent_texts_owned c)
+lent_code_owned (Capabilities cs) = ap (λ x. Capabilities x) (list_says owned_capability lent_capability lent_capability_owned cs)
+lent_code_owned (PermanentFlags fs) = ap (λ x. PermanentFlags x) (lent_texts_owned fs)
+lent_code_owned other = cc
+
+pub lent_attribute_owned : (a : NameAttributeValue) → owned_attribute (lent_attribute a) ≡ owned_attribute a
+lent_attribute_owned (Extension t) = refl
+lent_attribute_owned other = cc
+
+pub lent_list_owned : (l : ListValue) → owned_list (lent_list l) ≡ owned_list l
+lent_list_owned l =
+    rw (list_says owned_attribute lent_attribute lent_attribute_owned l.name_attributes, option_says owned_text lent_text (λ t. refl) l.delimiter) refl
+
+pub lent_datum_owned : (d : DatumValue) → owned_datum (lent_datum d) ≡ owned_datum d
+lent_datum_owned (Flags fs) = ap (λ x. Flags x) (lent_texts_owned fs)
+lent_datum_owned (Listed l) = ap (λ x. Listed x) (lent_list_owned l)
+lent_datum_owned (MetadataUnsolicited box values) = ap (λ x. MetadataUnsolicited (owned_text box) x) (lent_texts_owned values)
+lent_datum_owned (GmailLabels labels) = ap (λ x. GmailLabels x) (lent_texts_owned labels)
+lent_datum_owned other = cc

@@ -154,7 +154,8 @@ no_private = names "METADATA NOPRIVATE" MetadataNoPrivate
 
 -- RFC 3501: resp-text-code = "ALERT" / "BADCHARSET" [SP "(" astring *(SP astring) ")"] / capability-data / "PARSE" /
 -- "PERMANENTFLAGS" SP "(" [flag-perm *(SP flag-perm)] ")" / "READ-ONLY" / "READ-WRITE" / "TRYCREATE" / "UIDNEXT" SP
--- nz-number / "UIDVALIDITY" SP nz-number / "UNSEEN" SP nz-number, where zero is read, too
+-- nz-number / "UIDVALIDITY" SP nz-number / "UNSEEN" SP nz-number / atom [SP 1*<any TEXT-CHAR except "]">]: zero is
+-- read, too, and the last alternative, any other code, is no rule here
 unfoldable pub basic_code : Rule CodeValue
 basic_code =
     names "ALERT" Alert
@@ -169,13 +170,13 @@ basic_code =
     or names "READ-WRITE" ReadWrite
     or names "TRYCREATE" TryCreate
 
--- RFC 4551: resp-text-code =/ "HIGHESTMODSEQ" SP mod-sequence-value; RFC 4315: resp-text-code =/ resp-code-apnd /
--- resp-code-copy / "UIDNOTSTICKY"
+-- RFC 4551: resp-text-code =/ "HIGHESTMODSEQ" SP mod-sequence-value / "NOMODSEQ" / "MODIFIED" SP set, without the last
+-- two; RFC 4315: resp-text-code =/ resp-code-apnd / resp-code-copy / "UIDNOTSTICKY"
 unfoldable pub uid_code : Rule CodeValue
 uid_code = highest_mod_seq or append_uid or copy_uid or names "UIDNOTSTICKY" UidNotSticky
 
 -- RFC 5464: resp-text-code =/ "METADATA" SP "LONGENTRIES" SP number / "METADATA" SP ("MAXSIZE" SP number / "TOOMANY" /
--- "NOPRIVATE")
+-- "NOPRIVATE"), where a number may have 64 bits
 unfoldable pub metadata_code : Rule CodeValue
 metadata_code = long_entries or max_size or too_many or no_private
 

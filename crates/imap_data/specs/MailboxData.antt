@@ -1,6 +1,7 @@
 -- Data of a mailbox (RFC 3501, section 9: mailbox-data; RFC 5256, section 5: sort-data; X-GM-EXT-1).
-use Rattle.std.specs.Prelude.{List}
-use Rattle.imap_grammar.specs.Text.{Text}
+use Rattle.std.specs.Prelude.{◌⊎◌, List}
+use Rattle.imap_grammar.specs.Text.{Bytes, Text}
+use Rattle.imap_grammar.specs.Memory.{BeginsWord}
 use Rattle.imap_grammar.specs.Rule.{Rule, gives, ◌⨾◌, ◌▹◌, ◌◃◌, ◌or◌}
 use Rattle.imap_grammar.specs.Tags.{word, sp}
 use Rattle.imap_bytes.specs.Numbers.{number}
@@ -64,6 +65,17 @@ mailbox_datum =
     or msgid
     or thrid
     or sort
+
+-- the word of data that hold a list stands in front
+abbrev pub BeginsListDatum : Bytes → Type 0
+BeginsListDatum m =
+    BeginsWord "FLAGS " m
+    ⊎ BeginsWord "LIST " m
+    ⊎ BeginsWord "LSUB " m
+    ⊎ BeginsWord "X-GM-LABELS " m
+    ⊎ BeginsWord "STATUS " m
+    ⊎ BeginsWord "SEARCH" m
+    ⊎ BeginsWord "SORT" m
 
 -- ---- no further rules: those alternatives of `mailbox_datum` that may start with one byte, as the reader tries them
 

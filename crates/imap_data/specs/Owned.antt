@@ -1,6 +1,6 @@
--- The same values with all texts owned.
-use Rattle.std.specs.Prelude.{option_map, map}
-use Rattle.imap_grammar.specs.Text.{owned_text}
+-- The same values with all texts owned, and of which that takes no memory.
+use Rattle.std.specs.Prelude.{Some, option_map, map}
+use Rattle.imap_grammar.specs.Text.{owned_text, IsOwned}
 use Rattle.imap_items.specs.Owned.{owned_capability}
 use Rattle.imap_data.specs.Codes.{CodeValue, BadCharset, Capabilities, PermanentFlags}
 use Rattle.imap_data.specs.Names.{NameAttributeValue, Extension, ListValue}
@@ -12,9 +12,21 @@ owned_code (Capabilities capabilities) = Capabilities (map owned_capability capa
 owned_code (PermanentFlags flags) = PermanentFlags (map owned_text flags)
 owned_code other = other
 
+-- it holds no list of texts or of capabilities
+abbrev pub HoldsNoTexts : CodeValue → Type 0
+HoldsNoTexts (BadCharset (Some charsets)) = ⊥
+HoldsNoTexts (Capabilities capabilities) = ⊥
+HoldsNoTexts (PermanentFlags flags) = ⊥
+HoldsNoTexts other = Unit {0}
+
 abbrev pub owned_attribute : NameAttributeValue → NameAttributeValue
 owned_attribute (Extension t) = Extension (owned_text t)
 owned_attribute other = other
+
+-- it holds no borrowed text
+abbrev pub IsOwnedAttribute : NameAttributeValue → Type 0
+IsOwnedAttribute (Extension t) = IsOwned t
+IsOwnedAttribute other = Unit {0}
 
 abbrev pub owned_list : ListValue → ListValue
 owned_list l =
@@ -34,3 +46,13 @@ owned_datum (MetadataUnsolicited mailbox values) =
     MetadataUnsolicited (owned_text mailbox) (map owned_text values)
 owned_datum (GmailLabels labels) = GmailLabels (map owned_text labels)
 owned_datum other = other
+
+-- it holds no list of texts or of attributes, and no borrowed text
+abbrev pub IsMovedWhole : DatumValue → Type 0
+IsMovedWhole (Flags flags) = ⊥
+IsMovedWhole (Listed l) = ⊥
+IsMovedWhole (Status mailbox items) = IsOwned mailbox
+IsMovedWhole (MetadataSolicited mailbox values) = IsOwned mailbox
+IsMovedWhole (MetadataUnsolicited mailbox values) = ⊥
+IsMovedWhole (GmailLabels labels) = ⊥
+IsMovedWhole other = Unit {0}

@@ -46,7 +46,7 @@ ghost use Rattle.imap_extensions.specs.Quotas.{lent_quota, lent_quota_root};
 ghost use Rattle.imap_extensions.specs.Ids.{lent_id};
 ghost use Rattle.imap_extensions.specs.Acls.{lent_acl, lent_list_rights, lent_my_rights};
 ghost use Rattle.imap_data.specs.Owned.{owned_code, owned_attribute, owned_list, owned_datum};
-ghost use Rattle.imap_data.specs.Constants.{IsReadBy, code_texts, attribute_texts};
+ghost use Rattle.imap_data.specs.Constants.{IsReadBy, status_texts, capability_texts, code_texts, attribute_texts, resource_texts};
 ghost use Rattle.imap_data.specs.CodeTexts.{canonical_response_code, spells_response_code};
 ghost use Rattle.imap_data.specs.MailboxDataTexts.{canonical_datum, spells_datum};
 ghost use Rattle.imap_extensions.specs.QuotaTexts.{canonical_quota, spells_quota, canonical_quota_root, spells_quota_root};
@@ -152,10 +152,14 @@ pub fn hashing()
     ensures acl_right { HashesAlike ⟦<AclRight as Hash>⟧.hash_input (λ x. x) }
 {}
 
-/// Each value that holds nothing is read from its text, whatever follows that.
+/// Each value that holds nothing is read from its text, each letter in either case, whatever follows that.
 pub fn constants()
+    ensures status { AllByRecursion (IsReadBy statuses.status) status_texts }
+    ensures capability { AllByRecursion (IsReadBy capabilities.capability) capability_texts }
     ensures response_code { AllByRecursion (IsReadBy codes.response_code) code_texts }
     ensures name_attribute { AllByRecursion (IsReadBy names.name_attribute) attribute_texts }
+    ensures quota_resource_name { AllByRecursion (IsReadBy quotas.quota_resource_name)
+        resource_texts }
 {}
 
 /// An owned value says the same as the value that it was made from. Of those of `imap_items` and `imap_extensions` the
@@ -167,6 +171,16 @@ pub fn owning()
         lent_attribute (owned_attribute a) ≡ lent_attribute a }
     ensures list_data { (l : ListValue) → lent_list (owned_list l) ≡ lent_list l }
     ensures mailbox_datum { (d : DatumValue) → lent_datum (owned_datum d) ≡ lent_datum d }
+{}
+
+/// The owned form of a value doesn't depend on which of its texts are borrowed.
+#[tactic(auto, using(crate::proofs::Owned::lent_code_owned, crate::proofs::Owned::lent_attribute_owned, crate::proofs::Owned::lent_list_owned, crate::proofs::Owned::lent_datum_owned))]
+pub fn lending()
+    ensures response_code { (c : CodeValue) → owned_code (lent_code c) ≡ owned_code c }
+    ensures name_attribute { (a : NameAttributeValue) →
+        owned_attribute (lent_attribute a) ≡ owned_attribute a }
+    ensures list_data { (l : ListValue) → owned_list (lent_list l) ≡ owned_list l }
+    ensures mailbox_datum { (d : DatumValue) → owned_datum (lent_datum d) ≡ owned_datum d }
 {}
 
 /// What each rule takes spells the value that it yields. On the canonical text of a value that it yields, the rule

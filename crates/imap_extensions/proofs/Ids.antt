@@ -17,6 +17,7 @@ use Rattle.imap_grammar.specs.Text.{Bytes, Text, text_of, lent_text, owned_text}
 use Rattle.imap_grammar.proofs.Seen.{Tells, option_tells, option_twice, texts_tell}
 use Rattle.imap_extensions.specs.Ids.{IdValue, IdTable, entry_value, id_value, lent_id, id_content}
 use Rattle.imap_extensions.specs.Owned.{owned_entry, owned_id}
+use Rattle.imap_extensions.proofs.Owned.{option_says}
 
 abbrev same_bytes : CowStr Global → CowStr Global → Bool
 same_bytes x y = pointwise nat_eq (cow_str_bytes x) (cow_str_bytes y)
@@ -138,10 +139,18 @@ put_owned_entries m h = alike (put_entries empty (map owned_of m.entries)) (owne
     ∙ ap (find (slice_cmp nat_cmp) q) (sym (map-map owned_entry entry_value m.entries)) ∙ find_changed owned_text q (map entry_value m.entries)
     ∙ ap (option_map owned_text) (sym (get-from_entries nat_list_cmp_total (map entry_value m.entries) q)) ∙ sym (get-changed owned_text (id_value m) q))
 
+-- what is said behind a change that makes no difference to it
+changed_id_says : (second first : Text → Text) → ((t : Text) → second (first t) ≡ second t) → (m : IdValue) → changed_id second (changed_id first m) ≡ changed_id second m
+changed_id_says second first says m = alike (changed_id second (changed_id first m)) (changed_id second m)
+    (λ q. get-changed second (changed_id first m) q ∙ ap (option_map second) (get-changed first m q) ∙ option_says second first says (get m q) ∙ sym (get-changed second m q))
+
 -- an owned map says the same
 pub owned_id_says : (m : IdValue) → lent_id (owned_id m) ≡ lent_id m
-owned_id_says m = alike (lent_id (owned_id m)) (lent_id m)
-    (λ q. get-lent_id (owned_id m) q ∙ ap (option_map lent_text) (get-changed owned_text m q) ∙ sym (option_twice owned_text lent_text (get m q)) ∙ sym (get-lent_id m q))
+owned_id_says = changed_id_says lent_text owned_text (λ t. refl)
+
+-- the owned map doesn't depend on which of its texts are borrowed
+pub lent_id_owned : (m : IdValue) → owned_id (lent_id m) ≡ owned_id m
+lent_id_owned = changed_id_says owned_text lent_text (λ t. refl)
 
 pub bytes_said : (x : CowStr Global) → (text_of x).bytes ≡ cow_str_bytes x
 bytes_said (Borrowed s) = refl

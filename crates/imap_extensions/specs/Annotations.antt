@@ -107,6 +107,10 @@ annotation = gives annotation_of (entry_utf8 ⨾ sp ▹ nstring_utf8)
 unfoldable pub metadata_mailbox : Rule Text
 metadata_mailbox = word "METADATA " ▹ quoted_utf8 ◃ sp
 
+-- the same without the SP
+abbrev pub quoted_mailbox : Rule Text
+quoted_mailbox = word "METADATA " ▹ quoted_utf8
+
 -- entry-values = "(" entry-value *(SP entry-value) ")"
 unfoldable pub annotations : Rule (List MetadataValue)
 annotations = nonempty_list_of annotation

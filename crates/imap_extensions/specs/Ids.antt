@@ -89,7 +89,7 @@ params_of ps = Some (map_of_pairs ps)
 abbrev pub some_params : Rule (Option IdValue)
 some_params = gives params_of id_list
 
--- id_params_list = "(" #(string SPACE nstring) ")" / nil, where `#` is one or more
+-- id_params_list = "(" #(string SPACE nstring) ")" / nil, where `#` is any number: an empty list is denied here
 unfoldable pub id_params : Rule (Option IdValue)
 id_params = some_params or nil ▹ nothing None
 

@@ -1,7 +1,7 @@
--- The same values with all texts owned.
+-- The same values with all texts owned, and which resource names are so already.
 use Rattle.std.specs.Prelude.{map}
 use Rattle.std.specs.FinMap.{entries, from_entries}
-use Rattle.imap_grammar.specs.Text.{Bytes, Text, owned_text}
+use Rattle.imap_grammar.specs.Text.{Bytes, Text, owned_text, IsOwned}
 use Rattle.imap_extensions.specs.Quotas.{QuotaResourceNameValue, Atom, QuotaResourceValue, QuotaValue, QuotaRootValue}
 use Rattle.imap_extensions.specs.Ids.{IdValue}
 use Rattle.imap_extensions.specs.Acls.{AclEntryValue, AclValue, ListRightsValue, MyRightsValue}
@@ -11,6 +11,11 @@ use Rattle.imap_extensions.specs.Acls.{AclEntryValue, AclValue, ListRightsValue,
 abbrev pub owned_quota_resource_name : QuotaResourceNameValue → QuotaResourceNameValue
 owned_quota_resource_name (Atom t) = Atom (owned_text t)
 owned_quota_resource_name other = other
+
+-- it holds no borrowed text
+abbrev pub IsOwnedName : QuotaResourceNameValue → Type 0
+IsOwnedName (Atom t) = IsOwned t
+IsOwnedName other = Unit {0}
 
 abbrev pub owned_quota_resource : QuotaResourceValue → QuotaResourceValue
 owned_quota_resource r =

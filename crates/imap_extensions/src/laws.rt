@@ -84,11 +84,33 @@ pub fn owning()
     ensures quota_root { (q : QuotaRootValue) →
         lent_quota_root (owned_quota_root q) ≡ lent_quota_root q }
     ensures id_map { (m : IdValue) → lent_id (owned_id m) ≡ lent_id m }
-    ensures acl_entry { (e : AclEntryValue) → lent_acl_entry (owned_acl_entry e) ≡ lent_acl_entry e }
+    ensures acl_entry { (e : AclEntryValue) →
+        lent_acl_entry (owned_acl_entry e) ≡ lent_acl_entry e }
     ensures acl { (a : AclValue) → lent_acl (owned_acl a) ≡ lent_acl a }
     ensures list_rights { (r : ListRightsValue) →
         lent_list_rights (owned_list_rights r) ≡ lent_list_rights r }
-    ensures my_rights { (r : MyRightsValue) → lent_my_rights (owned_my_rights r) ≡ lent_my_rights r }
+    ensures my_rights { (r : MyRightsValue) →
+        lent_my_rights (owned_my_rights r) ≡ lent_my_rights r }
+{}
+
+/// The owned form of a value doesn't depend on which of its texts are borrowed.
+#[tactic(auto, using(crate::proofs::Owned::lent_name_owned, crate::proofs::Owned::lent_resource_owned, crate::proofs::Owned::lent_quota_owned, crate::proofs::Owned::lent_quota_root_owned, crate::proofs::Ids::lent_id_owned, crate::proofs::Owned::lent_acl_owned))]
+pub fn lending()
+    ensures quota_resource_name { (n : QuotaResourceNameValue) →
+        owned_quota_resource_name (lent_quota_resource_name n) ≡ owned_quota_resource_name n }
+    ensures quota_resource { (r : QuotaResourceValue) →
+        owned_quota_resource (lent_quota_resource r) ≡ owned_quota_resource r }
+    ensures quota { (q : QuotaValue) → owned_quota (lent_quota q) ≡ owned_quota q }
+    ensures quota_root { (q : QuotaRootValue) →
+        owned_quota_root (lent_quota_root q) ≡ owned_quota_root q }
+    ensures id_map { (m : IdValue) → owned_id (lent_id m) ≡ owned_id m }
+    ensures acl_entry { (e : AclEntryValue) →
+        owned_acl_entry (lent_acl_entry e) ≡ owned_acl_entry e }
+    ensures acl { (a : AclValue) → owned_acl (lent_acl a) ≡ owned_acl a }
+    ensures list_rights { (r : ListRightsValue) →
+        owned_list_rights (lent_list_rights r) ≡ owned_list_rights r }
+    ensures my_rights { (r : MyRightsValue) →
+        owned_my_rights (lent_my_rights r) ≡ owned_my_rights r }
 {}
 
 /// What each rule takes spells the value that it yields. On the canonical text of a value that it yields, the rule

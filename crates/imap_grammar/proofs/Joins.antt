@@ -6,7 +6,7 @@ use Rattle.imap_grammar.specs.Meaning.{Meaning, Cuts, seq_means, many_means, giv
 use Rattle.imap_grammar.specs.Rule.{Rule, ◌⨾◌}
 use Rattle.imap_grammar.specs.Step.{step}
 use Rattle.imap_grammar.specs.Tags.{tag}
-use Rattle.imap_grammar.specs.Lists.{enclosed_means, tried_of}
+use Rattle.imap_grammar.specs.Lists.{opened_means, enclosed_means, or_memory_behind, tried_of}
 use Rattle.imap_grammar.proofs.Agreement.{reads, fails}
 
 -- what an answer that was tried says of it
@@ -40,6 +40,11 @@ tried_fault (Err (Incomplete n)) d h = (cc, λ q. cc)
 pub cuts_more : {A : Type 0} (a : Meaning A) (m : List ℕ) (vs : List A) (mid : List ℕ) (w : A) (rest : List ℕ) → Cuts a m vs mid → a.yields mid w rest → Cuts a m (vs ++ (w ∷ [])) rest
 cuts_more a m [] mid w rest e y = (rest, subst (λ x. a.yields x w rest) (sym e) y, refl)
 cuts_more a m (v ∷ vs) mid w rest e y = (e.0, e.1, cuts_more a e.0 vs mid w rest e.2 y)
+
+-- what one more is read behind begins with one
+pub cuts_begin : {A : Type 0} (a : Meaning A) (m : List ℕ) (vs : List A) (mid : List ℕ) (w : A) (rest : List ℕ) → Cuts a m vs mid → a.yields mid w rest → (x : A) × (after : List ℕ) × a.yields m x after
+cuts_begin a m [] mid w rest e y = (w, rest, subst (λ k. a.yields k w rest) (sym e) y)
+cuts_begin a m (v ∷ vs) mid w rest e y = (v, e.0, e.1)
 
 -- what a loop over one A, and B as often as it yields, has read
 pub record Begun {A : Type 0} (a b : Meaning A) (m : List ℕ) (items : List A) (rest : List ℕ) : Type 0 where
@@ -77,6 +82,10 @@ enclosed_unopened close a m d o = inl (fails open_bracket m d o)
 
 pub enclosed_fails : {A C : Type 0} (close : Rule C) (a : Meaning A) (m after v : List ℕ) (d : Fault) → step open_bracket m ≡ Ok (after, v) → a.fails after d → (enclosed_means close a).fails m d
 enclosed_fails close a m after v d o f = inr (v, after, reads open_bracket m after v o, inl f)
+
+-- the same where memory may run out inside, behind what begins there
+pub enclosed_stops : {O A C : Type 0} (close : Rule C) (first : Meaning O) (a : Meaning A) (m after v : List ℕ) (d : Fault) → step open_bracket m ≡ Ok (after, v) → (or_memory_behind first a).fails after d → (or_memory_behind (opened_means first) (enclosed_means close a)).fails m d
+enclosed_stops close first a m after v d o f = elim f [ inl h ↦ inl (enclosed_fails close a m after v d o h) | inr q ↦ inr (q.0, q.1, q.2, ((v, q.1), (after, reads open_bracket m after v o, q.3), refl)) ]
 
 pub enclosed_unclosed : {A C : Type 0} (close : Rule C) (a : Meaning A) (m after mid v : List ℕ) (x : A) (d : Fault) → step open_bracket m ≡ Ok (after, v) → a.yields after x mid → step close mid ≡ Err d → (enclosed_means close a).fails m d
 enclosed_unclosed close a m after mid v x d o y e = inr (v, after, reads open_bracket m after v o, inr (x, mid, y, fails close mid d e))

@@ -7,7 +7,7 @@ use Rattle.std.proofs.lemmas.List.{length-append, length-drop}
 use Rattle.imap_grammar.specs.Meaning.{Meaning, Cuts, seq_means, many_means, gives_means}
 use Rattle.imap_grammar.specs.Rule.{Rule, meaning, opt, ◌⨾◌}
 use Rattle.imap_grammar.specs.Tags.{tag, sp}
-use Rattle.imap_grammar.specs.Lists.{behind_means, list1_means, list0_means, list_means, enclosed_means, or_memory}
+use Rattle.imap_grammar.specs.Lists.{behind_means, list1_means, list0_means, opened_means, list_means, enclosed_means, or_memory_behind}
 use Rattle.imap_grammar.specs.declared.at.span.Span.{Span}
 use Rattle.imap_grammar.specs.Positions.{Reached, Lies, Ahead, Inside, EachInside}
 use Rattle.imap_grammar.specs.PositionLists.{called_at, Advances, KeepsAhead, FollowsAt}
@@ -85,7 +85,7 @@ advances_keep : {O : Type 0} {m : List ℕ} {answers : ℕ → Reached O → Typ
 advances_keep adv = record { as_far = λ p q x le h. let far = adv.further p q x le h in (omega (arith, far), far.1) }
 
 -- each item of a list in brackets is kept between the positions that the list began and ended at
-listed_keep : {O : Type 0} {answers : ℕ → Reached O → Type 0} {m : List ℕ} {p : ℕ} (P : ℕ → ℕ → O → Type 0) (q : ℕ) (x : Vec O) → FollowsAt (λ a. or_memory (list_means a)) answers (λ y. y.items) m p (Ok (q, x)) → p ≤ length m → Widens P → Advances m answers → EachKept m answers P
+listed_keep : {O : Type 0} {answers : ℕ → Reached O → Type 0} {m : List ℕ} {p : ℕ} (P : ℕ → ℕ → O → Type 0) (q : ℕ) (x : Vec O) → FollowsAt (λ a. or_memory_behind (opened_means a) (list_means a)) answers (λ y. y.items) m p (Ok (q, x)) → p ≤ length m → Widens P → Advances m answers → EachKept m answers P
     → each P p q x.items
 listed_keep {answers = answers} {m = m} {p = p} P q x h le wider adv one =
     let called = called_keeps m answers P wider (advances_keep adv) one in
@@ -105,7 +105,7 @@ inside_ahead m p (Ok x) h = (omega (arith, h.0.0, h.0.1, h.0.2), h.1)
 inside_ahead m p (Err e) h = tt
 
 -- where each span lies between the position of its call and the one that it gives, all lie in the list
-pub listed_inside : {answers : ℕ → Reached Span → Type 0} {m : List ℕ} {p : ℕ} (result : Reached (Vec Span)) → FollowsAt (λ a. or_memory (list_means a)) answers (λ y. y.items) m p result → p ≤ length m → Advances m answers → ((k : ℕ) (r : Reached Span) → k ≤ length m → answers k r → Inside m k r)
+pub listed_inside : {answers : ℕ → Reached Span → Type 0} {m : List ℕ} {p : ℕ} (result : Reached (Vec Span)) → FollowsAt (λ a. or_memory_behind (opened_means a) (list_means a)) answers (λ y. y.items) m p result → p ≤ length m → Advances m answers → ((k : ℕ) (r : Reached Span) → k ≤ length m → answers k r → Inside m k r)
     → EachInside p result
 listed_inside {answers = answers} {m = m} (Ok x) h le adv one =
     all_by_index _ _ (listed_keep (λ p q s. Lies p s q) x.0 x.1 h le lies_wider adv (λ k q s lk y. (one k (Ok (q, s)) lk y).0))

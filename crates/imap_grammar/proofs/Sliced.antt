@@ -9,11 +9,11 @@ use Rattle.imap_grammar.specs.Meaning.{Meaning, many_means}
 use Rattle.imap_grammar.specs.Rule.{meaning, opt, ◌⨾◌}
 use Rattle.imap_grammar.specs.Answer.{Returned}
 use Rattle.imap_grammar.specs.Tags.{tag, sp, blanks0}
-use Rattle.imap_grammar.specs.Lists.{called, Shortens, Follows, or_memory, or_memory_behind, flat, opt_means, list1_means, list0_means, list_means, nonempty_list_means, delimited_means, opt_opt_means}
+use Rattle.imap_grammar.specs.Lists.{called, Shortens, Follows, or_memory_behind, flat, opt_means, list1_means, list0_means, opened_means, list_means, nonempty_list_means, delimited_means, opt_opt_means}
 use Rattle.imap_grammar.specs.Positions.{Reached, Ahead}
 use Rattle.imap_grammar.specs.PositionLists.{called_at, Advances, FollowsAt, CalledAt}
 use Rattle.imap_grammar.proofs.Positions.{further}
-use Rattle.imap_grammar.proofs.Under.{Under, All, gives_under, opt_under, many_under, list1_under, list0_under, enclosed_under}
+use Rattle.imap_grammar.proofs.Under.{Under, All, gives_under, opt_under, many_under, list1_under, list0_under, opened_under, enclosed_under}
 
 -- an end of what is left at k stands at a position
 pub ended : (m i left front : List ℕ) (k : ℕ) → k ≤ length m → i ≡ drop k m → i ≡ front ++ left → (length left ≤ length m) × (drop (length m - length left) m ≡ left) × (k ≤ length m - length left)
@@ -39,34 +39,32 @@ sliced_under answers m calls says = record {
 abbrev pub Within : {A : Type 0} → Meaning A → Meaning A → Type 0
 Within a b = Under All (λ x. x) a b
 
-plainly : {A : Type 0} (a b : Meaning (List A)) → Under All (map (λ x. x)) a b → Within (or_memory a) (or_memory b)
-plainly a b u = record {
+-- so are those of lists over them, where memory may run out behind what begins these
+lists_within : {O A : Type 0} {first begun : Meaning O} (a b : Meaning (List A)) → Within first begun → Under All (map (λ x. x)) a b → Within (or_memory_behind first a) (or_memory_behind begun b)
+lists_within a b begins u = record {
   error = tt;
   yields = λ m x rest y. subst (λ v. b.yields m v rest) (map-id x) (u.yields m x rest y);
-  fails = λ m e o f. elim f [ inl h ↦ inl (u.fails m e o h) | inr q ↦ inr q ];
+  fails = λ m e o f. elim f [ inl h ↦ inl (u.fails m e o h) | inr q ↦ inr (q.0, q.1, q.2, begins.yields m q.1 q.2 q.3) ];
 }
 
 module _ {A : Type 0} {a b : Meaning A} where
-  pub many_within : Within a b → Within (or_memory (many_means a)) (or_memory (many_means b))
-  many_within u = plainly _ _ (many_under (λ x. x) a b u)
+  pub many_within : Within a b → Within (or_memory_behind a (many_means a)) (or_memory_behind b (many_means b))
+  many_within u = lists_within _ _ u (many_under (λ x. x) a b u)
 
   pub list1_within : {S : Type 0} (s : Meaning S) → Within a b → Within (or_memory_behind a (list1_means s a)) (or_memory_behind b (list1_means s b))
-  list1_within s u =
-      let lists = list1_under s (λ x. x) a b u in
-      record {
-        error = tt;
-        yields = λ m x rest y. subst (λ v. (list1_means s b).yields m v rest) (map-id x) (lists.yields m x rest y);
-        fails = λ m e o f. elim f [ inl h ↦ inl (lists.fails m e o h) | inr q ↦ inr (q.0, q.1, q.2, u.yields m q.1 q.2 q.3) ];
-      }
+  list1_within s u = lists_within _ _ u (list1_under s (λ x. x) a b u)
 
-  pub list0_within : {S : Type 0} (s : Meaning S) → Within a b → Within (or_memory (list0_means s a)) (or_memory (list0_means s b))
-  list0_within s u = plainly _ _ (list0_under s (λ x. x) a b u)
+  pub list0_within : {S : Type 0} (s : Meaning S) → Within a b → Within (or_memory_behind a (list0_means s a)) (or_memory_behind b (list0_means s b))
+  list0_within s u = lists_within _ _ u (list0_under s (λ x. x) a b u)
 
-  pub list_within : Within a b → Within (or_memory (list_means a)) (or_memory (list_means b))
-  list_within u = plainly _ _ (enclosed_under (opt sp ⨾ tag ")") (map (λ x. x)) (list0_means (meaning sp) a) (list0_means (meaning sp) b) (list0_under (meaning sp) (λ x. x) a b u))
+  opened_within : Within a b → Within (opened_means a) (opened_means b)
+  opened_within u = opened_under (λ x. x) a b u
 
-  pub nonempty_list_within : Within a b → Within (or_memory (nonempty_list_means a)) (or_memory (nonempty_list_means b))
-  nonempty_list_within u = plainly _ _ (enclosed_under (blanks0 ⨾ tag ")") (map (λ x. x)) (list1_means (meaning sp) a) (list1_means (meaning sp) b) (list1_under (meaning sp) (λ x. x) a b u))
+  pub list_within : Within a b → Within (or_memory_behind (opened_means a) (list_means a)) (or_memory_behind (opened_means b) (list_means b))
+  list_within u = lists_within _ _ (opened_within u) (enclosed_under (opt sp ⨾ tag ")") (map (λ x. x)) (list0_means (meaning sp) a) (list0_means (meaning sp) b) (list0_under (meaning sp) (λ x. x) a b u))
+
+  pub nonempty_list_within : Within a b → Within (or_memory_behind (opened_means a) (nonempty_list_means a)) (or_memory_behind (opened_means b) (nonempty_list_means b))
+  nonempty_list_within u = lists_within _ _ (opened_within u) (enclosed_under (blanks0 ⨾ tag ")") (map (λ x. x)) (list1_means (meaning sp) a) (list1_means (meaning sp) b) (list1_under (meaning sp) (λ x. x) a b u))
 
   pub delimited_within : Within a b → Within (delimited_means a) (delimited_means b)
   delimited_within u = enclosed_under (tag ")") (λ x. x) a b u

@@ -10,7 +10,7 @@ use Rattle.imap_grammar.specs.Step.{step}
 use Rattle.imap_grammar.specs.Answer.{Returned, Gives, Exactly}
 use Rattle.imap_grammar.specs.Tags.{tag}
 use Rattle.imap_grammar.specs.Memory.{StartsWith}
-use Rattle.imap_grammar.specs.Lists.{called, Shortens, Ends, or_memory, or_memory_behind, flat, Allows, behind_means, list1_means, list0_means, opt_means, enclosed_means, opt_opt_means}
+use Rattle.imap_grammar.specs.Lists.{called, Shortens, Ends, or_memory_behind, flat, Allows, behind_means, list1_means, list0_means, opt_means, opened_means, enclosed_means, opt_opt_means}
 use Rattle.imap_grammar.proofs.Agreement.{agrees, shrinks, exactly_gives}
 use Rattle.imap_grammar.proofs.Consumption.{consumes, less}
 
@@ -79,9 +79,12 @@ list1_under s v a b p =
 pub list0_under : {S A B : Type 0} {P : Fault → Type 0} (s : Meaning S) (v : A → B) (a : Meaning A) (b : Meaning B) → Under P v a b → Under P (map v) (list0_means s a) (list0_means s b)
 list0_under s v a b p = alt_under (map v) (list1_means s a) (list1_means s b) (nothing_means []) (nothing_means []) (list1_under s v a b p) (nothing_under (map v) [] [] refl p.error)
 
+pub opened_under : {A B : Type 0} {P : Fault → Type 0} (v : A → B) (a : Meaning A) (b : Meaning B) → Under P v a b → Under P v (opened_means a) (opened_means b)
+opened_under v a b p = behind_under (meaning (tag "(")) v a b p
+
 pub enclosed_under : {A B C : Type 0} {P : Fault → Type 0} (close : Rule C) (v : A → B) (a : Meaning A) (b : Meaning B) → Under P v a b → Under P v (enclosed_means close a) (enclosed_means close b)
 enclosed_under close v a b p =
-    behind_under (meaning (tag "(")) v (gives_means (λ x. x.0) (seq_means a (meaning close))) (gives_means (λ x. x.0) (seq_means b (meaning close)))
+    opened_under v (gives_means (λ x. x.0) (seq_means a (meaning close))) (gives_means (λ x. x.0) (seq_means b (meaning close)))
     (gives_under (λ x. (v x.0, x.1)) v (λ x. x.0) (λ x. x.0) (seq_means a (meaning close)) (seq_means b (meaning close)) (λ x. refl)
     (seq_under v (λ x. x) a b (meaning close) (meaning close) p (same (meaning close) p.error)))
 
@@ -129,26 +132,22 @@ exactly_under answers v b says = record {
   fails = λ m e o f. (agrees b m).failed e (says m (Err e) f);
 }
 
-pub under_gives : {A B X : Type 0} (w : A → B) (a : Meaning A) (r : Rule B) (view : X → A) (m : List ℕ) (result : Returned X) → Under Kept w a (meaning r) → Allows (or_memory a) view m result → Gives (λ x. w (view x)) result (step r m)
-under_gives w a r view m (Ok x) p h = (agrees r m).yields (w (view x.1)) x.0.now (p.yields m (view x.1) x.0.now h)
-under_gives w a r view m (Err Failure) p h = tt
-under_gives w a r view m (Err Error) p h = elim h [ inl f ↦ (agrees r m).fails Error (p.fails m Error error_kept f) | inr q ↦ absurd cc ]
-under_gives w a r view m (Err (Incomplete n)) p h = elim h [ inl f ↦ (agrees r m).fails (Incomplete n) (p.fails m (Incomplete n) (λ q. cc) f) | inr q ↦ absurd cc ]
+-- where memory may run out as well, whatever this is behind
+pub under_gives : {O A B X : Type 0} (first : Meaning O) (w : A → B) (a : Meaning A) (r : Rule B) (view : X → A) (m : List ℕ) (result : Returned X) → Under Kept w a (meaning r) → Allows (or_memory_behind first a) view m result → Gives (λ x. w (view x)) result (step r m)
+under_gives first w a r view m (Ok x) p h = (agrees r m).yields (w (view x.1)) x.0.now (p.yields m (view x.1) x.0.now h)
+under_gives first w a r view m (Err Failure) p h = tt
+under_gives first w a r view m (Err Error) p h = elim h [ inl f ↦ (agrees r m).fails Error (p.fails m Error error_kept f) | inr q ↦ absurd (let e = q.0 in cc) ]
+under_gives first w a r view m (Err (Incomplete n)) p h = elim h [ inl f ↦ (agrees r m).fails (Incomplete n) (p.fails m (Incomplete n) (λ q. cc) f) | inr q ↦ absurd (let e = q.0 in cc) ]
 
 pub under_exactly : {A B X : Type 0} (w : A → B) (a : Meaning A) (r : Rule B) (view : X → A) (m : List ℕ) (result : Returned X) → Under All w a (meaning r) → Allows a view m result → Exactly (λ x. w (view x)) result (step r m)
 under_exactly w a r view m (Ok x) p h = (agrees r m).yields (w (view x.1)) x.0.now (p.yields m (view x.1) x.0.now h)
 under_exactly w a r view m (Err e) p h = (agrees r m).fails e (p.fails m e tt h)
 
-pub memory_aside : {A X : Type 0} (a : Meaning A) (view : X → A) (m : List ℕ) (result : Returned X) → Allows a view m result → Allows (or_memory a) view m result
+pub memory_aside : {A X : Type 0} (a : Meaning A) (view : X → A) (m : List ℕ) (result : Returned X) → Allows a view m result → Allows (or_memory_behind a a) view m result
 memory_aside a view m (Ok x) h = h
 memory_aside a view m (Err e) h = inl h
 
--- where it runs out behind a first item alone, it runs out
-pub memory_behind : {O A X : Type 0} (first : Meaning O) (a : Meaning A) (view : X → A) (m : List ℕ) (result : Returned X) → Allows (or_memory_behind first a) view m result → Allows (or_memory a) view m result
-memory_behind first a view m (Ok x) h = h
-memory_behind first a view m (Err e) h = elim h [ inl f ↦ inl f | inr q ↦ inr q.0 ]
-
--- and then the item's rule yields
+-- where it runs out behind the first meaning, the rule of that yields
 pub starts_behind : {O V A B : Type 0} (v : O → V) (w : A → B) (first : Meaning O) (b : Rule V) (a : Meaning A) (r : Rule B) (m : List ℕ) (e : Fault) → Under All v first (meaning b) → Under All w a (meaning r) → (or_memory_behind first a).fails m e → e ≡ Failure → StartsWith b m
 starts_behind v w first b a r m e p u f q = elim f [
   | inl h ↦ absurd ((agrees r m).never ((agrees r m).fails Failure (u.fails m Failure tt (subst (λ d. a.fails m d) q h))))
@@ -165,6 +164,9 @@ shorter_ends v b says c = (record { shorter = λ m k x h. less b m k.now (v x) c
 -- a call's clause, at the bytes that the call was shown
 pub kept_at : {O V : Type 0} (v : O → V) (b : Rule V) (r : Returned O) {m n : List ℕ} → m ≡ n → Gives v r (step b m) → Gives v r (step b n)
 kept_at v b r e h = subst (λ j. Gives v r (step b j)) e h
+
+pub exact_still : {O V : Type 0} (v : O → V) (b : Rule V) (r : Returned O) {m n : List ℕ} → m ≡ n → Exactly v r (step b m) → Exactly v r (step b n)
+exact_still v b r e h = subst (λ j. Exactly v r (step b j)) e h
 
 pub exactly_at : {O V : Type 0} (v : O → V) (b : Rule V) (r : Returned O) {m n : List ℕ} → m ≡ n → Exactly v r (step b m) → Gives v r (step b n)
 exactly_at v b r e h = kept_at v b r e (exactly_gives v r (step b _) h)

@@ -21,6 +21,10 @@ list_of a = tag "(" ▹ list0 sp a ◃ opt sp ⨾ tag ")"
 abbrev pub nonempty_list_of : {A : Type 0} → Rule A → Rule (List A)
 nonempty_list_of a = tag "(" ▹ list1 sp a ◃ blanks0 ⨾ tag ")"
 
+-- `(`, A
+abbrev pub opened : {A : Type 0} → Rule A → Rule A
+opened a = tag "(" ▹ a
+
 -- `(`, A, `)`
 abbrev pub delimited : {A : Type 0} → Rule A → Rule A
 delimited a = tag "(" ▹ a ◃ tag ")"
@@ -54,11 +58,13 @@ list0_means s a = alt_means (list1_means s a) (nothing_means [])
 abbrev pub opt_means : {A : Type 0} → Meaning A → Meaning (Option A)
 opt_means {A} a = alt_means (gives_means Some a) (nothing_means None)
 
+abbrev pub opened_means : {A : Type 0} → Meaning A → Meaning A
+opened_means a = behind_means (meaning (tag "(")) a
+
 -- `(`, A, and what closes it
 abbrev pub enclosed_means : {A C : Type 0} → Rule C → Meaning A → Meaning A
 enclosed_means {A} {C} close a =
-    behind_means (meaning (tag "("))
-    (gives_means (λ (v : A × C). v.0) (seq_means a (meaning close)))
+    opened_means (gives_means (λ (v : A × C). v.0) (seq_means a (meaning close)))
 
 abbrev pub list_means : {A : Type 0} → Meaning A → Meaning (List A)
 list_means a = enclosed_means (opt sp ⨾ tag ")") (list0_means (meaning sp) a)
@@ -94,11 +100,7 @@ pub record Ends {O : Type 0} (answers : List ℕ → Returned O → Type 0) : Ty
       (m : List ℕ) (left : Bor (List ℕ)) (v : O) → answers m (Ok (left, v)) →
       (front : List ℕ) × (m ≡ front ++ left.now)
 
--- the same answers, where memory may run out as well
-abbrev pub or_memory : {A : Type 0} → Meaning A → Meaning A
-or_memory a = record { yields = a.yields; fails = λ m e. a.fails m e ⊎ (e ≡ Failure) }
-
--- the same answers, where memory may run out as well once the first item is read
+-- the same answers, where memory may run out as well, but only behind what the first meaning yields
 abbrev pub or_memory_behind : {O A : Type 0} → Meaning O → Meaning A → Meaning A
 or_memory_behind {O} first a =
     record {

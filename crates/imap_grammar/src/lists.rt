@@ -9,7 +9,7 @@ ghost use Rattle.imap_grammar.specs.Rule.{meaning};
 ghost use Rattle.imap_grammar.specs.Meaning.{many_means};
 ghost use Rattle.imap_grammar.specs.Positions.{Ahead};
 ghost use Rattle.imap_grammar.specs.PositionLists.{CalledAt};
-ghost use Rattle.imap_grammar.specs.Lists.{Shortens, Ends, Follows, or_memory, or_memory_behind, separator as separator_rule, list1_means, list0_means, list_means, nonempty_list_means, delimited_means, opt_opt_means, tried_of};
+ghost use Rattle.imap_grammar.specs.Lists.{Shortens, Ends, Follows, or_memory_behind, separator as separator_rule, list1_means, list0_means, opened_means, list_means, nonempty_list_means, delimited_means, opt_opt_means, tried_of};
 
 use crate::answer::{Err, IResult};
 use crate::at::span::rest;
@@ -86,7 +86,7 @@ pub fn separated<'a, O: Drop, F: Fn(&'a [u8]) -> IResult<&'a [u8], O>>(
 /// What f reads, as often as it does, with nothing between.
 ///
 /// f has to consume at least a byte, and its rest has to be an end of its input. Its `Incomplete` and `Failure` go
-/// through. It takes memory for the list.
+/// through. It takes memory for the list, and only once f read a first item.
 pub fn repeated<'a, O: Drop, F: Fn(&'a [u8]) -> IResult<&'a [u8], O>>(
     alloc: Global,
     f: F,
@@ -95,8 +95,8 @@ pub fn repeated<'a, O: Drop, F: Fn(&'a [u8]) -> IResult<&'a [u8], O>>(
     requires may { F.IsAlwaysCallable f }
     requires shortens { Shortens (FnReturnsAt F.Fn f) }
     requires ends { Ends (FnReturnsAt F.Fn f) }
-    ensures { Follows (λ a. or_memory (many_means a)) (FnReturnsAt F.Fn f) (λ x. x.items) i.now
-        result }
+    ensures { Follows (λ a. or_memory_behind a (many_means a)) (FnReturnsAt F.Fn f)
+        (λ x. x.items) i.now result }
 {
     let item = |p: usize|
         requires start { p ≤ length i.now }
@@ -112,7 +112,7 @@ pub fn repeated<'a, O: Drop, F: Fn(&'a [u8]) -> IResult<&'a [u8], O>>(
 /// What f reads, zero or more times, with a separator between.
 ///
 /// It ends as `separated` does. f has to consume at least a byte, and its rest has to be an end of its input.
-/// Its `Incomplete` and `Failure` go through. It takes memory for the list.
+/// Its `Incomplete` and `Failure` go through. It takes memory for the list, and only once f read a first item.
 pub fn maybe_separated<'a, O: Drop, F: Fn(&'a [u8]) -> IResult<&'a [u8], O>>(
     alloc: Global,
     between: Separator,
@@ -122,7 +122,7 @@ pub fn maybe_separated<'a, O: Drop, F: Fn(&'a [u8]) -> IResult<&'a [u8], O>>(
     requires may { F.IsAlwaysCallable f }
     requires shortens { Shortens (FnReturnsAt F.Fn f) }
     requires ends { Ends (FnReturnsAt F.Fn f) }
-    ensures { Follows (λ a. or_memory (list0_means (meaning (separator_rule between)) a))
+    ensures { Follows (λ a. or_memory_behind a (list0_means (meaning (separator_rule between)) a))
         (FnReturnsAt F.Fn f) (λ x. x.items) i.now result }
 {
     let item = |p: usize|
@@ -139,7 +139,8 @@ pub fn maybe_separated<'a, O: Drop, F: Fn(&'a [u8]) -> IResult<&'a [u8], O>>(
 /// A list in parentheses of zero or more: what f reads, with one space between, and maybe a space before the `)`.
 ///
 /// `Error` where no `(` stands, or the list isn't closed where f denies. f has to consume at least a byte, and its rest
-/// has to be an end of its input. Its `Incomplete` and `Failure` go through. It takes memory for the list.
+/// has to be an end of its input. Its `Incomplete` and `Failure` go through. It takes memory for the list, and only
+/// once f read a first item.
 pub fn parenthesized_list<'a, O: Drop, F: Fn(&'a [u8]) -> IResult<&'a [u8], O>>(
     alloc: Global,
     f: F,
@@ -148,8 +149,8 @@ pub fn parenthesized_list<'a, O: Drop, F: Fn(&'a [u8]) -> IResult<&'a [u8], O>>(
     requires may { F.IsAlwaysCallable f }
     requires shortens { Shortens (FnReturnsAt F.Fn f) }
     requires ends { Ends (FnReturnsAt F.Fn f) }
-    ensures { Follows (λ a. or_memory (list_means a)) (FnReturnsAt F.Fn f) (λ x. x.items) i.now
-        result }
+    ensures { Follows (λ a. or_memory_behind (opened_means a) (list_means a))
+        (FnReturnsAt F.Fn f) (λ x. x.items) i.now result }
 {
     let item = |p: usize|
         requires start { p ≤ length i.now }
@@ -167,7 +168,7 @@ pub fn parenthesized_list<'a, O: Drop, F: Fn(&'a [u8]) -> IResult<&'a [u8], O>>(
 ///
 /// `Error` where no `(` stands, f denies at once, or the list isn't closed where f denies. f has to consume at least a
 /// byte, and its rest has to be an end of its input. Its `Incomplete` and `Failure` go through. It takes memory for the
-/// list.
+/// list, and only once f read a first item.
 pub fn parenthesized_nonempty_list<'a, O: Drop, F: Fn(&'a [u8]) -> IResult<&'a [u8], O>>(
     alloc: Global,
     f: F,
@@ -176,8 +177,8 @@ pub fn parenthesized_nonempty_list<'a, O: Drop, F: Fn(&'a [u8]) -> IResult<&'a [
     requires may { F.IsAlwaysCallable f }
     requires shortens { Shortens (FnReturnsAt F.Fn f) }
     requires ends { Ends (FnReturnsAt F.Fn f) }
-    ensures { Follows (λ a. or_memory (nonempty_list_means a)) (FnReturnsAt F.Fn f) (λ x. x.items)
-        i.now result }
+    ensures { Follows (λ a. or_memory_behind (opened_means a) (nonempty_list_means a))
+        (FnReturnsAt F.Fn f) (λ x. x.items) i.now result }
 {
     let item = |p: usize|
         requires start { p ≤ length i.now }

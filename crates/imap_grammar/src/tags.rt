@@ -1,10 +1,10 @@
 //! Words, spaces and runs: the parts that other readers are made of. None takes memory.
 //!
-//! Each answers `Error` where the bytes that it wants can't stand there, whatever follows, and `Incomplete` where more
-//! bytes are needed to tell.
+//! Each reader answers `Error` where the bytes that it wants can't stand there, whatever follows, and `Incomplete`
+//! where more bytes are needed to tell.
 
-ghost use Rattle.std.specs.Prelude.{◌≡◌, ◌==◌, ◌<◌, ℕ, Bool, length, position};
-ghost use Rattle.std.specs.Option.{option_map, ForSome};
+ghost use Rattle.std.specs.Prelude.{◌≡◌, ◌==◌, ◌<◌, ℕ, Bool, length, position, slice_get};
+ghost use Rattle.std.specs.Option.{option_copied, option_map, ForSome};
 ghost use Rattle.imap_grammar.specs.Answer.{Answers, Exactly, StepsExactly};
 ghost use Rattle.imap_grammar.specs.Memory.{NeverFails};
 ghost use Rattle.imap_grammar.specs.Meaning.{outside};
@@ -59,6 +59,13 @@ macro_rules! maybe {
             Err(e) => Err(e),
         }
     };
+}
+
+/// The second byte, if there is one: it tells alternatives apart that begin with the same byte. No memory.
+pub fn second(i: &[u8]) -> Option<&u8>
+    ensures { option_copied result ≡ slice_get i.now 1 }
+{
+    i.get(1)
 }
 
 /// Exactly these bytes; others are `Error`. No memory.

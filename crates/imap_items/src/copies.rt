@@ -1,6 +1,6 @@
 //! Copies of texts. Each text of a copy is borrowed or owned as the one that it is a copy of.
 
-ghost use Rattle.std.specs.Prelude.{◌≡◌, map, IfOk, IsOk};
+ghost use Rattle.std.specs.Prelude.{◌≡◌, [], map, IfOk, IsOk};
 ghost use Rattle.imap_grammar.specs.Text.{text_of};
 ghost use Rattle.imap_items.specs.Copies.{IsLent};
 
@@ -18,9 +18,10 @@ pub fn copied_text<'a>(text: &CowStr<'a>) -> Result<CowStr<'a>, AllocError>
     }
 }
 
-/// The same texts. It takes memory for the list, and for owned texts; `Err`: memory ran out.
+/// The same texts. It takes memory for the list unless that is empty, and for owned texts; `Err`: memory ran out.
 pub fn copied_texts<'a>(texts: &Vec<CowStr<'a>>) -> Result<Vec<CowStr<'a>>, AllocError>
-    ensures { IfOk result (λ v. map text_of v.items ≡ map text_of texts.now.items) }
+    ensures same { IfOk result (λ v. map text_of v.items ≡ map text_of texts.now.items) }
+    ensures memory { texts.now.items ≡ [] → IsOk result }
 {
     let mut copies = Vec::with_capacity(*texts.allocator(), texts.len())?;
     for text in texts {

@@ -81,6 +81,11 @@ pub fn owning()
     ensures { (c : CapabilityValue) → lent_capability (owned_capability c) ≡ lent_capability c }
 {}
 
+/// The owned form of a value doesn't depend on which of its texts are borrowed.
+pub fn lending()
+    ensures { (c : CapabilityValue) → owned_capability (lent_capability c) ≡ owned_capability c }
+{}
+
 /// A letter's right has that letter, and a right's letter has that right, but for a `Custom` of a letter that has a
 /// right of its own: the letter of such a one has another right.
 pub fn conversions()

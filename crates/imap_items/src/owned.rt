@@ -1,6 +1,6 @@
 //! Owned texts: what a value has once it borrows nothing. An owned text is moved.
 
-ghost use Rattle.std.specs.Prelude.{◌≡◌, map, option_map, IfOk, IsOk};
+ghost use Rattle.std.specs.Prelude.{◌≡◌, [], map, option_map, IfOk, IfSome, IsOk};
 ghost use Rattle.imap_grammar.specs.Text.{text_of, owned_text as owned, IsOwned};
 ghost use Rattle.imap_items.specs.Capabilities.{capability_value};
 ghost use Rattle.imap_items.specs.Owned.{owned_capability};
@@ -25,8 +25,9 @@ pub fn owned_optional_text(
     alloc: Global,
     text: Option<CowStr<'_>>,
 ) -> Result<Option<CowStr<'static>>, AllocError>
-    ensures { IfOk result (λ t.
+    ensures same { IfOk result (λ t.
         option_map text_of t ≡ option_map owned (option_map text_of text.entry)) }
+    ensures memory { IfSome (option_map text_of text.entry) IsOwned → IsOk result }
 {
     Ok(match text {
         None => None,
@@ -34,12 +35,15 @@ pub fn owned_optional_text(
     })
 }
 
-/// The same texts, owned. It takes memory for the list, and for borrowed texts; `Err`: memory ran out.
+/// The same texts, owned. It takes memory for the list unless that is empty, and for borrowed texts; `Err`: memory ran
+/// out.
 pub fn owned_texts(
     alloc: Global,
     texts: Vec<CowStr<'_>>,
 ) -> Result<Vec<CowStr<'static>>, AllocError>
-    ensures { IfOk result (λ v. map text_of v.items ≡ map owned (map text_of texts.entry.items)) }
+    ensures same { IfOk result (λ v.
+        map text_of v.items ≡ map owned (map text_of texts.entry.items)) }
+    ensures memory { texts.entry.items ≡ [] → IsOk result }
 {
     let mut owned = Vec::with_capacity(alloc, texts.len())?;
     for text in texts {
@@ -48,15 +52,16 @@ pub fn owned_texts(
     Ok(owned)
 }
 
-/// The same capabilities, their texts owned. It takes memory for the list, and for borrowed texts; `Err`: memory ran
-/// out.
+/// The same capabilities, their texts owned. It takes memory for the list unless that is empty, and for borrowed texts;
+/// `Err`: memory ran out.
 pub fn owned_capabilities(
     alloc: Global,
     capabilities: Vec<Capability<'_>>,
 ) -> Result<Vec<Capability<'static>>, AllocError>
-    ensures { IfOk result (λ v.
+    ensures same { IfOk result (λ v.
         map capability_value v.items
         ≡ map owned_capability (map capability_value capabilities.entry.items)) }
+    ensures memory { capabilities.entry.items ≡ [] → IsOk result }
 {
     let mut owned = Vec::with_capacity(alloc, capabilities.len())?;
     for capability in capabilities {

@@ -128,7 +128,7 @@ lent_is_same (Done tag status o) = ap (λ x. Done tag status x) (outcome o)
 lent_is_same (Data status o) = ap (λ x. Data status x) (outcome o)
 lent_is_same (Expunge n) = refl
 lent_is_same (Vanished earlier uids) = refl
-lent_is_same (Fetch n attributes) = ap (λ x. Fetch n x) (map-twice {f = lent_attribute} (attribute true) attributes)
+lent_is_same (Fetch n attributes) = ap (λ x. Fetch n x) (map-twice {f = lent_attribute} (attribute true true) attributes)
 lent_is_same (MailboxData d) = ap (λ x. MailboxData x) (mailbox d)
 lent_is_same (Quota q) = ap (λ x. Quota x) (quota q)
 lent_is_same (QuotaRoot q) = ap (λ x. QuotaRoot x) (quota_root q)

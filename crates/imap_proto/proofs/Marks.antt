@@ -1,6 +1,6 @@
--- A text's mark is whether it is borrowed. An attribute whose texts are all marked alike says the same.
+-- A text's mark is whether it is borrowed. Where all texts of an attribute are marked alike twice, the later mark stays.
 use Rattle.std.proofs.Common.{◌≡◌, Bool, List, ap, ap₂, refl, map}
-use Rattle.imap_grammar.specs.Text.{Text, lent_text}
+use Rattle.imap_grammar.specs.Text.{Text}
 use Rattle.imap_extensions.proofs.Owned.{list_says, option_says}
 use Rattle.imap_shapes.specs.declared.shapes.fields.ContentEncoding.TheVariants.{SevenBit, EightBit, Binary, Base64, QuotedPrintable, Other}
 use Rattle.imap_shapes.specs.ExtensionValues.{Num, Str, Listed, no_extensions, one_extension}
@@ -9,19 +9,25 @@ use Rattle.imap_shapes.specs.Changed.{changed_ntext, changed_address, changed_ad
 use Rattle.imap_attributes.specs.AttributeValues.{BodySection, BodyStructure, Envelope, Flags, InternalDate, ModSeq, Rfc822, Rfc822Header, Rfc822Size, Rfc822Text, Uid, GmailLabels, GmailMsgId, GmailThrId, EmailId, ThreadId, Unknown}
 use Rattle.imap_attributes.specs.Changed.{changed_attribute}
 
-module _ (b : Bool) where
-  abbrev marked : Text → Text
-  marked t = record { bytes = t.bytes; borrowed = b }
+abbrev marked : Bool → Text → Text
+marked b t = record { bytes = t.bytes; borrowed = b }
 
-  -- with each text marked so, the value says the same
+-- marked with b, and then with a
+module _ (a b : Bool) where
+  abbrev first : Text → Text
+  first = marked b
+
+  abbrev later : Text → Text
+  later = marked a
+
   abbrev Keeps : {V : Type 0} → ((Text → Text) → V → V) → Type 0
-  Keeps {V} changed = (v : V) → changed lent_text (changed marked v) ≡ changed lent_text v
+  Keeps {V} changed = (v : V) → changed later (changed first v) ≡ changed later v
 
-  texts : (ts : List Text) → map lent_text (map marked ts) ≡ map lent_text ts
-  texts = list_says lent_text marked (λ t. refl)
+  texts : (ts : List Text) → map later (map first ts) ≡ map later ts
+  texts = list_says later first (λ t. refl)
 
   ntext : Keeps changed_ntext
-  ntext = option_says lent_text marked (λ t. refl)
+  ntext = option_says later first (λ t. refl)
 
   -- ---- envelopes
 
@@ -29,7 +35,7 @@ module _ (b : Bool) where
   address a = rw (ntext a.name, ntext a.adl, ntext a.mailbox, ntext a.host) refl
 
   addresses : Keeps changed_addresses
-  addresses = option_says (map (changed_address lent_text)) (map (changed_address marked)) (list_says (changed_address lent_text) (changed_address marked) address)
+  addresses = option_says (map (changed_address later)) (map (changed_address first)) (list_says (changed_address later) (changed_address first) address)
 
   envelope : Keeps changed_envelope
   envelope e =
@@ -38,7 +44,7 @@ module _ (b : Bool) where
   -- ---- bodies
 
   params : Keeps changed_params
-  params = option_says (map (changed_pair lent_text)) (map (changed_pair marked)) (list_says (changed_pair lent_text) (changed_pair marked) (λ p. refl))
+  params = option_says (map (changed_pair later)) (map (changed_pair first)) (list_says (changed_pair later) (changed_pair first) (λ p. refl))
 
   encoding : Keeps changed_encoding
   encoding SevenBit = refl
@@ -62,17 +68,17 @@ module _ (b : Bool) where
     extensions (one_extension e es) = ap₂ (λ x xs. one_extension x xs) (extension e) (extensions es)
 
   last : Keeps changed_last
-  last = option_says (changed_extension lent_text) (changed_extension marked) extension
+  last = option_says (changed_extension later) (changed_extension first) extension
 
   languages : Keeps changed_languages
-  languages = option_says (map lent_text) (map marked) texts
+  languages = option_says (map later) (map first) texts
 
   type : Keeps changed_type
   type t = rw (params t.params) refl
 
   common : Keeps changed_common
   common c =
-      rw (type c.ty, option_says (changed_disposition lent_text) (changed_disposition marked) disposition c.disposition, languages c.language, ntext c.location) refl
+      rw (type c.ty, option_says (changed_disposition later) (changed_disposition first) disposition c.disposition, languages c.language, ntext c.location) refl
 
   single : Keeps changed_single
   single s = rw (ntext s.id, ntext s.md5, ntext s.description, encoding s.transfer_encoding) refl

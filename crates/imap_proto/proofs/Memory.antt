@@ -1,5 +1,5 @@
 -- Responses for which no memory is taken, from their parts.
-use Rattle.std.proofs.Common.{◌≡◌, ◌≢◌, ℕ, Bool, true, ◌&&◌, List, [], ◌∷◌, ◌++◌, length, Option, None, Some, Result, Ok, Err, refl, sym, ap, subst, ◌∙◌, inl, inr, arith}
+use Rattle.std.proofs.Common.{◌≡◌, ◌≢◌, ℕ, Bool, true, ◌&&◌, List, [], ◌∷◌, ◌++◌, length, Option, None, Some, Result, Ok, Err, refl, sym, ap, subst, ◌∙◌, inl, inr, append_assoc, arith}
 use Prim.Native.String.{String}
 use Rattle.std.specs.Prelude.{codes}
 use Rattle.std.specs.Borrow.{Bor}
@@ -9,7 +9,7 @@ use Rattle.std.specs.Str.{is_utf8}
 use Rattle.std.specs.Str.Lossy.{utf8_lossy}
 use Rattle.std.specs.declared.borrow.CowStr.{CowStr}
 use Rattle.std.specs.declared.alloc.Global.{Global}
-use Rattle.std.proofs.lemmas.Bool.{false≢true, and_parts, both_ways, not-true}
+use Rattle.std.proofs.lemmas.Bool.{false≢true, and_parts, and_from, both_ways, not-true}
 use Rattle.std.proofs.lemmas.Str.{IsUtf8-nil, IsUtf8-from_is_utf8, is_utf8-from_IsUtf8}
 use Rattle.imap_grammar.specs.declared.answer.Err.{Err as Fault}
 use Rattle.imap_grammar.specs.declared.answer.Err.TheVariants.{Incomplete, Error, Failure}
@@ -17,17 +17,18 @@ use Rattle.imap_grammar.specs.Answer.{Returned, Gives}
 use Rattle.imap_grammar.specs.Classes.{is_text_char}
 use Rattle.imap_grammar.specs.Lists.{tried_of}
 use Rattle.imap_grammar.specs.Meaning.{is_word, begins, outside}
-use Rattle.imap_grammar.specs.Memory.{BeginsWord, FailsOnlyIf, SucceedsFor}
+use Rattle.imap_grammar.specs.Memory.{BeginsWord, StartsWith, FailsOnlyIf, SucceedsFor}
 use Rattle.imap_grammar.specs.Rule.{Rule, meaning, gives, nothing, opt, ◌⨾◌, ◌▹◌, ◌or◌}
 use Rattle.imap_grammar.specs.Step.{step, ◌>>=◌, or_else, beside}
-use Rattle.imap_grammar.specs.Tags.{tag, sp, crlf, same_letter}
+use Rattle.imap_grammar.specs.Tags.{tag, word, sp, crlf, same_letter}
 use Rattle.imap_grammar.specs.Text.{Bytes, Text, text_of, decoded, IsOwned}
 use Rattle.imap_grammar.proofs.Agreement.{agrees, reads, fails}
-use Rattle.imap_grammar.proofs.Memory.{none_yielded, of_part, given, before, second, wider, holds_already, begins_tag}
+use Rattle.imap_grammar.proofs.Memory.{none_yielded, of_part, given, before, second, wider}
 use Rattle.imap_grammar.proofs.Joins.{tried_none}
-use Rattle.imap_grammar.proofs.ReadingWords.{letter}
+use Rattle.imap_grammar.proofs.ReadingWords.{exact, letter}
 use Rattle.imap_grammar.proofs.Steps.{ok_is}
 use Rattle.imap_grammar.proofs.Yields.{Yields, given_yields, made_yields, left_yields, either_yields}
+use Rattle.imap_bytes.specs.Numbers.{number}
 use Rattle.imap_bytes.specs.Texts.{text, FailsForOwned}
 use Rattle.imap_bytes.proofs.ReadingTexts.{decoded_utf8}
 use Rattle.imap_bytes.proofs.ReadingQuoted.{lossy_some}
@@ -45,8 +46,9 @@ use Rattle.imap_proto.specs.declared.outcome.Outcome.{Outcome}
 use Rattle.imap_data.proofs.ListCodes.{list_code_yielded}
 use Rattle.imap_proto.specs.Outcomes.{outcome_of, outcome, plain_outcome, no_outcome, spaced_outcome}
 use Rattle.imap_proto.specs.Responses.{OutcomeValue, ResponseValue, Capabilities, MailboxData, Quota, QuotaRoot, Id, Acl, ListRights, MyRights}
-use Rattle.imap_proto.specs.Lines.{data_of, status_data, fetch_of, vanished_of, vanished_data, spaces, status_line, mailbox_line, list_line, capability_line, enabled_line, annotation_line, vanished_line, quota_line, id_line, acl_line, done_of, request_tag, tagged, fetched_line}
-use Rattle.imap_proto.specs.Memory.{OutcomeTakesNone, TakesNone, BeginsTagged, MayWantMemory}
+use Rattle.imap_proto.specs.Lines.{data_of, status_data, fetch_of, vanished_of, vanished_data, spaces, status_line, mailbox_line, list_line, capability_line, enabled_line, annotation_line, vanished_line, quota_line, id_line, acl_line, done_of, request_tag, tagged, fetched, fetch, fetched_line, fetch_line}
+use Rattle.imap_proto.specs.Memory.{OutcomeTakesNone, TakesNone, BeginsTagged, BeginsDatum, MayWantMemory}
+use Rattle.imap_proto.specs.Kept.{without_value}
 
 -- ---- a word of text-chars in front of a line stands in front of the line's text too
 
@@ -306,10 +308,62 @@ pub begins_tagged : (m a b rest t x : Bytes) (s : Status) → step request_tag m
 begins_tagged m a b rest t x s is then last = ((t, s), rest, reads (request_tag ⨾ sp ▹ status) m rest (t, s) (rw (is, then, last) refl))
 
 pub wants_continued : {A : Type 0} (m : Bytes) (result : Returned A) → FailsOnlyIf (BeginsWord "+" m) result → FailsOnlyIf (MayWantMemory m) result
-wants_continued m result h = wider (BeginsWord "+" m) (MayWantMemory m) result (λ p. inl (inl p)) h
+wants_continued m result h = wider (BeginsWord "+" m) (MayWantMemory m) result (λ p. inl p) h
 
-pub wants_datum : {A : Type 0} (m rest v : Bytes) (result : Returned A) → step (tag "* ") m ≡ Ok (rest, v) → FailsOnlyIf (MayWantMemory m) result
-wants_datum m rest v result is = holds_already (MayWantMemory m) result (inl (inr (begins_tag "* " m rest v refl is)))
+-- `* ` in front of such a datum
+pub starred_wants : (m rest v : Bytes) → step (tag "* ") m ≡ Ok (rest, v) → BeginsDatum rest → MayWantMemory m
+unfolding meaning
+starred_wants m rest v is p =
+    let y = reads (tag "* ") m rest v is in
+    let front : m ≡ codes "* " ++ rest = y.0 ∙ ap (λ l. l ++ rest) (sym (exact (codes "* ") v y.1)) in
+    inr (inl (rest, front, p))
+
+pub wants_datum : {A : Type 0} (P : Bytes → Type 0) (m rest v : Bytes) (result : Returned A) → ((r : Bytes) → P r → BeginsDatum r) → step (tag "* ") m ≡ Ok (rest, v) → FailsOnlyIf (P rest) result → FailsOnlyIf (MayWantMemory m) result
+wants_datum P m rest v result begins is h = wider (P rest) (MayWantMemory m) result (λ p. starred_wants m rest v is (begins rest p)) h
 
 pub wants_tagged : {A : Type 0} (m : Bytes) (result : Returned A) → FailsOnlyIf (BeginsTagged m) result → FailsOnlyIf (MayWantMemory m) result
-wants_tagged m result h = wider (BeginsTagged m) (MayWantMemory m) result (λ p. inr p) h
+wants_tagged m result h = wider (BeginsTagged m) (MayWantMemory m) result (λ p. inr (inr p)) h
+
+-- a word behind a number
+pub behind_number : (m mid : Bytes) (n : ℕ) → step number m ≡ Ok (mid, n) → BeginsWord " FETCH " mid → StartsWith (number ▹ word " FETCH ") m
+unfolding meaning
+behind_number m mid n is b = (b.0, b.1, ((n, b.0), (mid, reads number m mid n is, (b.2, b.3)), refl))
+
+pub wants_fetched : {A : Type 0} (m rest v mid : Bytes) (n : ℕ) (result : Returned A) → step (tag "* ") m ≡ Ok (rest, v) → step number rest ≡ Ok (mid, n) → FailsOnlyIf (BeginsWord " FETCH " mid) result → FailsOnlyIf (MayWantMemory m) result
+wants_fetched m rest v mid n result is number_is h =
+    wider (BeginsWord " FETCH " mid) (MayWantMemory m) result (λ p. starred_wants m rest v is (inr (inl (behind_number rest mid n number_is p)))) h
+
+-- QUOTAROOT begins with QUOTA
+pub quota_root_begins : (m : Bytes) → BeginsWord "QUOTAROOT" m → BeginsWord "QUOTA" m
+quota_root_begins m b =
+    let y = shorter (codes "QUOTA") (codes "ROOT") b.0 b.3 in
+    (y.0, y.1 ++ b.1, b.2 ∙ ap (λ l. l ++ b.1) y.2 ∙ append_assoc y.0 y.1 b.1, y.3)
+  where
+    shorter : (k j front : List ℕ) → is_word same_letter (k ++ j) front ≡ true → (head : Bytes) × (tail : Bytes) × (front ≡ head ++ tail) × (is_word same_letter k head ≡ true)
+    shorter [] j front w = ([], front, refl, refl)
+    shorter (x ∷ k) j [] w = absurd (false≢true w)
+    shorter (x ∷ k) j (b ∷ front) w =
+        let p = and_parts (same_letter x b) (is_word same_letter (k ++ j) front) w in
+        let y = shorter k j front p.1 in
+        (b ∷ y.0, y.1, ap (λ l. b ∷ l) y.2, and_from _ _ p.0 y.3)
+
+-- ---- kept fetches
+
+-- the line of a FETCH
+pub fetch_line_wants : (m rest : Bytes) (v : ResponseValue) → step fetch_line m ≡ Ok (rest, v) → MayWantMemory m
+unfolding meaning fetch_line fetch fetched
+fetch_line_wants m rest v is =
+    let y = reads fetch_line m rest v is in
+    let front = y.1.1 in
+    let inside = y.1.2.1.1 in
+    let behind = inside.1.2 in
+    inr (inl (
+      y.1.0,
+      front.0 ∙ ap (λ l. l ++ y.1.0) (sym (exact (codes "* ") y.0.0 front.1)),
+      inr (inl (behind.0.0, behind.1.0, ((inside.0.0, behind.0.0), (inside.1.0, inside.1.1, behind.1.1), refl))),
+    ))
+
+-- an answer whose value is dropped
+pub valueless_wants : {A : Type 0} (m : Bytes) (result : Returned A) (e : Fault) → FailsOnlyIf (MayWantMemory m) result → without_value result ≡ Err e → FailsOnlyIf (MayWantMemory m) (failed e)
+valueless_wants m (Ok x) e h is = absurd cc
+valueless_wants m (Err d) e h is = let same : d ≡ e = cc in λ q. h (same ∙ q)

@@ -1,5 +1,5 @@
 -- An owned response is the same response.
-use Rattle.std.proofs.Common.{◌≡◌, false, ap, refl}
+use Rattle.std.proofs.Common.{◌≡◌, true, false, ap, refl}
 use Rattle.imap_grammar.specs.Text.{lent_text, owned_text}
 use Rattle.imap_items.specs.Capabilities.{lent_capability}
 use Rattle.imap_items.specs.Owned.{owned_capability}
@@ -27,7 +27,7 @@ owned_is_same (Done tag status o) = ap (λ x. Done tag status x) (outcome o)
 owned_is_same (Data status o) = ap (λ x. Data status x) (outcome o)
 owned_is_same (Expunge n) = refl
 owned_is_same (Vanished earlier uids) = refl
-owned_is_same (Fetch n attributes) = ap (λ x. Fetch n x) (list_says lent_attribute owned_attribute (attribute false) attributes)
+owned_is_same (Fetch n attributes) = ap (λ x. Fetch n x) (list_says lent_attribute owned_attribute (attribute true false) attributes)
 owned_is_same (MailboxData d) = ap (λ x. MailboxData x) (owned_datum_says d)
 owned_is_same (Quota q) = ap (λ x. Quota x) (owned_quota_says q)
 owned_is_same (QuotaRoot q) = ap (λ x. QuotaRoot x) (owned_quota_root_says q)

@@ -1,8 +1,9 @@
 -- Feeds: what a call gives of the bytes that are held, and what stands in all the pieces of a stream.
-use Rattle.std.specs.Prelude.{◌≡◌, ℕ, ◌<◌, List, [], ◌∷◌, ◌++◌, length, map, Option, None, Some, Result, Ok, Err}
+use Rattle.std.specs.Prelude.{◌≡◌, ◌⊎◌, ℕ, ◌<◌, List, [], ◌∷◌, ◌++◌, length, map, Option, None, Some, Result, Ok, Err}
 use Rattle.imap_grammar.specs.declared.answer.Err.{Err as Fault}
 use Rattle.imap_grammar.specs.Answer.{Stops}
 use Rattle.imap_grammar.specs.Meaning.{Denies}
+use Rattle.imap_grammar.specs.Memory.{StartsWith}
 use Rattle.imap_grammar.specs.Rule.{meaning}
 use Rattle.imap_grammar.specs.Step.{step}
 use Rattle.imap_grammar.specs.Text.{Bytes}
@@ -12,6 +13,7 @@ use Rattle.imap_proto.specs.declared.stream.FeedError.{FeedError}
 use Rattle.imap_proto.specs.declared.stream.FeedError.TheVariants.{Denied, OutOfMemory}
 use Rattle.imap_proto.specs.declared.stream.Whole.{Whole}
 use Rattle.imap_proto.specs.Responses.{ResponseValue, response_value, lent_response}
+use Rattle.imap_proto.specs.Memory.{MayWantMemory}
 use Rattle.imap_proto.specs.Owned.{owned_response}
 use Rattle.imap_proto.specs.Lines.{response}
 use Rattle.imap_proto.specs.Streams.{Waiting, Splits, Fed}
@@ -56,10 +58,15 @@ HasGivenMore held r left =
     × (response_value r ≡ owned_response v)
     × Fed pieces (vs ++ v ∷ []) left
 
--- it is denied only where no response begins with what is held, whatever is put behind it
+-- where memory may be wanted: to read a response, or to own the one that stands in front
+abbrev pub FeedMayWant : Bytes → Type 0
+FeedMayWant held = MayWantMemory held ⊎ StartsWith response held
+
+-- It is denied only where no response begins with what is held, whatever is put behind it. Memory ran out only where it
+-- may be wanted.
 abbrev pub RefusesAs : Bytes → FeedError → Type 0
 RefusesAs held Denied = Denies (meaning response) held
-RefusesAs held OutOfMemory = Unit {0}
+RefusesAs held OutOfMemory = FeedMayWant held
 
 -- all responses of the split of what was held were put behind the others, with their texts owned
 abbrev pub TakesAll : Bytes → List Response → Bytes → List Response → End → Type 0

@@ -8,3 +8,5 @@ pub mod Feeds
 pub mod Owned
 pub mod OutcomeTexts
 pub mod LineTexts
+pub mod Quoting
+pub mod CountLines

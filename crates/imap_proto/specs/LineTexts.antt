@@ -1,8 +1,8 @@
 -- The text of a response: one line.
-use Rattle.std.specs.Prelude.{◌≡◌, ◌^◌, ◌⊎◌, Bool, false, not, nat_lt, [], ◌∷◌, ◌++◌, length}
+use Rattle.std.specs.Prelude.{◌≡◌, ◌≤◌, ◌^◌, ◌⊎◌, Bool, true, false, not, nat_lt, [], ◌∷◌, ◌++◌, length, None, Some}
 use Rattle.std.specs.List.{list_any}
-use Rattle.imap_grammar.specs.Ascii.{line_feed, carriage_return}
-use Rattle.imap_grammar.specs.Text.{Bytes}
+use Rattle.imap_grammar.specs.Ascii.{line_feed, carriage_return, open_bracket}
+use Rattle.imap_grammar.specs.Text.{Bytes, Text}
 use Rattle.imap_grammar.specs.Rule.{meaning}
 use Rattle.imap_grammar.specs.Pieces.{Piece, Raw, Lit, Pieces, ◌then◌, words, raw, space, number_text, written}
 use Rattle.imap_grammar.specs.ReadBack.{Texts}
@@ -15,7 +15,7 @@ use Rattle.imap_extensions.specs.QuotaTexts.{canonical_quota, spells_quota, cano
 use Rattle.imap_extensions.specs.IdTexts.{canonical_id, spells_id}
 use Rattle.imap_extensions.specs.AclTexts.{canonical_acl, spells_acl, canonical_list_rights, spells_list_rights, canonical_my_rights, spells_my_rights}
 use Rattle.imap_body.specs.AttributeTexts.{canonical_attributes, spells_attributes}
-use Rattle.imap_proto.specs.Responses.{ResponseValue, Capabilities, Continue, Done, Data, Expunge, Vanished, Fetch, MailboxData, Quota, QuotaRoot, Id, Acl, ListRights, MyRights, lent_response}
+use Rattle.imap_proto.specs.Responses.{OutcomeValue, ResponseValue, Capabilities, Continue, Done, Data, Expunge, Vanished, Fetch, MailboxData, Quota, QuotaRoot, Id, Acl, ListRights, MyRights, lent_response}
 use Rattle.imap_proto.specs.OutcomeTexts.{canonical_outcome, canonical_spaced, is_bracketed, spells_outcome, spells_spaced}
 use Rattle.imap_proto.specs.Lines.{is_space, is_tag_char, response}
 
@@ -107,6 +107,33 @@ is_too_long (Lit b) = not (nat_lt (length b) (2 ^ 32))
 
 abbrev pub has_too_long_text : ResponseValue → Bool
 has_too_long_text r = list_any is_too_long (canonical_response r)
+
+-- ---- what these kinds are
+
+-- a continuation, a tagged line or an untagged status, with this outcome
+abbrev pub SaysOutcome : ResponseValue → OutcomeValue → Type 0
+SaysOutcome (Continue said) o = said ≡ o
+SaysOutcome (Done tag status said) o = said ≡ o
+SaysOutcome (Data status said) o = said ≡ o
+SaysOutcome r o = ⊥
+
+-- the first: one of these lines, without a code, whose information begins with `[`
+abbrev pub BracketIsSaid : Type 0
+BracketIsSaid =
+    (r : ResponseValue) → has_bracket r ≡ true
+    → (o : OutcomeValue) × (information : Text) × (behind : Bytes)
+    × SaysOutcome r o
+    × (o.code ≡ None)
+    × (o.information ≡ Some information)
+    × (information.bytes ≡ open_bracket ∷ behind)
+
+-- the second: a literal of its canonical text has 2 ^ 32 bytes or more
+abbrev pub LiteralIsTooLong : Type 0
+LiteralIsTooLong =
+    (r : ResponseValue) → has_too_long_text r ≡ true
+    → (front : Pieces) × (b : Bytes) × (behind : Pieces)
+    × (canonical_response r ≡ front ++ Lit b ∷ behind)
+    × (2 ^ 32 ≤ length b)
 
 -- ---- the law of the whole grammar
 

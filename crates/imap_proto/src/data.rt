@@ -3,11 +3,13 @@
 //! The readers of lines are never inlined: one function that had them all in it would clear, at each response, the room
 //! on its stack for the values of all of them.
 
-ghost use Rattle.std.specs.Prelude.{◌≡◌, map, Err as Refused};
+ghost use Rattle.std.specs.Prelude.{◌≡◌, ◌⊎◌, map, Err as Refused};
 ghost use Rattle.imap_grammar.specs.Answer.{Steps, StepsExactly};
-ghost use Rattle.imap_grammar.specs.Memory.{SucceedsFor};
+ghost use Rattle.imap_grammar.specs.Memory.{BeginsWord, StartsWith, NeverFails, FailsOnlyIf, SucceedsFor};
 ghost use Rattle.imap_grammar.specs.Rule.{◌⨾◌};
 ghost use Rattle.imap_grammar.specs.Tags.{crlf};
+ghost use Rattle.imap_items.specs.Statuses as statuses;
+ghost use Rattle.imap_data.specs.MailboxData.{BeginsListDatum};
 ghost use Rattle.imap_attributes.specs.AttributeValues.{attribute_value};
 ghost use Rattle.imap_proto.specs.Memory.{TakesNone};
 ghost use Rattle.imap_proto.specs.Responses.{response_value};
@@ -40,14 +42,16 @@ impl Class for Space {
 
 #[tactic(auto, unfolding(crate::specs::Lines::spaces))]
 fn spaces(i: &[u8]) -> IResult<&[u8], &[u8]>
-    ensures { StepsExactly rule.spaces (λ x. x.now) i.now result }
+    ensures steps { StepsExactly rule.spaces (λ x. x.now) i.now result }
+    ensures no_failure { NeverFails result }
 {
     cut0(run_end::<Space>(i), i)
 }
 
 // Spaces, and the end of the line.
 fn line_end(i: &[u8]) -> IResult<&[u8], (&[u8], &[u8])>
-    ensures { StepsExactly (rule.spaces ⨾ crlf) (λ x. (x.0.now, x.1.now)) i.now result }
+    ensures steps { StepsExactly (rule.spaces ⨾ crlf) (λ x. (x.0.now, x.1.now)) i.now result }
+    ensures no_failure { NeverFails result }
 {
     let (rest, before) = spaces(i)?;
     let (rest, end) = tag(b"\r\n", rest)?;
@@ -76,6 +80,7 @@ macro_rules! whole_line {
 #[inline(never)]
 pub(crate) fn status_line(alloc: Global, i: &[u8]) -> IResult<&[u8], Response<'_>>
     ensures steps { Steps rule.status_line response_value i.now result }
+    ensures failure { FailsOnlyIf (StartsWith statuses.status i.now) result }
     ensures memory { SucceedsFor TakesNone rule.status_line i.now result }
 {
     let (rest, status) = status(i)?;
@@ -85,11 +90,11 @@ pub(crate) fn status_line(alloc: Global, i: &[u8]) -> IResult<&[u8], Response<'_
 
 #[tactic(auto, unfolding(crate::specs::Lines::fetched))]
 fn fetched(alloc: Global, i: &[u8]) -> IResult<&[u8], Vec<AttributeValue<'_>>>
-    ensures { Steps rule.fetched (λ x. map attribute_value x.items) i.now result }
+    ensures steps { Steps rule.fetched (λ x. map attribute_value x.items) i.now result }
+    ensures failure { FailsOnlyIf (BeginsWord " FETCH " i.now) result }
 {
     let (rest, _) = word(b" FETCH ", i)?;
-    let (rest, attributes) = attribute_list(alloc, rest)?;
-    Ok((rest, attributes))
+    attribute_list(alloc, rest)
 }
 
 /// `EXISTS`, `RECENT` and `EXPUNGE`, whose number stood in front. No memory.
@@ -114,7 +119,8 @@ pub(crate) fn fetched_line<'a>(
     n: u32,
     i: &'a [u8],
 ) -> IResult<&'a [u8], Response<'a>>
-    ensures { Steps (rule.fetched_line n) response_value i.now result }
+    ensures steps { Steps (rule.fetched_line n) response_value i.now result }
+    ensures failure { FailsOnlyIf (BeginsWord " FETCH " i.now) result }
 {
     whole_line!(fetched(alloc, i), attributes => Response::Fetch(n, attributes));
     Err(Err::Error)
@@ -124,6 +130,7 @@ pub(crate) fn fetched_line<'a>(
 #[inline(never)]
 pub(crate) fn mailbox_line(alloc: Global, i: &[u8]) -> IResult<&[u8], Response<'_>>
     ensures steps { Steps rule.mailbox_line response_value i.now result }
+    ensures failure { FailsOnlyIf (BeginsListDatum i.now) result }
     ensures memory { SucceedsFor TakesNone rule.mailbox_line i.now result }
 {
     whole_line!(mailbox_datum(alloc, i), found => Response::MailboxData(found));
@@ -134,6 +141,8 @@ pub(crate) fn mailbox_line(alloc: Global, i: &[u8]) -> IResult<&[u8], Response<'
 #[inline(never)]
 pub(crate) fn list_line(alloc: Global, i: &[u8]) -> IResult<&[u8], Response<'_>>
     ensures steps { Steps rule.list_line response_value i.now result }
+    ensures failure { FailsOnlyIf ((BeginsWord "LIST " i.now ⊎ BeginsWord "LSUB " i.now)
+        ⊎ BeginsWord "LISTRIGHTS" i.now) result }
     ensures memory { SucceedsFor TakesNone rule.list_line i.now result }
 {
     whole_line!(list_or_lsub(alloc, i), found => Response::MailboxData(found));
@@ -144,7 +153,8 @@ pub(crate) fn list_line(alloc: Global, i: &[u8]) -> IResult<&[u8], Response<'_>>
 #[tactic(auto, unfolding(crate::specs::Lines::capability_line))]
 #[inline(never)]
 pub(crate) fn capability_line(alloc: Global, i: &[u8]) -> IResult<&[u8], Response<'_>>
-    ensures { Steps rule.capability_line response_value i.now result }
+    ensures steps { Steps rule.capability_line response_value i.now result }
+    ensures failure { FailsOnlyIf (BeginsWord "CAPABILITY" i.now) result }
 {
     whole_line!(capability_data(alloc, i), found => Response::Capabilities(found));
     Err(Err::Error)
@@ -153,7 +163,8 @@ pub(crate) fn capability_line(alloc: Global, i: &[u8]) -> IResult<&[u8], Respons
 #[tactic(auto, unfolding(crate::specs::Lines::enabled_line))]
 #[inline(never)]
 pub(crate) fn enabled_line(alloc: Global, i: &[u8]) -> IResult<&[u8], Response<'_>>
-    ensures { Steps rule.enabled_line response_value i.now result }
+    ensures steps { Steps rule.enabled_line response_value i.now result }
+    ensures failure { FailsOnlyIf (BeginsWord "ENABLED" i.now) result }
 {
     whole_line!(enabled_data(alloc, i), found => Response::Capabilities(found));
     Err(Err::Error)
@@ -162,7 +173,9 @@ pub(crate) fn enabled_line(alloc: Global, i: &[u8]) -> IResult<&[u8], Response<'
 #[tactic(auto, unfolding(crate::specs::Lines::annotation_line))]
 #[inline(never)]
 pub(crate) fn annotation_line(alloc: Global, i: &[u8]) -> IResult<&[u8], Response<'_>>
-    ensures { Steps rule.annotation_line response_value i.now result }
+    ensures steps { Steps rule.annotation_line response_value i.now result }
+    ensures failure { FailsOnlyIf (BeginsWord "METADATA " i.now ⊎ BeginsWord "MYRIGHTS" i.now)
+        result }
 {
     whole_line!(metadata_solicited(alloc, i), found => Response::MailboxData(found));
     whole_line!(metadata_unsolicited(alloc, i), found => Response::MailboxData(found));
@@ -173,7 +186,8 @@ pub(crate) fn annotation_line(alloc: Global, i: &[u8]) -> IResult<&[u8], Respons
 #[tactic(auto, unfolding(crate::specs::Lines::vanished_line, crate::specs::Lines::vanished_data))]
 #[inline(never)]
 pub(crate) fn vanished_line(alloc: Global, i: &[u8]) -> IResult<&[u8], Response<'_>>
-    ensures { Steps rule.vanished_line response_value i.now result }
+    ensures steps { Steps rule.vanished_line response_value i.now result }
+    ensures failure { FailsOnlyIf (BeginsWord "VANISHED" i.now) result }
 {
     whole_line!(vanished(alloc, i), found => Response::Vanished { earlier: found.0, uids: found.1 });
     Err(Err::Error)
@@ -182,7 +196,8 @@ pub(crate) fn vanished_line(alloc: Global, i: &[u8]) -> IResult<&[u8], Response<
 #[tactic(auto, unfolding(crate::specs::Lines::quota_line))]
 #[inline(never)]
 pub(crate) fn quota_line(alloc: Global, i: &[u8]) -> IResult<&[u8], Response<'_>>
-    ensures { Steps rule.quota_line response_value i.now result }
+    ensures steps { Steps rule.quota_line response_value i.now result }
+    ensures failure { FailsOnlyIf (BeginsWord "QUOTA" i.now ⊎ BeginsWord "QUOTAROOT" i.now) result }
 {
     whole_line!(quota(alloc, i), found => Response::Quota(found));
     whole_line!(quota_root(alloc, i), found => Response::QuotaRoot(found));
@@ -193,6 +208,7 @@ pub(crate) fn quota_line(alloc: Global, i: &[u8]) -> IResult<&[u8], Response<'_>
 #[inline(never)]
 pub(crate) fn id_line(alloc: Global, i: &[u8]) -> IResult<&[u8], Response<'_>>
     ensures steps { Steps rule.id_line response_value i.now result }
+    ensures failure { FailsOnlyIf (BeginsWord "ID" i.now) result }
     ensures memory { SucceedsFor TakesNone rule.id_line i.now result }
 {
     whole_line!(id(alloc, i), found => Response::Id(found));
@@ -202,7 +218,8 @@ pub(crate) fn id_line(alloc: Global, i: &[u8]) -> IResult<&[u8], Response<'_>>
 #[tactic(auto, unfolding(crate::specs::Lines::acl_line))]
 #[inline(never)]
 pub(crate) fn acl_line(alloc: Global, i: &[u8]) -> IResult<&[u8], Response<'_>>
-    ensures { Steps rule.acl_line response_value i.now result }
+    ensures steps { Steps rule.acl_line response_value i.now result }
+    ensures failure { FailsOnlyIf (BeginsWord "ACL" i.now) result }
 {
     whole_line!(acl(alloc, i), found => Response::Acl(found));
     Err(Err::Error)

@@ -1,10 +1,12 @@
 //! Fetches that are kept: the bytes of one `FETCH` once, and its attributes as positions in them.
 
-ghost use Rattle.std.specs.Prelude.{◌≡◌, ◌≤◌, ◌<◌, Some, length, map, slice_get, IfOk};
+ghost use Rattle.std.specs.Prelude.{◌≡◌, ◌≤◌, ◌<◌, Some, length, map, drop, slice_get, IfOk};
+ghost use Rattle.imap_grammar.specs.Memory.{BeginsWord, NeverFails, FailsOnlyIf};
 ghost use Rattle.imap_grammar.specs.Positions.{Ahead, Inside, named_in, StepsAt, StepsExactlyAt};
 ghost use Rattle.imap_attributes.specs.AttributeValues.{attribute_value};
 ghost use Rattle.imap_body.specs.SpannedAttributes.{InFront, attribute_in};
 ghost use Rattle.imap_proto.specs.Kept.{Keeps, message_number, consumed_bytes, attributes_of, without_value};
+ghost use Rattle.imap_proto.specs.Memory.{MayWantMemory};
 ghost use Rattle.imap_proto.specs.Responses.{fetch_in};
 ghost use Rattle.imap_proto.specs.Lines as rule;
 
@@ -26,6 +28,7 @@ fn spaces(m: &[u8], p: usize) -> Reached<Span>
     requires { p ≤ length m.now }
     ensures steps { StepsExactlyAt rule.spaces (named_in m.now) m.now p result }
     ensures inside { Inside m.now p result }
+    ensures no_failure { NeverFails result }
 {
     let (_, i) = m.split_at(p);
     cut0(run_end::<Space>(i), m, p)
@@ -37,6 +40,7 @@ fn fetched(alloc: Global, m: &[u8], p: usize) -> Reached<Vec<SpannedAttribute>>
     ensures steps { StepsAt rule.fetched (λ x. map (attribute_in m.now) x.items) m.now p result }
     ensures ahead { Ahead m.now p result }
     ensures rests { InFront (λ n x. map (attribute_in n) x.items) result }
+    ensures failure { FailsOnlyIf (BeginsWord " FETCH " (drop p m.now)) result }
 {
     let (p, _) = word(b" FETCH ", m, p)?;
     attribute_list_at(alloc, m, p)
@@ -48,6 +52,7 @@ fn fetch_line(alloc: Global, m: &[u8]) -> Reached<(u32, Vec<SpannedAttribute>)>
     ensures steps { StepsAt rule.fetch_line (fetch_in m.now) m.now 0 result }
     ensures within { IfOk result (λ x. x.0 ≤ length m.now) }
     ensures rests { InFront fetch_in result }
+    ensures failure { FailsOnlyIf (MayWantMemory m.now) result }
 {
     let (p, _) = tag(b"* ", m, 0)?;
     let (p, number) = number(m, p)?;
@@ -80,13 +85,14 @@ impl KeptFetch {
     /// Keeps the `FETCH` at the front of the message (RFC 3501, section 7.4.2); `None` where another response stands
     /// there.
     ///
-    /// `Error`, `Incomplete` and `Failure` as `Response::parse`. The answer is for the whole message: the bytes that
-    /// the `FETCH` took may be `Incomplete` when they are parsed alone.
+    /// `Error`, `Incomplete` and `Failure` as `Response::parse`. Whether a `FETCH` stands there may depend on bytes
+    /// behind it. So `bytes()`, parsed alone, may be `Incomplete`.
     ///
     /// It takes memory for its bytes and its attributes, and for another response as `Response::parse` does. Keeping
     /// from `Feed::held` takes nothing off the feed: its `next` reads the same bytes again.
     pub fn keep(alloc: Global, msg: &[u8]) -> Result<Option<KeptFetch>, Err>
-        ensures { Keeps msg.now result }
+        ensures keeps { Keeps msg.now result }
+        ensures failure { FailsOnlyIf (MayWantMemory msg.now) result }
     {
         let Some((q, (number, attributes))) = tried(fetch_line(alloc, msg))? else {
             valueless(Response::parse(alloc, msg))?;
@@ -109,7 +115,7 @@ impl KeptFetch {
         self.number
     }
 
-    /// How many attributes it has. No memory.
+    /// How many attributes it has, at least one. No memory.
     pub fn len(&self) -> usize
         ensures { result ≡ length (attributes_of self.now) }
     {

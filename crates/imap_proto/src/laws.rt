@@ -9,15 +9,17 @@ ghost use Rattle.imap_proto.specs.Lines as rule;
 ghost use Rattle.imap_proto.specs.Streams.{SomeSplit, OneSplit, BeginningsWait, SplitsGoOn, FeedsSplit, CuttingsAlike};
 ghost use Rattle.imap_proto.specs.Feeds.{OneWhole, lent_whole};
 ghost use Rattle.imap_grammar.specs.ReadBack.{Spells};
-ghost use Rattle.imap_proto.specs.Owned.{owned_response};
-ghost use Rattle.imap_proto.specs.LineTexts.{spells_response, CanonicalReadsBack, Same};
-ghost use Rattle.imap_proto.specs.Responses.{ResponseValue, outcome_value, response_value, lent_outcome, lent_response};
+ghost use Rattle.imap_proto.specs.Owned.{owned_outcome, owned_response};
+ghost use Rattle.imap_proto.specs.CountLines.{CountIsRead, exists_of, recent_of};
+ghost use Rattle.imap_proto.specs.Quoting.{QuotedIsRead};
+ghost use Rattle.imap_proto.specs.LineTexts.{spells_response, BracketIsSaid, LiteralIsTooLong, CanonicalReadsBack, Same};
+ghost use Rattle.imap_proto.specs.Responses.{OutcomeValue, ResponseValue, Expunge, outcome_value, response_value, lent_outcome, lent_response};
 
 use crate::outcome::Outcome;
 use crate::response::{RequestId, Response};
 use crate::stream::{End, FeedError, Whole};
 use imap_body::laws;
-pub use imap_command::laws::{calls_told_apart, one_line};
+pub use imap_command::laws::{calls_told_apart, one_line, refusals};
 
 /// Each rule has one answer. Bytes that are appended change neither a value nor a denial; and where n bytes are
 /// lacking, k appended ones (k < n) leave n - k lacking.
@@ -63,10 +65,41 @@ pub fn read_back()
     ensures same { (r : ResponseValue) → Same (lent_response r) r }
 {}
 
+/// What `read_back` excepts is no more than it says: a status or a continuation without a code whose information begins
+/// with `[`, and a response with a literal of 2^32 bytes or more in its canonical text.
+#[tactic(auto, using(crate::proofs::Exceptions::bracket_is_said, crate::proofs::Exceptions::literal_is_too_long))]
+pub fn exceptions()
+    ensures bracket { BracketIsSaid }
+    ensures too_long { LiteralIsTooLong }
+{}
+
+/// A line of `EXISTS`, `RECENT` or `EXPUNGE` is read from its text, with spaces before its end or without, whatever
+/// follows.
+#[tactic(auto, using(crate::proofs::CountLines::exists_read, crate::proofs::CountLines::recent_read, crate::proofs::CountLines::expunge_read))]
+pub fn count_lines()
+    ensures exists { CountIsRead " EXISTS" exists_of }
+    ensures recent { CountIsRead " RECENT" recent_of }
+    ensures expunge { CountIsRead " EXPUNGE" (λ n. Expunge n) }
+{}
+
+/// What a command quotes, the grammar of responses reads as one quoted string (RFC 3501, section 9: quoted).
+#[tactic(auto, using(crate::proofs::Quoting::quoted_is_read))]
+pub fn quoting()
+    ensures { QuotedIsRead }
+{}
+
 /// An owned response says the same as the response that it was made from.
 #[tactic(auto, using(crate::proofs::Owned::owned_is_same))]
 pub fn owning()
     ensures { (r : ResponseValue) → Same (owned_response r) r }
+{}
+
+/// Responses that say the same have one owned response: to borrow the texts of a value before they are owned changes
+/// nothing.
+#[tactic(auto, using(crate::proofs::OwnedOfLent::outcome, crate::proofs::OwnedOfLent::response))]
+pub fn lending()
+    ensures outcome { (o : OutcomeValue) → owned_outcome (lent_outcome o) ≡ owned_outcome o }
+    ensures response { (r : ResponseValue) → owned_response (lent_response r) ≡ owned_response r }
 {}
 
 /// `==` tells whether two values say the same: texts by their bytes, whichever are borrowed.

@@ -1,7 +1,5 @@
 //! Lines: continuations, untagged data and tagged statuses.
 
-ghost use Rattle.std.specs.Prelude.{◌≡◌, slice_get};
-ghost use Rattle.std.specs.Option.{option_copied};
 ghost use Rattle.imap_grammar.specs.Answer.{Steps, StepsExactly};
 ghost use Rattle.imap_grammar.specs.Memory.{BeginsWord, FailsOnlyIf, SucceedsFor};
 ghost use Rattle.imap_grammar.specs.Rule.{run1};
@@ -16,7 +14,7 @@ use crate::data::{
 use crate::outcomes::{outcome, spaced_outcome};
 use crate::response::{RequestId, Response};
 use imap_bytes::strings::as_utf8;
-use imap_bytes::tags::{cut1, maybe_space, tag};
+use imap_bytes::tags::{cut1, maybe_space, second, tag};
 use imap_bytes::{Err, IResult, Needed, is_astring_char, number};
 use imap_data::readers::status;
 use imap_grammar::scanning::{Class, run_end};
@@ -87,19 +85,12 @@ fn tagged(alloc: Global, i: &[u8]) -> IResult<&[u8], Response<'_>>
     ))
 }
 
-// The byte behind the first.
-fn second(i: &[u8]) -> Option<&u8>
-    ensures { option_copied result ≡ slice_get i.now 1 }
-{
-    i.get(1)
-}
-
 /// A response: a continuation, a tagged line, or `* `, a datum and the end of its line. Of the alternatives those are
 /// tried, in order, that may start with the first byte.
 ///
 /// Each arm returns what one call answers, so that an answer is copied once on its way. The number of a line is read
 /// here: it is small, and what stands behind it is told apart by its second byte.
-#[tactic(auto, using(crate::proofs::FirstBytes::response_none, crate::proofs::FirstBytes::response_plus, crate::proofs::FirstBytes::response_star, crate::proofs::FirstBytes::response_other, crate::proofs::FirstBytes::datum_none, crate::proofs::FirstBytes::datum_of_status, crate::proofs::FirstBytes::datum_of_number, crate::proofs::FirstBytes::datum_of_mailbox, crate::proofs::FirstBytes::datum_of_list, crate::proofs::FirstBytes::datum_of_capability, crate::proofs::FirstBytes::datum_of_enabled, crate::proofs::FirstBytes::datum_of_annotation, crate::proofs::FirstBytes::datum_of_vanished, crate::proofs::FirstBytes::datum_of_quota, crate::proofs::FirstBytes::datum_of_id, crate::proofs::FirstBytes::datum_of_acl, crate::proofs::FirstBytes::datum_other, crate::proofs::Numbered::number_stopped, crate::proofs::Numbered::number_and_fetch, crate::proofs::Numbered::number_and_count, crate::proofs::Memory::wants_continued, crate::proofs::Memory::wants_datum, crate::proofs::Memory::wants_tagged), unfolding(crate::specs::Lines::data_line))]
+#[tactic(auto, using(crate::proofs::FirstBytes::response_none, crate::proofs::FirstBytes::response_plus, crate::proofs::FirstBytes::response_star, crate::proofs::FirstBytes::response_other, crate::proofs::FirstBytes::datum_none, crate::proofs::FirstBytes::datum_of_status, crate::proofs::FirstBytes::datum_of_number, crate::proofs::FirstBytes::datum_of_mailbox, crate::proofs::FirstBytes::datum_of_list, crate::proofs::FirstBytes::datum_of_capability, crate::proofs::FirstBytes::datum_of_enabled, crate::proofs::FirstBytes::datum_of_annotation, crate::proofs::FirstBytes::datum_of_vanished, crate::proofs::FirstBytes::datum_of_quota, crate::proofs::FirstBytes::datum_of_id, crate::proofs::FirstBytes::datum_of_acl, crate::proofs::FirstBytes::datum_other, crate::proofs::Numbered::number_stopped, crate::proofs::Numbered::number_and_fetch, crate::proofs::Numbered::number_and_count, crate::proofs::Memory::wants_continued, crate::proofs::Memory::wants_tagged), unfolding(crate::specs::Lines::data_line))]
 #[inline(never)]
 pub(crate) fn response(alloc: Global, i: &[u8]) -> IResult<&[u8], Response<'_>>
     ensures steps { Steps rule.response response_value i.now result }

@@ -76,7 +76,8 @@ pub enum Response<'a> {
     Vanished {
         /// Whether `(EARLIER)` stands there: the messages were gone before.
         earlier: bool,
-        /// The unique identifiers, range by range, as they stand.
+        /// The unique identifiers as ranges, their ends as written: one identifier n is `n..=n`, and `4:2` is
+        /// `4..=2`, over which a loop runs no time.
         uids: Vec<RangeInclusive<u32>>,
     },
     /// `FETCH`: the number of a message and its attributes (RFC 3501, section 7.4.2).
@@ -176,9 +177,10 @@ impl<'a> Response<'a> {
     ///
     /// It takes memory for lists, envelopes and body structures, for the map of an ID, for the tag of a tagged line,
     /// for the entry and the value of a `Metadata`, and for texts that are not UTF-8. So `Failure` is answered only
-    /// behind `+`, behind `* `, or behind a tag, a space and a status; and not where the response is one number
-    /// (`EXPUNGE`, `EXISTS`, `RECENT`, Gmail's), `ID NIL`, or an untagged status or a continuation with no list in its
-    /// code and a borrowed text. One kind is excepted: a text without a code that begins as a code with a list does, as
+    /// behind `+`, behind `* ` and what begins a datum that may take memory (a status, a number and ` FETCH `, one of
+    /// some words), or behind a tag, a space and a status; and not where the response is one number (`EXPUNGE`,
+    /// `EXISTS`, `RECENT`, Gmail's), `ID NIL`, or an untagged status or a continuation with no list in its code and a
+    /// borrowed text. One kind is excepted: a text without a code that begins as a code with a list does, as
     /// `[CAPABILITY`, since it is tried as that code first.
     #[inline(always)]
     pub fn parse(alloc: Global, msg: &'a [u8]) -> ParseResult<'a>

@@ -3,9 +3,10 @@
 //! However the bytes are cut into pieces, the same responses come of them: `laws::streams`.
 
 ghost use Rattle.std.specs.Prelude.{◌≡◌, ◌≤◌, ◌<◌, ◌+◌, ◌++◌, [], List, ℕ, length, map, drop, IfOk, IfErr, IfSome, OnOk, OnErr};
+ghost use Rattle.imap_grammar.specs.Memory.{FailsOnlyIf};
 ghost use Rattle.imap_proto.specs.declared.stream.FeedError.TheVariants.{OutOfMemory};
 ghost use Rattle.imap_proto.specs.Streams.{Fed, joined};
-ghost use Rattle.imap_proto.specs.Feeds.{Gave, HasGivenMore, IsFedMore, IsOwnedFront, WaitsFor, RefusesAs, TakesAll, IsWhole};
+ghost use Rattle.imap_proto.specs.Feeds.{Gave, HasGivenMore, IsFedMore, IsOwnedFront, WaitsFor, RefusesAs, FeedMayWant, TakesAll, IsWhole};
 
 use crate::response::Response;
 use imap_bytes::at::Reached;
@@ -47,8 +48,8 @@ impl From<AllocError> for FeedError {
 /// What is given is dropped from the front, and what is behind it is moved there only when more than half of all bytes
 /// are spent: so fewer bytes are moved than were fed. Where a literal lacks n bytes, nothing is read again until n
 /// bytes more were fed. Where it isn't known how many are lacking, the line is read from its start after each piece,
-/// since it may be denied by then: a line of L bytes in pieces of p is read some L / p times,
-/// some L * L / 2p bytes in all.
+/// since it may be denied by then: a line of L bytes in pieces of p is read some L / p times, some L * L / 2p bytes in
+/// all.
 ///
 /// A reading may go on behind the end of its line, where the line announces a literal: only what stands behind that
 /// tells whether the line is the longer or the shorter one. So many lines, or many attributes of one line, may have the
@@ -95,6 +96,7 @@ fn compacted(bytes: &mut Vec<u8>, start: usize) -> usize
 fn owned_front(alloc: Global, held: &[u8]) -> Reached<Response<'static>>
     ensures front { IsOwnedFront held.now result }
     ensures within { IfOk result (λ x. x.0 ≤ length held.now) }
+    ensures failure { FailsOnlyIf (FeedMayWant held.now) result }
 {
     match Response::parse(alloc, held) {
         Ok((rest, response)) => Ok((rest.len(), response.into_owned(alloc)?)),
@@ -138,9 +140,10 @@ impl Feed {
     /// The response at the front of what it holds, with all its texts owned; its bytes are held no longer. `None`
     /// where more bytes are needed, or nothing is held.
     ///
-    /// It takes memory. `OutOfMemory`: memory ran out, and the same call may be made again. `Denied`: no response
-    /// begins so, and every later call says that again, whatever is fed, or `OutOfMemory`. Both leave what is held.
-    /// A response takes at least one byte, so a loop over `next` ends.
+    /// It takes memory, to read a response and to own it. `OutOfMemory`: memory ran out, and the same call may be made
+    /// again; it is answered only where `Response::parse` may want memory, or where a response stands in front.
+    /// `Denied`: no response begins so, and every later call says that again, whatever is fed, or `OutOfMemory`. Both
+    /// leave what is held. A response takes at least one byte, so a loop over `next` ends.
     pub fn next(&mut self) -> Result<Option<Response<'static>>, FeedError>
         ensures gives { IfOk result (λ r. Gave self.old r self.new) }
         ensures goes_on { IfOk result (λ r. IfSome r (λ x. HasGivenMore self.old x self.new)) }

@@ -113,7 +113,8 @@ fn tell_responses<R: Source, W: Sink>(
 /// `Fault` what was written is a beginning of the report of what was read, and never all of it.
 ///
 /// `Read`: the reader failed. `Write`: the writer failed. `TooLong`: at least 2^64 - 1 bytes were read.
-/// `OutOfMemory`: memory ran out. Where a device failed no other answer comes than its fault.
+/// `OutOfMemory`: memory ran out. Where a device failed no other answer comes than its fault. Neither device may have
+/// failed before. A sink has no flush, so a writer that buffers has to be flushed behind the run.
 pub fn run<R: Source, W: Sink>(
     alloc: Global,
     reader: &mut R,

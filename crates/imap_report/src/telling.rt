@@ -94,12 +94,8 @@ fn last_line(alloc: Global, end: End, left: usize) -> Result<(Finish, String), A
 {
     match end {
         End::Denied => Ok((Finish::Denied, line_of(alloc, "denied", left)?)),
-        End::Waits => {
-            if left == 0 {
-                return Ok((Finish::End, String::from_str(alloc, "end\n")?));
-            }
-            Ok((Finish::Waiting, line_of(alloc, "waiting", left)?))
-        }
+        End::Waits if left == 0 => Ok((Finish::End, String::from_str(alloc, "end\n")?)),
+        End::Waits => Ok((Finish::Waiting, line_of(alloc, "waiting", left)?)),
     }
 }
 

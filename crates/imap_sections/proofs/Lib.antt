@@ -2,4 +2,5 @@ pub mod SectionFirstBytes
 pub mod SectionTexts
 pub mod Equality
 pub mod Visits
+pub mod PartNumbers
 pub mod Memory

@@ -107,7 +107,11 @@ pub struct BodyStructParser<'b, 'a> {
 }
 
 impl<'b, 'a> BodyStructParser<'b, 'a> {
-    /// Root and the bodies inside it, parent before child and left to right. The body inside a message is none of them.
+    /// Root and the bodies inside it, parent before child and left to right.
+    ///
+    /// The body inside a message is none of them: search it by a parser of its own, and put the message's section in
+    /// front of the path that is found there. Where it is no multipart, its own section is the message's and `.1` (RFC
+    /// 3501, section 6.4.5).
     ///
     /// It takes memory for the list of bodies, and for their paths. `TooManyParts`: a multipart has more than
     /// 4,294,967,295 bodies, which is judged before it is held, and so before any memory is taken where root is that

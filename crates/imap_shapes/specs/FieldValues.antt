@@ -29,6 +29,11 @@ encoding_seen f encoding.Base64 = encoding.Base64
 encoding_seen f encoding.QuotedPrintable = encoding.QuotedPrintable
 encoding_seen f (encoding.Other text) = encoding.Other (f text)
 
+-- it holds no text
+abbrev pub HoldsNone : {S : Type 0} → ContentEncoding S → Type 0
+HoldsNone (encoding.Other text) = ⊥
+HoldsNone other = Unit {0}
+
 pub record FieldsValue : Type 0 where
   pub param : ParamsValue
   pub id : Option Text

@@ -3,11 +3,11 @@
 //! What is consumed is dropped by a call. Where it is dropped in place, at the end of the function, what is in it is
 //! proved there again, part by part, which takes three to five times as long.
 
-ghost use Rattle.std.specs.Prelude.{◌≡◌, IfOk};
+ghost use Rattle.std.specs.Prelude.{◌≡◌, IfOk, IsOk};
 ghost use Rattle.imap_grammar.specs.Text.{text_of};
 ghost use Rattle.imap_shapes.specs.Spans.{bytes_of, bytes_owned, text_owned};
 ghost use Rattle.imap_shapes.specs.EnvelopeValues.{address_seen, envelope_seen};
-ghost use Rattle.imap_shapes.specs.FieldValues.{encoding_seen, fields_seen};
+ghost use Rattle.imap_shapes.specs.FieldValues.{encoding_seen, fields_seen, HoldsNone};
 ghost use Rattle.imap_shapes.specs.ExtensionValues.{disposition_seen, extension_seen, ext_1part_seen, ext_mpart_seen};
 ghost use Rattle.imap_shapes.specs.BodyValues.{type_seen, common_seen, single_seen, body_seen};
 
@@ -48,7 +48,9 @@ impl<'a> ContentEncoding<'a> {
     /// The same encoding with its text owned. It takes memory only for a text, also for one that is owned already;
     /// `Err`: memory ran out.
     pub fn into_owned(self, alloc: Global) -> Result<ContentEncoding<'static>, AllocError>
-        ensures { IfOk result (λ x. encoding_seen text_of x ≡ encoding_seen text_owned self.entry) }
+        ensures owned { IfOk result (λ x.
+            encoding_seen text_of x ≡ encoding_seen text_owned self.entry) }
+        ensures memory { HoldsNone self.entry → IsOk result }
     {
         let owned = self.try_map(&Owning::new(alloc));
         drop(self);

@@ -1,6 +1,6 @@
 //! Where a text stands in a message.
 
-ghost use Rattle.std.specs.Prelude.{◌≡◌, IfOk};
+ghost use Rattle.std.specs.Prelude.{◌≡◌, IfOk, IsOk, true};
 ghost use Rattle.imap_grammar.specs.Positions.{named_in};
 ghost use Rattle.imap_grammar.specs.Text.{text_of};
 ghost use Rattle.imap_shapes.specs.Spans.{text_in};
@@ -30,7 +30,8 @@ impl SpannedText {
     /// for each ill-formed part. It takes memory only for bytes that are not UTF-8; `Err`: memory ran out.
     #[inline(always)]
     pub fn named_in<'a>(self, alloc: Global, m: &'a [u8]) -> Result<CowStr<'a>, AllocError>
-        ensures { IfOk result (λ t. text_of t ≡ text_in (named_in m.now) self) }
+        ensures is { IfOk result (λ t. text_of t ≡ text_in (named_in m.now) self) }
+        ensures memory { (text_in (named_in m.now) self).borrowed ≡ true → IsOk result }
     {
         match self {
             SpannedText::Part(span) => decode(alloc, span.part(m)),

@@ -65,8 +65,8 @@ multipart_of (bodies, (subtype, ext)) =
 -- ---- rules
 
 -- body-type-1part = (body-type-basic / body-type-msg / body-type-text) [SP body-ext-1part]: here the extension data
--- stand in each of the three rules. In these and in a multipart's, each field brings its own SP, and may be missing with
--- it.
+-- stand in each of the three rules. Each field of them, and of a multipart's, brings its own SP, and may be missing
+-- with it.
 
 -- body-type-text = media-text SP body-fields SP body-fld-lines, where media-text = DQUOTE "TEXT" DQUOTE SP
 --     media-subtype

@@ -82,7 +82,7 @@ body_extension = extension 100
 
 -- ---- what stands behind the fields
 
--- SP A, skipped with its space where A is denied
+-- SP A, or nothing, not even the space, where A is denied
 abbrev pub maybe_spaced : {A : Type 0} → Rule (Option A) → Rule (Option A)
 maybe_spaced a = opt_opt_of (spaced a)
 

@@ -68,6 +68,14 @@ static FIELDS: Rows = &[
         r#"(None, None, None, EightBit, 2) then ")""#,
     ),
     (
+        b"(\"a\" \"b\" \t) NIL NIL \"8bit\" 2)",
+        r#"(Some([("a", "b")]), None, None, EightBit, 2) then ")""#,
+    ),
+    (
+        b"NIL NIL NIL \"binary\" 3)",
+        r#"(None, None, None, Binary, 3) then ")""#,
+    ),
+    (
         b"NIL NIL NIL \"BINARY\" 3)",
         r#"(None, None, None, Binary, 3) then ")""#,
     ),
@@ -138,6 +146,10 @@ static SINGLE_PARTS: Rows = &[
         b"(\"A\" \"B\" NIL NIL NIL NIL 1 (\"d\" NIL) (\"en\") 7)",
         r#"Basic { common: BodyContentCommon { ty: ContentType { ty: "A", subtype: "B", params: None }, disposition: Some(ContentDisposition { ty: "d", params: None }), language: Some(["en"]), location: None }, other: BodyContentSinglePart { id: None, md5: None, description: None, transfer_encoding: SevenBit, octets: 1 }, extension: Some(Num(7)) }"#,
     ),
+    (
+        b"(\"message\" \"rfc822\" NIL NIL NIL \"7BIT\" 9)",
+        r#"Basic { common: BodyContentCommon { ty: ContentType { ty: "message", subtype: "rfc822", params: None }, disposition: None, language: None, location: None }, other: BodyContentSinglePart { id: None, md5: None, description: None, transfer_encoding: SevenBit, octets: 9 }, extension: None }"#,
+    ),
     (b"()", "Error"),
     (b"\"A\"", "Error"),
     (b"(\"A\" \"B\" NIL NIL NIL NIL x)", "Error"),
@@ -151,6 +163,10 @@ static MESSAGES_AND_MULTIPARTS: Rows = &[
     (
         b"(\"Message\" \"rfc822\" NIL NIL NIL \"7BIT\" 9 (\"d\" NIL NIL NIL NIL NIL NIL NIL NIL NIL) (\"A\" \"B\" NIL NIL NIL NIL 1) 2 \"m\" NIL NIL NIL 3)",
         r#"Message { common: BodyContentCommon { ty: ContentType { ty: "MESSAGE", subtype: "RFC822", params: None }, disposition: None, language: None, location: None }, other: BodyContentSinglePart { id: None, md5: Some("m"), description: None, transfer_encoding: SevenBit, octets: 9 }, envelope: Envelope { date: Some([100]), subject: None, from: None, sender: None, reply_to: None, to: None, cc: None, bcc: None, in_reply_to: None, message_id: None }, body: Basic { common: BodyContentCommon { ty: ContentType { ty: "A", subtype: "B", params: None }, disposition: None, language: None, location: None }, other: BodyContentSinglePart { id: None, md5: None, description: None, transfer_encoding: SevenBit, octets: 1 }, extension: None }, lines: 2, extension: Some(Num(3)) }"#,
+    ),
+    (
+        b"(\"MESSAGE\" \"RFC822\" (\"p\" \"q\" ) \"i\" \"d\" \"8bit\" 9 (NIL NIL NIL NIL NIL NIL NIL NIL NIL NIL) (\"A\" \"B\" NIL NIL NIL NIL 1) 2 \"m\" (\"attachment\" (\"f\" \"g\")) (\"en\" \t) \"l\")",
+        r#"Message { common: BodyContentCommon { ty: ContentType { ty: "MESSAGE", subtype: "RFC822", params: Some([("p", "q")]) }, disposition: Some(ContentDisposition { ty: "attachment", params: Some([("f", "g")]) }), language: Some(["en"]), location: Some("l") }, other: BodyContentSinglePart { id: Some("i"), md5: Some("m"), description: Some("d"), transfer_encoding: EightBit, octets: 9 }, envelope: Envelope { date: None, subject: None, from: None, sender: None, reply_to: None, to: None, cc: None, bcc: None, in_reply_to: None, message_id: None }, body: Basic { common: BodyContentCommon { ty: ContentType { ty: "A", subtype: "B", params: None }, disposition: None, language: None, location: None }, other: BodyContentSinglePart { id: None, md5: None, description: None, transfer_encoding: SevenBit, octets: 1 }, extension: None }, lines: 2, extension: None }"#,
     ),
     (
         b"((\"TEXT\" \"PLAIN\" NIL NIL NIL \"7BIT\" 5 1)(\"IMAGE\" \"PNG\" NIL NIL NIL \"BASE64\" 9) \"MIXED\")",

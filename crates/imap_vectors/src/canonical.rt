@@ -1,6 +1,10 @@
 //! The canonical text of responses is read as the lines are that they came from, whatever follows.
 
-ghost use Rattle.std.specs.Prelude.{◌≡◌, codes, true};
+ghost use Rattle.std.specs.Prelude.{◌≡◌, ◌∷◌, [], codes, false, true, None};
+ghost use Rattle.imap_items.specs.Capabilities.{Imap4rev1};
+ghost use Rattle.imap_data.specs.Codes as code;
+ghost use Rattle.imap_data.specs.DatumValues as datum;
+ghost use Rattle.imap_proto.specs.Responses.{Capabilities, Expunge, MailboxData};
 ghost use Rattle.imap_proto.specs.LineTexts.{has_bracket, canonical_bytes};
 ghost use Rattle.imap_vectors.specs.CanonicalRows as value;
 
@@ -104,7 +108,112 @@ pub fn texts_by_definition()
         ≡ codes "* 1 FETCH (BODYSTRUCTURE (\"TEXT\" {5}\r\nplain NIL NIL NIL \"7BIT\" 5 1 NIL ({6}\r\ninline NIL) NIL NIL))\r\n" }
     ensures gone { canonical_bytes value.gone ≡ codes "* VANISHED 4:2\r\n" }
     ensures a_bracket { has_bracket value.a_bracket ≡ true }
+    ensures no_bracket { has_bracket value.a_greeting ≡ false }
     ensures unknown { canonical_bytes value.unknown ≡ codes "* 1 FETCH (X NIL UID 4)\r\n" }
+{}
+
+/// The canonical texts of status lines, and of each response code.
+pub fn texts_of_status_lines()
+    ensures an_answer { canonical_bytes value.an_answer ≡ codes "a1 NO [READ-ONLY] x\r\n" }
+    ensures a_short_answer { canonical_bytes value.a_short_answer ≡ codes "a1 BAD\r\n" }
+    ensures a_greeting { canonical_bytes value.a_greeting ≡ codes "* PREAUTH hi\r\n" }
+    ensures a_farewell { canonical_bytes value.a_farewell ≡ codes "* BYE\r\n" }
+    ensures an_invitation { canonical_bytes value.an_invitation ≡ codes "+ idling\r\n" }
+    ensures a_bare_invitation { canonical_bytes value.a_bare_invitation ≡ codes "+ \r\n" }
+    ensures alert { canonical_bytes (value.with_code code.Alert) ≡ codes "* OK [ALERT]\r\n" }
+    ensures bad_charset { canonical_bytes (value.with_code (code.BadCharset None))
+        ≡ codes "* OK [BADCHARSET]\r\n" }
+    ensures charsets { canonical_bytes (value.with_code value.charsets)
+        ≡ codes "* OK [BADCHARSET ({1}\r\na {1}\r\nb)]\r\n" }
+    ensures capable { canonical_bytes (value.with_code value.capable)
+        ≡ codes "* OK [CAPABILITY IMAP4rev1 AUTH=PLAIN]\r\n" }
+    ensures parse { canonical_bytes (value.with_code code.Parse) ≡ codes "* OK [PARSE]\r\n" }
+    ensures flags_to_change { canonical_bytes (value.with_code value.flags_to_change)
+        ≡ codes "* OK [PERMANENTFLAGS (\\Seen \\*)]\r\n" }
+    ensures read_only { canonical_bytes (value.with_code code.ReadOnly)
+        ≡ codes "* OK [READ-ONLY]\r\n" }
+    ensures read_write { canonical_bytes (value.with_code code.ReadWrite)
+        ≡ codes "* OK [READ-WRITE]\r\n" }
+    ensures try_create { canonical_bytes (value.with_code code.TryCreate)
+        ≡ codes "* OK [TRYCREATE]\r\n" }
+    ensures uid_next { canonical_bytes (value.with_code (code.UidNext 3))
+        ≡ codes "* OK [UIDNEXT 3]\r\n" }
+    ensures uid_validity { canonical_bytes (value.with_code (code.UidValidity 4))
+        ≡ codes "* OK [UIDVALIDITY 4]\r\n" }
+    ensures unseen { canonical_bytes (value.with_code (code.Unseen 5))
+        ≡ codes "* OK [UNSEEN 5]\r\n" }
+    ensures highest_mod_seq { canonical_bytes (value.with_code (code.HighestModSeq 6))
+        ≡ codes "* OK [HIGHESTMODSEQ 6]\r\n" }
+    ensures appended { canonical_bytes (value.with_code value.appended)
+        ≡ codes "* OK [APPENDUID 1 9,3:4]\r\n" }
+    ensures copied { canonical_bytes (value.with_code value.copied)
+        ≡ codes "* OK [COPYUID 1 2 3:4]\r\n" }
+    ensures uid_not_sticky { canonical_bytes (value.with_code code.UidNotSticky)
+        ≡ codes "* OK [UIDNOTSTICKY]\r\n" }
+    ensures long_entries { canonical_bytes (value.with_code (code.MetadataLongEntries 7))
+        ≡ codes "* OK [METADATA LONGENTRIES 7]\r\n" }
+    ensures max_size { canonical_bytes (value.with_code (code.MetadataMaxSize 8))
+        ≡ codes "* OK [METADATA MAXSIZE 8]\r\n" }
+    ensures too_many { canonical_bytes (value.with_code code.MetadataTooMany)
+        ≡ codes "* OK [METADATA TOOMANY]\r\n" }
+    ensures no_private { canonical_bytes (value.with_code code.MetadataNoPrivate)
+        ≡ codes "* OK [METADATA NOPRIVATE]\r\n" }
+{}
+
+/// The canonical texts of what is said of mailboxes.
+pub fn texts_of_mailboxes()
+    ensures exists { canonical_bytes (MailboxData (datum.Exists 18)) ≡ codes "* 18 EXISTS\r\n" }
+    ensures recent { canonical_bytes (MailboxData (datum.Recent 5)) ≡ codes "* 5 RECENT\r\n" }
+    ensures expunge { canonical_bytes (Expunge 4) ≡ codes "* 4 EXPUNGE\r\n" }
+    ensures flags { canonical_bytes value.flags ≡ codes "* FLAGS (\\Answered \\*)\r\n" }
+    ensures a_status { canonical_bytes value.a_status
+        ≡ codes "* STATUS {1}\r\nx (HIGHESTMODSEQ 1 MESSAGES 2 RECENT 3 UIDNEXT 4 UIDVALIDITY 5 UNSEEN 6)\r\n" }
+    ensures search { canonical_bytes (MailboxData (datum.Search (9 ∷ 2 ∷ [])))
+        ≡ codes "* SEARCH 9 2\r\n" }
+    ensures nothing_found { canonical_bytes (MailboxData (datum.Search [])) ≡ codes "* SEARCH\r\n" }
+    ensures sort { canonical_bytes (MailboxData (datum.Sort (6 ∷ 2 ∷ [])))
+        ≡ codes "* SORT 6 2\r\n" }
+    ensures message_identifier { canonical_bytes (MailboxData (datum.GmailMsgId 6))
+        ≡ codes "* X-GM-MSGID 6\r\n" }
+    ensures thread_identifier { canonical_bytes (MailboxData (datum.GmailThrId 7))
+        ≡ codes "* X-GM-THRID 7\r\n" }
+    ensures annotations { canonical_bytes value.annotations
+        ≡ codes "* METADATA \"x\" ({13}\r\n/shared/admin {1}\r\na {15}\r\n/shared/comment NIL)\r\n" }
+    ensures changed_annotations { canonical_bytes value.changed_annotations
+        ≡ codes "* METADATA \"x\" {13}\r\n/shared/admin {15}\r\n/shared/comment\r\n" }
+{}
+
+/// The canonical texts of lines of extensions.
+pub fn texts_of_extensions()
+    ensures capable { canonical_bytes (Capabilities (Imap4rev1 ∷ []))
+        ≡ codes "* CAPABILITY IMAP4rev1\r\n" }
+    ensures none_enabled { canonical_bytes (Capabilities []) ≡ codes "* ENABLED\r\n" }
+    ensures gone_earlier { canonical_bytes value.gone_earlier
+        ≡ codes "* VANISHED (EARLIER) 41:41,43:116\r\n" }
+    ensures a_quota_root { canonical_bytes value.a_quota_root
+        ≡ codes "* QUOTAROOT {1}\r\nx {0}\r\n {4}\r\nuser\r\n" }
+    ensures a_list_of_rights { canonical_bytes value.a_list_of_rights
+        ≡ codes "* ACL {5}\r\nINBOX {4}\r\nFred {2}\r\nlz {1}\r\nb {1}\r\nr\r\n" }
+    ensures possible_rights { canonical_bytes value.possible_rights
+        ≡ codes "* LISTRIGHTS {5}\r\nINBOX {5}\r\nsmith {2}\r\nla {3}\r\nrsw\r\n" }
+    ensures no_further_rights { canonical_bytes value.no_further_rights
+        ≡ codes "* LISTRIGHTS {5}\r\nINBOX {5}\r\nsmith {2}\r\nla\r\n" }
+    ensures own_rights { canonical_bytes value.own_rights
+        ≡ codes "* MYRIGHTS {1}\r\nx {2}\r\nwl\r\n" }
+{}
+
+/// The canonical texts of attributes and bodies.
+pub fn texts_of_attributes()
+    ensures numbers { canonical_bytes value.numbers
+        ≡ codes "* 1 FETCH (FLAGS (\\Seen a) MODSEQ (5) RFC822.SIZE 7 X-GM-MSGID 8 X-GM-THRID 9)\r\n" }
+    ensures texts { canonical_bytes value.texts
+        ≡ codes "* 1 FETCH (INTERNALDATE {1}\r\nd RFC822 {1}\r\na RFC822.HEADER NIL RFC822.TEXT {1}\r\nb EMAILID (M1) THREADID (T6) THREADID NIL)\r\n" }
+    ensures a_section { canonical_bytes value.a_section
+        ≡ codes "* 1 FETCH (BODY[1.2.MIME]<0> {1}\r\na BODY[] NIL)\r\n" }
+    ensures a_message { canonical_bytes value.a_message
+        ≡ codes "* 1 FETCH (BODYSTRUCTURE (\"MESSAGE\" \"RFC822\" ({1}\r\np {1}\r\nq) {1}\r\ni {1}\r\nd \"8BIT\" 9 (NIL NIL NIL NIL NIL NIL NIL NIL NIL NIL) (\"TEXT\" {5}\r\nplain NIL NIL NIL \"7BIT\" 5 1 NIL ({6}\r\ninline NIL) NIL NIL) 2 {1}\r\nm ({10}\r\nattachment ({1}\r\nf {1}\r\ng)) ({2}\r\nen {2}\r\nde) {1}\r\nl 3))\r\n" }
+    ensures a_multipart { canonical_bytes value.a_multipart
+        ≡ codes "* 1 FETCH (BODYSTRUCTURE ((\"TEXT\" {5}\r\nplain NIL NIL NIL \"7BIT\" 5 1 NIL ({6}\r\ninline NIL) NIL NIL)({4}\r\nTEXT {5}\r\nPLAIN NIL NIL NIL {4}\r\n7BIT 5 NIL NIL NIL NIL) {5}\r\nMIXED ({1}\r\np {1}\r\nq) ({10}\r\nattachment ({1}\r\nf {1}\r\ng)) ({2}\r\nen {2}\r\nde) {1}\r\nl (NIL {1}\r\ne)))\r\n" }
 {}
 
 // Information that begins with `[`, as a code does: no canonical text is promised.
@@ -127,6 +236,10 @@ fn reads_back(alloc: Global, row: &Row) -> Result<bool, AllocError> {
 fn canonical_texts(rt: HostRuntime) {
     let alloc = rt.alloc();
     texts_by_definition();
+    texts_of_status_lines();
+    texts_of_mailboxes();
+    texts_of_extensions();
+    texts_of_attributes();
     for row in ROWS {
         assert!(rt; matches!(reads_back(alloc, row), Ok(true)), "{}", row.says);
     }

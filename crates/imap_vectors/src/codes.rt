@@ -71,6 +71,30 @@ static WITH_NUMBERS: Rows = &[
         b"+ [METADATA MAXSIZE 1024]\r\n",
         "Continue(Outcome { code: Some(MetadataMaxSize(1024)), information: None })",
     ),
+    (
+        b"+ [metadata maxsize 18446744073709551615]\r\n",
+        "Continue(Outcome { code: Some(MetadataMaxSize(18446744073709551615)), information: None })",
+    ),
+    (
+        b"+ [metadata longentries 2]\r\n",
+        "Continue(Outcome { code: Some(MetadataLongEntries(2)), information: None })",
+    ),
+    (
+        b"+ [uidnext 0]\r\n",
+        "Continue(Outcome { code: Some(UidNext(0)), information: None })",
+    ),
+    (
+        b"+ [uidvalidity 0]\r\n",
+        "Continue(Outcome { code: Some(UidValidity(0)), information: None })",
+    ),
+    (
+        b"+ [unseen 0]\r\n",
+        "Continue(Outcome { code: Some(Unseen(0)), information: None })",
+    ),
+    (
+        b"+ [highestmodseq 6]\r\n",
+        "Continue(Outcome { code: Some(HighestModSeq(6)), information: None })",
+    ),
 ];
 
 static WITH_LISTS: Rows = &[
@@ -93,6 +117,26 @@ static WITH_LISTS: Rows = &[
     (
         b"* OK [APPENDUID 38505 4:2]\r\n",
         "Data { status: Ok, outcome: Outcome { code: Some(AppendUid(38505, [UidRange(2..=4)])), information: None } }",
+    ),
+    (
+        b"+ [badcharset (b a)]\r\n",
+        r#"Continue(Outcome { code: Some(BadCharset(Some(["b", "a"]))), information: None })"#,
+    ),
+    (
+        b"+ [capability imap4REV1 auth=x]\r\n",
+        r#"Continue(Outcome { code: Some(Capabilities([Imap4rev1, Auth("x")])), information: None })"#,
+    ),
+    (
+        b"+ [permanentflags (b \\a)]\r\n",
+        r#"Continue(Outcome { code: Some(PermanentFlags(["b", "\\a"])), information: None })"#,
+    ),
+    (
+        b"+ [appenduid 1 9,7]\r\n",
+        "Continue(Outcome { code: Some(AppendUid(1, [Uid(9), Uid(7)])), information: None })",
+    ),
+    (
+        b"+ [copyuid 0 0:0 0,4:3]\r\n",
+        "Continue(Outcome { code: Some(CopyUid(0, [UidRange(0..=0)], [Uid(0), UidRange(3..=4)])), information: None })",
     ),
     (
         b"* OK [COPYUID 9 1:2,5 7] d\r\n",
@@ -122,9 +166,17 @@ static CAPABILITIES: Rows = &[
         b"* CAPABILITY IMAP4rev1 AUTH=PLAIN X\r\n",
         r#"Capabilities([Imap4rev1, Auth("PLAIN"), Atom("X")])"#,
     ),
+    (
+        b"* capability auth=PLAIN AUTH= X imap4REV1 imap4REV1\r\n",
+        r#"Capabilities([Auth("PLAIN"), Atom("AUTH="), Atom("X"), Imap4rev1, Imap4rev1])"#,
+    ),
     (b"* CAPABILITY IMAP4rev2\r\n", "Error"),
     (b"* CAPABILITY IMAP4rev12\r\n", "Error"),
     (b"* ENABLED\r\n", "Capabilities([])"),
+    (
+        b"* enabled b a\r\n",
+        r#"Capabilities([Atom("b"), Atom("a")])"#,
+    ),
     (
         b"* ENABLED IMAP4rev1\r\n",
         r#"Capabilities([Atom("IMAP4rev1")])"#,

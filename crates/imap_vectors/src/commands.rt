@@ -104,6 +104,13 @@ fn mailboxes(rt: HostRuntime) {
     assert!(rt; is(selected(alloc, "\\é"), r#"SELECT "\\é""#, found));
     assert!(rt; is(examined(alloc, ""), r#"EXAMINE """#, found));
     assert!(rt; is(CommandBuilder::list(alloc, "", "*"), r#"LIST "" "*""#, None));
+    assert!(rt;
+        is(
+            CommandBuilder::list(alloc, "%", "a%"),
+            r#"LIST "%" "a%""#,
+            None
+        )
+    );
     assert!(rt; is(CommandBuilder::check(alloc), "CHECK", None));
 }
 

@@ -12,6 +12,10 @@ static VANISHED: Rows = &[
         b"* VANISHED (EARLIER) 41,43:116\r\n",
         "Vanished { earlier: true, uids: [41..=41, 43..=116] }",
     ),
+    (
+        b"* vanished\t (earlier) \t9,0,7\r\n",
+        "Vanished { earlier: true, uids: [9..=9, 0..=0, 7..=7] }",
+    ),
     (b"* VANISHED", "Incomplete(Unknown)"),
     (b"* VANISHED (EARLY) 1\r\n", "Error"),
 ];
@@ -30,6 +34,10 @@ static QUOTAS: Rows = &[
         r#"Quota(Quota { root_name: "a", resources: [QuotaResource { name: Message, usage: 3, limit: 4 }] })"#,
     ),
     (
+        b"* quota \tA\t (storage\t 18446744073709551615 \t4294967296\t x 0 0 \tmessage 3 4)\r\n",
+        r#"Quota(Quota { root_name: "A", resources: [QuotaResource { name: Storage, usage: 18446744073709551615, limit: 4294967296 }, QuotaResource { name: Atom("x"), usage: 0, limit: 0 }, QuotaResource { name: Message, usage: 3, limit: 4 }] })"#,
+    ),
+    (
         b"* QUOTA \"\" ()\r\n",
         r#"Quota(Quota { root_name: "", resources: [] })"#,
     ),
@@ -46,12 +54,20 @@ static QUOTAS: Rows = &[
         b"* QUOTAROOT INBOX \"\" user\r\n",
         r#"QuotaRoot(QuotaRoot { mailbox_name: "INBOX", quota_root_names: ["", "user"] })"#,
     ),
+    (
+        b"* quotaroot\t inbox \tb\t a c\r\n",
+        r#"QuotaRoot(QuotaRoot { mailbox_name: "inbox", quota_root_names: ["b", "a", "c"] })"#,
+    ),
 ];
 
 static IDENTITIES: Rows = &[
     (
         b"* ID (\"a\" \"1\" \"b\" NIL \"a\" \"2\")\r\n",
         r#"Id(Some({"a": "2"}))"#,
+    ),
+    (
+        b"* ID \t(\"A\"\t \"1\" \t\"A\"\t\tNIL\t \t)\r\n",
+        r#"Id(Some({"A": "1"}))"#,
     ),
     (b"* ID (\"a\" NIL)\r\n", "Id(Some({}))"),
     (b"* ID NIL\r\n", "Id(None)"),
@@ -81,6 +97,27 @@ static RIGHTS: Rows = &[
         b"* MYRIGHTS x lrswipkxteancd\r\n",
         r#"MyRights(MyRights { mailbox: "x", rights: [Lookup, Read, Seen, Write, Insert, Post, CreateMailbox, DeleteMailbox, DeleteMessage, Expunge, Administer, Annotation, OldCreate, OldDelete] })"#,
     ),
+    (
+        b"* acl \tinbox\t b \twr a\tl\r\n",
+        r#"Acl(Acl { mailbox: "INBOX", acls: [AclEntry { identifier: "b", rights: [Write, Read] }, AclEntry { identifier: "a", rights: [Lookup] }] })"#,
+    ),
+    (
+        b"* listrights\t inbox \tb\t wl \tr\t as\r\n",
+        r#"ListRights(ListRights { mailbox: "INBOX", identifier: "b", required: [Write, Lookup], optional: [Read, Administer, Seen] })"#,
+    ),
+    (
+        b"* myrights \tinbox\t wl\r\n",
+        r#"MyRights(MyRights { mailbox: "INBOX", rights: [Write, Lookup] })"#,
+    ),
+    (
+        b"* listrights\t x \tsmith\t \"l\"\"r\"\t s\r\n",
+        r#"ListRights(ListRights { mailbox: "x", identifier: "smith", required: [Lookup], optional: [Read, Seen] })"#,
+    ),
+    (
+        b"* ACL\t \"x\"fred \tl\t y\t\tr\r\n",
+        r#"Acl(Acl { mailbox: "x", acls: [AclEntry { identifier: "fred", rights: [Lookup] }, AclEntry { identifier: "y", rights: [Read] }] })"#,
+    ),
+    (b"* ACL x \t\r\n", r#"Acl(Acl { mailbox: "x", acls: [] })"#),
     (b"* ACL", "Incomplete(Unknown)"),
     (b"* MYRIGHTS", "Incomplete(Unknown)"),
     (b"* MYRIGHTS x", "Incomplete(Unknown)"),

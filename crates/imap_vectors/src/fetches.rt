@@ -68,6 +68,10 @@ static TEXTS_AND_BYTES: Rows = &[
         "Fetch(1, [Rfc822(Some([97, 41, 255])), Rfc822Text(Some([92, 92]))])",
     ),
     (
+        b"* 0 FETCH (envelope (NIL NIL NIL NIL NIL NIL NIL NIL NIL NIL) internaldate \"\" modseq (0) rfc822.header NIL rfc822.size 0 uid 0 emailid (a]+) threadid (T) body[header]<0> NIL)\r\n",
+        r#"Fetch(0, [Envelope(Envelope { date: None, subject: None, from: None, sender: None, reply_to: None, to: None, cc: None, bcc: None, in_reply_to: None, message_id: None }), InternalDate(""), ModSeq(0), Rfc822Header(None), Rfc822Size(0), Uid(0), EmailId("a]+"), ThreadId(Some("T")), BodySection { section: Some(Full(Header)), index: Some(0), contents: None }])"#,
+    ),
+    (
         b"* 1 FETCH (RFC822X 1 RFC822.SIZES 2)\r\n",
         "Fetch(1, [Unknown, Unknown])",
     ),
@@ -123,6 +127,10 @@ static UNKNOWN: Rows = &[
         "Fetch(1, [Unknown, Uid(4)])",
     ),
     (b"* 1 FETCH (X a\r\nb)\r\n", "Fetch(1, [Unknown])"),
+    (
+        b"* 1 FETCH (X () Y (\0\t) Z a\0\t(\"{\x80)\r\n",
+        "Fetch(1, [Unknown, Unknown, Unknown])",
+    ),
     (b"* 1 FETCH (SAVEDATE NIL)\r\n", "Fetch(1, [Unknown])"),
     (b"* 1 FETCH (X \"a) b\" Y {3}\r\n) )Z z UID 4)\r\n", "Error"),
     (

@@ -6,6 +6,9 @@ use std::test::*;
 static NUMBERS: Rows = &[
     (b"* 18 EXISTS\r\nxy", r#"MailboxData(Exists(18)) then "xy""#),
     (b"* 5 recent\r\n", "MailboxData(Recent(5))"),
+    (b"* 18 exists  \r\n", "MailboxData(Exists(18))"),
+    (b"* 4 expunge  \r\n", "Expunge(4)"),
+    (b"* 4 EXPUNGE \t\r\n", "Error"),
     (b"* 4 EXPUNGE\r\n", "Expunge(4)"),
     (b"* 0 EXPUNGE\r\n", "Expunge(0)"),
     (
@@ -14,8 +17,10 @@ static NUMBERS: Rows = &[
     ),
     (b"* SEARCH 4294967296\r\n", "Error"),
     (b"* SEARCH \r\n", "MailboxData(Search([]))"),
+    (b"* search 9 0 5\r\n", "MailboxData(Search([9, 0, 5]))"),
     (b"* SEARCH 2 (MODSEQ 5)\r\n", "Error"),
     (b"* SORT 2 3 6\r\n", "MailboxData(Sort([2, 3, 6]))"),
+    (b"* sort 6 2 3\r\n", "MailboxData(Sort([6, 2, 3]))"),
     (b"* ESEARCH (TAG \"A1\") UID ALL 1:3\r\n", "Error"),
 ];
 
@@ -32,6 +37,15 @@ static NAMES: Rows = &[
         b"* LSUB (\\Noinferiors \\MARKED \\unmarked \\All \\Archive \\Drafts \\Flagged \\Junk \\Trash) NIL x\r\n",
         r#"MailboxData(List(MailboxListData { name_attributes: [NoInferiors, Marked, Unmarked, All, Archive, Drafts, Flagged, Junk, Trash], delimiter: None, name: "x" }))"#,
     ),
+    (
+        b"* list (\\TRASH \\sent \\JUNK \\flagged \\DRAFTS \\archive \\ALL \\noSelect \\noInferiors) nil \"Inbox\"\r\n",
+        r#"MailboxData(List(MailboxListData { name_attributes: [Trash, Sent, Junk, Flagged, Drafts, Archive, All, NoSelect, NoInferiors], delimiter: None, name: "INBOX" }))"#,
+    ),
+    (
+        b"* list (\\NOINFERIORS \\NOSELECT \\ALL \\ARCHIVE \\DRAFTS \\FLAGGED \\JUNK \\SENT \\TRASH \\ ) NIL x\r\n",
+        r#"MailboxData(List(MailboxListData { name_attributes: [NoInferiors, NoSelect, All, Archive, Drafts, Flagged, Junk, Sent, Trash, Extension("\\")], delimiter: None, name: "x" }))"#,
+    ),
+    (b"* LIST (|Sent) \"/\" x\r\n", "Error"),
     (b"* LIST (\\All2) \"/\" x\r\n", "Error"),
     (
         b"* LIST () \"/\" x (\"CHILDINFO\" (\"SUBSCRIBED\"))\r\n",
@@ -47,6 +61,14 @@ static STATES: Rows = &[
     (
         b"* STATUS x (HIGHESTMODSEQ 18446744073709551615 MESSAGES 1 recent 2 UIDNEXT 3 UIDVALIDITY 4 UNSEEN 5)\r\n",
         r#"MailboxData(Status { mailbox: "x", status: [HighestModSeq(18446744073709551615), Messages(1), Recent(2), UidNext(3), UidValidity(4), Unseen(5)] })"#,
+    ),
+    (
+        b"* status inbox (unseen 5 uidvalidity 4 uidnext 3 messages 1 highestmodseq 2)\r\n",
+        r#"MailboxData(Status { mailbox: "INBOX", status: [Unseen(5), UidValidity(4), UidNext(3), Messages(1), HighestModSeq(2)] })"#,
+    ),
+    (
+        b"* status a+b (highestmodseq 0 messages 0 recent 0 uidnext 0 uidvalidity 0 unseen 0 )\r\n",
+        r#"MailboxData(Status { mailbox: "a+b", status: [HighestModSeq(0), Messages(0), Recent(0), UidNext(0), UidValidity(0), Unseen(0)] })"#,
     ),
     (b"* STATUS x (UNSEEN 1 SIZE 5)\r\n", "Error"),
     (b"* STATUS x (MAILBOXID (F1))\r\n", "Error"),
@@ -65,6 +87,7 @@ static FLAGS: Rows = &[
         b"* FLAGS (\\Answered $Forwarded )\r\n",
         r#"MailboxData(Flags(["\\Answered", "$Forwarded"]))"#,
     ),
+    (b"* flags ()\r\n", "MailboxData(Flags([]))"),
     (b"* FLAGS (\xff)\r\n", "Error"),
     (
         b"* X-GM-LABELS (\\Inbox \"\\\\\" \"a b\")\r\n",
@@ -74,7 +97,13 @@ static FLAGS: Rows = &[
         b"* X-GM-MSGID 1278455344230334865\r\n",
         "MailboxData(GmailMsgId(1278455344230334865))",
     ),
+    (b"* x-gm-labels ( )\r\n", "MailboxData(GmailLabels([]))"),
+    (b"* x-gm-msgid 6\r\n", "MailboxData(GmailMsgId(6))"),
     (b"* x-gm-thrid 7\r\n", "MailboxData(GmailThrId(7))"),
+    (
+        b"* X-GM-THRID 1266894439832287888\r\n",
+        "MailboxData(GmailThrId(1266894439832287888))",
+    ),
 ];
 
 static ANNOTATIONS: Rows = &[
@@ -94,6 +123,33 @@ static ANNOTATIONS: Rows = &[
         b"* METADATA \"x\" /shared/comment /private/vendor/v/a\r\n",
         r#"MailboxData(MetadataUnsolicited { mailbox: "x", values: ["/shared/comment", "/private/vendor/v/a"] })"#,
     ),
+    (
+        b"* metadata \"inbox\" /shared/vendor/cmu/cyrus-imapd.2/A_b /shared/admin /private/comment/1\r\n",
+        r#"MailboxData(MetadataUnsolicited { mailbox: "inbox", values: ["/shared/vendor/cmu/cyrus-imapd.2/A_b", "/shared/admin", "/private/comment/1"] })"#,
+    ),
+    (
+        b"* metadata \"x\" /shared/vendor/a /private/comment//b/\r\n",
+        r#"MailboxData(MetadataUnsolicited { mailbox: "x", values: ["/shared/vendor/a", "/private/comment//b/"] })"#,
+    ),
+    (
+        b"* METADATA \"x\" ({22}\r\n/private/comment/\x1a\x1f \"\x7f NIL)\r\n",
+        r#"MailboxData(MetadataSolicited { mailbox: "x", values: [Metadata { entry: "/private/comment/\u{1a}\u{1f} \"\u{7f}", value: None }] })"#,
+    ),
+    (
+        b"* METADATA \"x\" ({18}\r\n/private/comment\r% NIL {20}\r\n/private/comment/a\r% NIL\t )\r\n",
+        r#"MailboxData(MetadataSolicited { mailbox: "x", values: [Metadata { entry: "/private/comment\r%", value: None }, Metadata { entry: "/private/comment/a\r%", value: None }] })"#,
+    ),
+    (b"* METADATA x /shared/comment\r\n", "Error"),
+    (
+        b"* METADATA \"x\" (\"/private/comment/a *\" NIL)\r\n",
+        "Error",
+    ),
+    (b"* METADATA \"x\" (/private/comment/\x80 NIL)\r\n", "Error"),
+    (
+        b"* METADATA \"x\" ({18}\r\n/private/comment/\x19 NIL)\r\n",
+        "Error",
+    ),
+    (b"* METADATA \"x\" (\"/shared/vendor/a%\" NIL)\r\n", "Error"),
     (b"* METADATA \"x\" (/private/vendor NIL)\r\n", "Error"),
     (b"* METADATA \"x\" (/private/vendor/ NIL)\r\n", "Error"),
     (
@@ -102,6 +158,10 @@ static ANNOTATIONS: Rows = &[
     ),
     (
         b"* METADATA \"x\" (\"/private/comment/%\" NIL)\r\n",
+        "Error",
+    ),
+    (
+        b"* METADATA \"x\" (\"/shared/comment/a*b\" NIL)\r\n",
         "Error",
     ),
     (b"* METADATA \"x\" (/private/admin NIL)\r\n", "Error"),

@@ -62,6 +62,14 @@ const NESTED: &[u8] =
 const BETWEEN: &[u8] =
     b"((\"A\" \"B\" NIL NIL NIL NIL 1)((\"A\" \"B\" NIL NIL NIL NIL 2)(\"A\" \"B\" NIL NIL NIL NIL 3) \"M\")(\"A\" \"B\" NIL NIL NIL NIL 4) \"M\")";
 
+// Three parts inside the second of two, which is in the first of one.
+const DEEP: &[u8] =
+    b"(((\"A\" \"B\" NIL NIL NIL NIL 1)((\"A\" \"B\" NIL NIL NIL NIL 2)(\"A\" \"B\" NIL NIL NIL NIL 3)(\"A\" \"B\" NIL NIL NIL NIL 4) \"M\") \"M\") \"M\")";
+
+// A part two multiparts deep, and one beside these.
+const BESIDE: &[u8] =
+    b"((((\"A\" \"B\" NIL NIL NIL NIL 1) \"M\") \"M\")(\"A\" \"B\" NIL NIL NIL NIL 2) \"M\")";
+
 const MIXED: &[u8] =
     b"((\"TEXT\" \"PLAIN\" NIL NIL NIL \"7BIT\" 5 1)(\"IMAGE\" \"PNG\" NIL NIL NIL \"BASE64\" 9) \"MIXED\")";
 
@@ -79,6 +87,9 @@ static SEARCHES: &[(&[u8], Sought, &str)] = &[
     (NESTED, Sought::Any, "Some([])"),
     (BETWEEN, Sought::Octets(2), "Some([2, 1])"),
     (BETWEEN, Sought::Octets(4), "Some([3])"),
+    (DEEP, Sought::Octets(1), "Some([1, 1])"),
+    (DEEP, Sought::Octets(4), "Some([1, 2, 3])"),
+    (BESIDE, Sought::Basic, "Some([1, 1, 1])"),
     (MIXED, Sought::Text, "Some([1])"),
     (MIXED, Sought::Basic, "Some([2])"),
     (MESSAGE, Sought::Text, "None"),

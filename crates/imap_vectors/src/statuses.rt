@@ -16,6 +16,11 @@ static TAGGED: Rows = &[
         b"a]1 bad \r\nxy",
         r#"Done { tag: RequestId("a]1"), status: Bad, outcome: Outcome { code: None, information: None } } then "xy""#,
     ),
+    (
+        b"a1 no\r\n",
+        r#"Done { tag: RequestId("a1"), status: No, outcome: Outcome { code: None, information: None } }"#,
+    ),
+    (b"a+1 OK\r\n", "Error"),
     (b"a1 XX", "Error"),
     (b"\xff OK\r\n", "Error"),
     (b"a1 OK", "Incomplete(Unknown)"),
@@ -47,6 +52,14 @@ static UNTAGGED: Rows = &[
     ),
     (
         b"* BYE \r\n",
+        "Data { status: Bye, outcome: Outcome { code: None, information: None } }",
+    ),
+    (
+        b"* ok\r\n",
+        "Data { status: Ok, outcome: Outcome { code: None, information: None } }",
+    ),
+    (
+        b"* bye\r\n",
         "Data { status: Bye, outcome: Outcome { code: None, information: None } }",
     ),
     (

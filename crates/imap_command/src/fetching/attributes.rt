@@ -1,13 +1,12 @@
 //! A FETCH that has been told attributes.
 
 ghost use Rattle.std.specs.Prelude.{◌≡◌, ◌++◌, codes, IfOk};
-ghost use Rattle.imap_command.specs.Calls.{attributes, Adds, Finishes};
+ghost use Rattle.imap_command.specs.Calls.{attributes, modifiers, Adds, Finishes};
 ghost use Rattle.imap_command.specs.Calls as call;
 
 use super::FetchCommand;
 use crate::fetch::{Attributes, Modifiers};
 use crate::numbers::push_changed_since;
-use crate::words::attribute_text;
 use crate::{Attribute, Command};
 use std::alloc::AllocError;
 
@@ -24,18 +23,18 @@ impl FetchCommand<Attributes> {
     /// Asks for one more attribute (RFC 3501, section 6.4.5). It takes memory; `Err`: memory ran
     /// out.
     pub fn attr(self, attribute: Attribute) -> Result<FetchCommand<Attributes>, AllocError>
-        ensures { IfOk result (Adds attributes (call.attr attribute) self) }
+        ensures { IfOk result (Adds attributes (call.attr attribute) attributes self) }
     {
         let mut args = self.args;
         args.push(b' ')?;
-        args.extend_from_slice(attribute_text(attribute))?;
+        args.extend_from_slice(attribute.word())?;
         Ok(FetchCommand::with_text(args))
     }
 
     /// Asks only for messages that changed after this mod-sequence (RFC 4551, section 3.3.1). It
     /// takes memory; `Err`: memory ran out.
     pub fn changed_since(self, mod_seq: u64) -> Result<FetchCommand<Modifiers>, AllocError>
-        ensures { IfOk result (Adds attributes (call.changed_since mod_seq) self) }
+        ensures { IfOk result (Adds attributes (call.changed_since mod_seq) modifiers self) }
     {
         let mut args = self.closed()?;
         push_changed_since(&mut args, mod_seq)?;

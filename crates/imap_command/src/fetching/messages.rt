@@ -2,13 +2,12 @@
 
 ghost use Rattle.std.specs.Prelude.{◌≡◌, ◌++◌, codes, IfOk};
 ghost use Rattle.std.specs.Range.{range_inclusive_start, range_inclusive_end};
-ghost use Rattle.imap_command.specs.Calls.{messages, Adds};
+ghost use Rattle.imap_command.specs.Calls.{messages, attributes, modifiers, Adds};
 ghost use Rattle.imap_command.specs.Calls as call;
 
 use super::FetchCommand;
 use crate::fetch::{Attributes, Messages, Modifiers};
 use crate::numbers::{push_number, push_open_range, push_range};
-use crate::words::{attribute_text, macro_text};
 use crate::{AttrMacro, Attribute};
 use std::alloc::AllocError;
 use std::ops::{RangeFrom, RangeInclusive};
@@ -24,9 +23,9 @@ impl FetchCommand<Messages> {
     }
 
     /// Asks for one more message, by its number or, behind `uid_fetch`, by its UID (RFC 3501, sections
-    /// 6.4.5 and 6.4.8). It takes memory; `Err`: memory ran out.
+    /// 6.4.5 and 6.4.8). 0 is not refused, though no message has it. It takes memory; `Err`: memory ran out.
     pub fn num(self, number: u32) -> Result<FetchCommand<Messages>, AllocError>
-        ensures { IfOk result (Adds messages (call.num number) self) }
+        ensures { IfOk result (Adds messages (call.num number) messages self) }
     {
         let mut args = self.continued()?;
         push_number(&mut args, u64::from(number))?;
@@ -34,11 +33,12 @@ impl FetchCommand<Messages> {
     }
 
     /// Asks for one more range of messages, of numbers or, behind `uid_fetch`, of UIDs (RFC 3501,
-    /// sections 6.4.5 and 6.4.8). It takes memory; `Err`: memory ran out.
+    /// sections 6.4.5 and 6.4.8). 0 is not refused, and the ends stay in their order: `10..=1` asks for the
+    /// same messages as `1..=10` (section 9: seq-range). It takes memory; `Err`: memory ran out.
     pub fn range(self, range: RangeInclusive<u32>) -> Result<FetchCommand<Messages>, AllocError>
         ensures { IfOk result
             (Adds messages (call.range (range_inclusive_start range) (range_inclusive_end range))
-            self) }
+            messages self) }
     {
         let mut args = self.continued()?;
         push_range(&mut args, range)?;
@@ -46,9 +46,10 @@ impl FetchCommand<Messages> {
     }
 
     /// Asks also for the messages from a number on, behind `uid_fetch` from a UID on (RFC 3501, sections
-    /// 6.4.5 and 6.4.8). It takes memory; `Err`: memory ran out.
+    /// 6.4.5 and 6.4.8). 0 is not refused. `n:*` always includes the last message, even where that is below n
+    /// (section 9: seq-range). It takes memory; `Err`: memory ran out.
     pub fn range_from(self, range: RangeFrom<u32>) -> Result<FetchCommand<Messages>, AllocError>
-        ensures { IfOk result (Adds messages (call.range_from range.start) self) }
+        ensures { IfOk result (Adds messages (call.range_from range.start) messages self) }
     {
         let mut args = self.continued()?;
         push_open_range(&mut args, range.start)?;
@@ -58,22 +59,22 @@ impl FetchCommand<Messages> {
     /// Asks for a group of attributes of the messages (RFC 3501, section 6.4.5). It takes memory;
     /// `Err`: memory ran out.
     pub fn attr_macro(self, group: AttrMacro) -> Result<FetchCommand<Modifiers>, AllocError>
-        ensures { IfOk result (Adds messages (call.attr_macro group) self) }
+        ensures { IfOk result (Adds messages (call.attr_macro group) modifiers self) }
     {
         let mut args = self.args;
         args.push(b' ')?;
-        args.extend_from_slice(macro_text(group))?;
+        args.extend_from_slice(group.word())?;
         Ok(FetchCommand::with_text(args))
     }
 
     /// Asks for an attribute of the messages (RFC 3501, section 6.4.5). It takes memory;
     /// `Err`: memory ran out.
     pub fn attr(self, attribute: Attribute) -> Result<FetchCommand<Attributes>, AllocError>
-        ensures { IfOk result (Adds messages (call.attr attribute) self) }
+        ensures { IfOk result (Adds messages (call.attr attribute) attributes self) }
     {
         let mut args = self.args;
         args.extend_from_slice(b" (")?;
-        args.extend_from_slice(attribute_text(attribute))?;
+        args.extend_from_slice(attribute.word())?;
         Ok(FetchCommand::with_text(args))
     }
 }

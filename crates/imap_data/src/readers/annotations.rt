@@ -12,8 +12,8 @@ use std::alloc::Global;
 
 /// Annotations with their values, at least one: METADATA as a response to GETMETADATA (RFC 5464, section 4.4.1).
 ///
-/// Any other word, a mailbox without quotes, or no space behind it, is `Error`. Which names an entry may have is said at
-/// `imap_extensions::readers::annotations::annotations`; any other is `Error`, too. It takes memory only behind
+/// Any other word, a mailbox without quotes, or no space behind it, is `Error`. Which names an entry may have is said
+/// at `imap_extensions::readers::annotations::annotations`; any other is `Error`, too. It takes memory only behind
 /// `METADATA`, for the list, for each entry and value, and for a mailbox that is not UTF-8.
 #[tactic(auto, using(imap_grammar::proofs::Agreement::answered), unfolding(crate::specs::Annotations::metadata_solicited))]
 pub fn metadata_solicited(alloc: Global, i: &[u8]) -> IResult<&[u8], MailboxDatum<'_>>

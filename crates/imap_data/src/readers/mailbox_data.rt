@@ -4,6 +4,7 @@ ghost use Rattle.std.specs.Prelude.{◌⊎◌};
 ghost use Rattle.imap_grammar.specs.Answer.{Answers, Steps, StepsExactly};
 ghost use Rattle.imap_grammar.specs.Memory.{BeginsWord, FailsOnlyIf, SucceedsFor};
 ghost use Rattle.imap_data.specs.MailboxData as rules;
+ghost use Rattle.imap_data.specs.MailboxData.{BeginsListDatum};
 ghost use Rattle.imap_data.specs.DatumValues.{datum_value, IsNumber};
 
 use super::counts::{found_numbers, status_items};
@@ -19,7 +20,8 @@ use std::alloc::Global;
 #[tactic(auto, unfolding(crate::specs::MailboxData::flags))]
 #[inline(always)]
 fn flags(alloc: Global, i: &[u8]) -> IResult<&[u8], MailboxDatum<'_>>
-    ensures { Steps rules.flags datum_value i.now result }
+    ensures steps { Steps rules.flags datum_value i.now result }
+    ensures memory { FailsOnlyIf (BeginsWord "FLAGS " i.now) result }
 {
     worded!(i: b"FLAGS ", flag_list(alloc) => MailboxDatum::Flags)
 }
@@ -45,7 +47,8 @@ fn lsub(alloc: Global, i: &[u8]) -> IResult<&[u8], MailboxDatum<'_>>
 #[tactic(auto, unfolding(crate::specs::MailboxData::status))]
 #[inline(always)]
 fn status(alloc: Global, i: &[u8]) -> IResult<&[u8], MailboxDatum<'_>>
-    ensures { Steps rules.status datum_value i.now result }
+    ensures steps { Steps rules.status datum_value i.now result }
+    ensures memory { FailsOnlyIf (BeginsWord "STATUS " i.now) result }
 {
     let (rest, _) = word(b"STATUS ", i)?;
     let (rest, mailbox) = mailbox(alloc, rest)?;
@@ -57,7 +60,8 @@ fn status(alloc: Global, i: &[u8]) -> IResult<&[u8], MailboxDatum<'_>>
 #[tactic(auto, unfolding(crate::specs::MailboxData::search))]
 #[inline(always)]
 fn search(alloc: Global, i: &[u8]) -> IResult<&[u8], MailboxDatum<'_>>
-    ensures { Steps rules.search datum_value i.now result }
+    ensures steps { Steps rules.search datum_value i.now result }
+    ensures memory { FailsOnlyIf (BeginsWord "SEARCH" i.now) result }
 {
     worded!(i: b"SEARCH", found_numbers(alloc) => MailboxDatum::Search)
 }
@@ -93,7 +97,8 @@ fn thrid(i: &[u8]) -> IResult<&[u8], MailboxDatum<'_>>
 #[tactic(auto, unfolding(crate::specs::MailboxData::sort))]
 #[inline(always)]
 fn sort(alloc: Global, i: &[u8]) -> IResult<&[u8], MailboxDatum<'_>>
-    ensures { Steps rules.sort datum_value i.now result }
+    ensures steps { Steps rules.sort datum_value i.now result }
+    ensures memory { FailsOnlyIf (BeginsWord "SORT" i.now) result }
 {
     worded!(i: b"SORT", found_numbers(alloc) => MailboxDatum::Sort)
 }
@@ -128,7 +133,9 @@ pub fn list_or_lsub(alloc: Global, i: &[u8]) -> IResult<&[u8], MailboxDatum<'_>>
 #[tactic(auto, unfolding(crate::specs::MailboxData::datum_of_s))]
 #[inline(always)]
 fn datum_of_s(alloc: Global, i: &[u8]) -> IResult<&[u8], MailboxDatum<'_>>
-    ensures { Steps rules.datum_of_s datum_value i.now result }
+    ensures steps { Steps rules.datum_of_s datum_value i.now result }
+    ensures memory { FailsOnlyIf (BeginsWord "STATUS " i.now ⊎ BeginsWord "SEARCH" i.now
+        ⊎ BeginsWord "SORT" i.now) result }
 {
     first!(status(alloc, i));
     first!(search(alloc, i));
@@ -152,6 +159,7 @@ fn datum_of_x(alloc: Global, i: &[u8]) -> IResult<&[u8], MailboxDatum<'_>>
 fn datum(alloc: Global, i: &[u8]) -> IResult<&[u8], MailboxDatum<'_>>
     ensures steps { Steps rules.mailbox_datum datum_value i.now result }
     ensures memory { SucceedsFor IsNumber rules.mailbox_datum i.now result }
+    ensures worded { FailsOnlyIf (BeginsListDatum i.now) result }
 {
     match i.first() {
         None => Err(Err::Incomplete(Needed::Unknown)),
@@ -167,14 +175,15 @@ fn datum(alloc: Global, i: &[u8]) -> IResult<&[u8], MailboxDatum<'_>>
 /// Data of a mailbox: `FLAGS`, `EXISTS`, `LIST`, `LSUB`, `STATUS`, `RECENT`, `SEARCH`, `SORT` and Gmail's items,
 /// words in any case (RFC 3501, section 9: mailbox-data; RFC 5256, section 5: sort-data; Gmail's X-GM-EXT-1).
 ///
-/// Any other word, and data that its rule denies, is `Error`. Its lists take memory, and texts only for bytes that are
-/// not UTF-8. A datum that is one number takes none.
+/// Any other word, and data that its rule denies, is `Error`. It takes memory only behind the word of data that hold a
+/// list: for the list, and for texts that are not UTF-8. A datum that is one number takes none.
 #[tactic(auto, using(imap_grammar::proofs::Agreement::answered))]
 #[inline(always)]
 pub fn mailbox_datum(alloc: Global, i: &[u8]) -> IResult<&[u8], MailboxDatum<'_>>
     ensures steps { Steps rules.mailbox_datum datum_value i.now result }
     ensures answer { Answers rules.mailbox_datum datum_value i.now result }
     ensures memory { SucceedsFor IsNumber rules.mailbox_datum i.now result }
+    ensures worded { FailsOnlyIf (BeginsListDatum i.now) result }
 {
     datum(alloc, i)
 }

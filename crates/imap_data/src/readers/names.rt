@@ -1,7 +1,7 @@
 //! Attributes of mailbox names, and the data of LIST.
 
-ghost use Rattle.std.specs.Prelude.{◌≡◌, map, slice_get};
-ghost use Rattle.std.specs.Option.{option_map, option_copied};
+ghost use Rattle.std.specs.Prelude.{map};
+ghost use Rattle.std.specs.Option.{option_map};
 ghost use Rattle.imap_grammar.specs.Answer.{Steps, StepsExactly};
 ghost use Rattle.imap_grammar.specs.Text.{text_of};
 ghost use Rattle.imap_data.specs.NameGroups as groups;
@@ -9,7 +9,7 @@ ghost use Rattle.imap_data.specs.Names as names;
 ghost use Rattle.imap_data.specs.Names.{attribute_value, list_value};
 
 use crate::types::names::{MailboxListData, NameAttribute};
-use imap_bytes::tags::tag;
+use imap_bytes::tags::{second, tag};
 use imap_bytes::{IResult, first, named, nil, parenthesized_list, quoted_utf8};
 use imap_items::readers::flags::backslashed_text;
 use imap_items::readers::mailboxes::mailbox;
@@ -68,13 +68,6 @@ fn attribute_of_s_t(i: &[u8]) -> IResult<&[u8], NameAttribute<'_>>
     named!(b"\\Sent", i, NameAttribute::Sent);
     named!(b"\\Trash", i, NameAttribute::Trash);
     extension(i)
-}
-
-// The byte behind the first.
-fn second(i: &[u8]) -> Option<&u8>
-    ensures { option_copied result ≡ slice_get i.now 1 }
-{
-    i.get(1)
 }
 
 // An attribute of a name: a known word in any case, or any other with its backslash

@@ -1,9 +1,9 @@
 //! Response codes.
 
-ghost use Rattle.std.specs.Prelude.{◌≡◌, map, option_map, IfOk};
+ghost use Rattle.std.specs.Prelude.{◌≡◌, None, map, option_map, IfOk, IsOk};
 ghost use Rattle.imap_grammar.specs.Text.{text_of, owned_text as owned};
 ghost use Rattle.imap_data.specs.Codes.{code_value};
-ghost use Rattle.imap_data.specs.Owned.{owned_code};
+ghost use Rattle.imap_data.specs.Owned.{owned_code, HoldsNoTexts};
 
 use imap_items::owned::{owned_capabilities, owned_texts};
 use imap_items::{Capability, UidSetMember};
@@ -23,7 +23,8 @@ pub enum ResponseCode<'a> {
     HighestModSeq(u64),
     /// `PARSE`
     Parse,
-    /// `PERMANENTFLAGS`
+    /// `PERMANENTFLAGS`: the flags that a client can change for good; `\*`: it may make new keywords (RFC 3501, section
+    /// 7.1).
     PermanentFlags(Vec<CowStr<'a>>),
     /// `READ-ONLY`
     ReadOnly,
@@ -57,9 +58,10 @@ fn owned_charsets(
     alloc: Global,
     charsets: Option<Vec<CowStr<'_>>>,
 ) -> Result<Option<Vec<CowStr<'static>>>, AllocError>
-    ensures { IfOk result (λ c.
+    ensures same { IfOk result (λ c.
         option_map (λ v. map text_of v.items) c
         ≡ option_map (map owned) (option_map (λ v. map text_of v.items) charsets.entry)) }
+    ensures memory { charsets.entry ≡ None → IsOk result }
 {
     Ok(match charsets {
         None => None,
@@ -71,7 +73,8 @@ impl<'a> ResponseCode<'a> {
     /// The same code with all texts owned. It takes memory only for lists of texts and of capabilities, and for the
     /// borrowed texts in them; `Err`: memory ran out.
     pub fn into_owned(self, alloc: Global) -> Result<ResponseCode<'static>, AllocError>
-        ensures { IfOk result (λ c. code_value c ≡ owned_code (code_value self.entry)) }
+        ensures same { IfOk result (λ c. code_value c ≡ owned_code (code_value self.entry)) }
+        ensures memory { HoldsNoTexts (code_value self.entry) → IsOk result }
     {
         Ok(match self {
             ResponseCode::Alert => ResponseCode::Alert,

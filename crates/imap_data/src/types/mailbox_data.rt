@@ -2,7 +2,7 @@
 
 ghost use Rattle.std.specs.Prelude.{◌≡◌, IfOk, IsOk};
 ghost use Rattle.imap_data.specs.DatumValues.{datum_value, IsNumber};
-ghost use Rattle.imap_data.specs.Owned.{owned_datum};
+ghost use Rattle.imap_data.specs.Owned.{owned_datum, IsMovedWhole};
 
 use super::counts::StatusAttribute;
 use super::names::MailboxListData;
@@ -21,9 +21,10 @@ pub enum MailboxDatum<'a> {
     Flags(Vec<CowStr<'a>>),
     /// `LIST` and `LSUB`, which are not told apart.
     List(MailboxListData<'a>),
-    /// `SEARCH`: the numbers of the messages that were found, in the order of the line.
+    /// `SEARCH`: what was found, in the order of the line: numbers of messages, or UIDs in answer to UID SEARCH (RFC
+    /// 3501, section 7.2.5). The value doesn't tell which.
     Search(Vec<u32>),
-    /// `SORT`: the numbers of the messages, in the order that was asked for.
+    /// `SORT`: the same, sorted as the client asked; UIDs in answer to UID SORT (RFC 5256, section 4).
     Sort(Vec<u32>),
     /// `STATUS`
     Status {
@@ -34,25 +35,26 @@ pub enum MailboxDatum<'a> {
     },
     /// `RECENT`: how many messages are recent.
     Recent(u32),
-    /// `METADATA` with values
+    /// `METADATA` with values, as the answer to GETMETADATA (RFC 5464, section 4.4.1).
     MetadataSolicited {
         /// The raw content of the quoted string that names the mailbox; empty for the server.
         mailbox: CowStr<'a>,
         /// The annotations, at least one.
         values: Vec<Metadata>,
     },
-    /// `METADATA` without values
+    /// `METADATA` without values, which the server sends by itself (RFC 5464, section 4.4.2).
     MetadataUnsolicited {
         /// The raw content of the quoted string that names the mailbox; empty for the server.
         mailbox: CowStr<'a>,
-        /// The names of the entries that changed.
+        /// The names of the entries that changed, maybe none.
         values: Vec<CowStr<'a>>,
     },
-    /// `X-GM-LABELS`: the labels, raw: backslashes of a quoted string stay.
+    /// `X-GM-LABELS` as a line of its own (in a FETCH it is `AttributeValue::GmailLabels`): the labels, raw:
+    /// backslashes of a quoted string stay.
     GmailLabels(Vec<CowStr<'a>>),
-    /// `X-GM-MSGID`: the number of the message.
+    /// `X-GM-MSGID` as a line of its own (in a FETCH it is `AttributeValue::GmailMsgId`): the number of the message.
     GmailMsgId(u64),
-    /// `X-GM-THRID`: the number of the thread.
+    /// `X-GM-THRID` as a line of its own (in a FETCH it is `AttributeValue::GmailThrId`): the number of the thread.
     GmailThrId(u64),
 }
 
@@ -106,7 +108,8 @@ impl<'a> MailboxDatum<'a> {
     /// The same data with all texts owned. It takes memory for lists of texts and of attributes, and for borrowed
     /// texts; `Err`: memory ran out.
     pub fn into_owned(self, alloc: Global) -> Result<MailboxDatum<'static>, AllocError>
-        ensures { IfOk result (λ d. datum_value d ≡ owned_datum (datum_value self.entry)) }
+        ensures same { IfOk result (λ d. datum_value d ≡ owned_datum (datum_value self.entry)) }
+        ensures memory { IsMovedWhole (datum_value self.entry) → IsOk result }
     {
         Ok(match self {
             MailboxDatum::Exists(count) => MailboxDatum::Exists(count),

@@ -4,7 +4,7 @@ ghost use Rattle.std.specs.Prelude.{◌≡◌, IfOk, IsOk, map};
 ghost use Rattle.std.specs.Option.{option_map};
 ghost use Rattle.imap_grammar.specs.Text.{text_of};
 ghost use Rattle.imap_data.specs.Names.{attribute_value, list_value, IsLentAttribute};
-ghost use Rattle.imap_data.specs.Owned.{owned_attribute, owned_list};
+ghost use Rattle.imap_data.specs.Owned.{owned_attribute, owned_list, IsOwnedAttribute};
 
 use imap_items::copies::copied_text;
 use imap_items::owned::{owned_optional_text, owned_text};
@@ -77,8 +77,9 @@ impl<'a> NameAttribute<'a> {
 
     /// The same attribute with its text owned. It takes memory only for a borrowed text; `Err`: memory ran out.
     pub fn into_owned(self, alloc: Global) -> Result<NameAttribute<'static>, AllocError>
-        ensures { IfOk result (λ a.
+        ensures same { IfOk result (λ a.
             attribute_value a ≡ owned_attribute (attribute_value self.entry)) }
+        ensures memory { IsOwnedAttribute (attribute_value self.entry) → IsOk result }
     {
         Ok(match self {
             NameAttribute::NoInferiors => NameAttribute::NoInferiors,

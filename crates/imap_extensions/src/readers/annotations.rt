@@ -4,13 +4,14 @@ ghost use Rattle.std.specs.Prelude.{◌≡◌, map, option_map, IfOk};
 ghost use Rattle.std.specs.List.{list_all};
 ghost use Rattle.std.specs.String.{string_bytes};
 ghost use Rattle.imap_grammar.specs.Answer.{Answers, Steps, StepsExactly};
-ghost use Rattle.imap_grammar.specs.Memory.{BeginsWord, FailsOnlyIf};
-ghost use Rattle.imap_grammar.specs.Text.{text_of};
+ghost use Rattle.imap_grammar.specs.Memory.{StartsWith, FailsOnlyIf};
+ghost use Rattle.imap_grammar.specs.Text.{text_of, IsOwned};
+ghost use Rattle.imap_bytes.specs.Texts.{FailsForOwned};
 ghost use Rattle.imap_extensions.specs.Annotations as rules;
 ghost use Rattle.imap_extensions.specs.Annotations.{metadata_value};
 
 use crate::types::annotations::Metadata;
-use imap_bytes::lists::{Separator, maybe_separated};
+use imap_bytes::lists::{Separator, separated, tried};
 use imap_bytes::tags::{tag, word};
 use imap_bytes::texts::decode;
 use imap_bytes::{Err, IResult, astring, nstring_utf8, parenthesized_nonempty_list, quoted_utf8};
@@ -136,7 +137,8 @@ fn entry(i: &[u8]) -> IResult<&[u8], &[u8]>
 // An entry's name as text; any other astring is denied.
 #[tactic(auto, unfolding(crate::specs::Annotations::entry_utf8))]
 fn entry_utf8(alloc: Global, i: &[u8]) -> IResult<&[u8], CowStr<'_>>
-    ensures { Steps rules.entry_utf8 text_of i.now result }
+    ensures steps { Steps rules.entry_utf8 text_of i.now result }
+    ensures memory { FailsOnlyIf (StartsWith rules.entry i.now) result }
 {
     let (rest, name) = entry(i)?;
     Ok((rest, decode(alloc, name)?))
@@ -174,7 +176,7 @@ fn annotation(alloc: Global, i: &[u8]) -> IResult<&[u8], Metadata>
 #[tactic(auto, unfolding(crate::specs::Annotations::metadata_mailbox))]
 fn metadata_mailbox_parts(alloc: Global, i: &[u8]) -> IResult<&[u8], CowStr<'_>>
     ensures steps { Steps rules.metadata_mailbox text_of i.now result }
-    ensures memory { FailsOnlyIf (BeginsWord "METADATA " i.now) result }
+    ensures memory { FailsForOwned IsOwned rules.quoted_mailbox i.now result }
 {
     let (rest, _) = word(b"METADATA ", i)?;
     let (rest, mailbox) = quoted_utf8(alloc, rest)?;
@@ -191,7 +193,7 @@ fn metadata_mailbox_parts(alloc: Global, i: &[u8]) -> IResult<&[u8], CowStr<'_>>
 pub fn metadata_mailbox(alloc: Global, i: &[u8]) -> IResult<&[u8], CowStr<'_>>
     ensures steps { Steps rules.metadata_mailbox text_of i.now result }
     ensures answer { Answers rules.metadata_mailbox text_of i.now result }
-    ensures memory { FailsOnlyIf (BeginsWord "METADATA " i.now) result }
+    ensures memory { FailsForOwned IsOwned rules.quoted_mailbox i.now result }
 {
     metadata_mailbox_parts(alloc, i)
 }
@@ -215,14 +217,19 @@ pub fn annotations(alloc: Global, i: &[u8]) -> IResult<&[u8], Vec<Metadata>>
 
 /// Names of entries, a space between, maybe none (RFC 5464, section 5: entry-list).
 ///
-/// It ends before a name that `annotations` denies, and before the space in front of that name. It takes memory for the
-/// list, and for texts that are not UTF-8.
+/// It ends before a name that `annotations` denies, and before the space in front of that name. It takes memory only
+/// where a name stands in front: for the list, and for texts that are not UTF-8.
 pub fn entries(alloc: Global, i: &[u8]) -> IResult<&[u8], Vec<CowStr<'_>>>
     ensures steps { Steps rules.entries (λ x. map text_of x.items) i.now result }
     ensures answer { Answers rules.entries (λ x. map text_of x.items) i.now result }
+    ensures memory { FailsOnlyIf (StartsWith rules.entry i.now) result }
 {
     let item = |i|
-        ensures { Steps rules.entry_utf8 text_of i.entry.now result }
+        ensures steps { Steps rules.entry_utf8 text_of i.entry.now result }
+        ensures memory { FailsOnlyIf (StartsWith rules.entry i.entry.now) result }
     { entry_utf8(alloc, i) };
-    maybe_separated(alloc, Separator::Space, item, i)
+    match tried(separated(alloc, Separator::Space, item, i))? {
+        Some(found) => Ok(found),
+        None => Ok((i, Vec::new(alloc))),
+    }
 }

@@ -1,6 +1,7 @@
 //! Access control lists.
 
-ghost use Rattle.std.specs.Prelude.{◌≡◌, map, IfOk};
+ghost use Rattle.std.specs.Prelude.{◌≡◌, [], map, IfOk, IsOk};
+ghost use Rattle.imap_grammar.specs.Text.{text_of, IsOwned};
 ghost use Rattle.imap_extensions.specs.Acls.{acl_entry_value, acl_value, list_rights_value, my_rights_value};
 ghost use Rattle.imap_extensions.specs.Owned.{owned_acl_entry, owned_acl, owned_list_rights, owned_my_rights};
 
@@ -55,8 +56,9 @@ pub struct MyRights<'a> {
 impl<'a> AclEntry<'a> {
     /// The same entry with its text owned. It takes memory only where that is borrowed; `Err`: memory ran out.
     pub fn into_owned(self, alloc: Global) -> Result<AclEntry<'static>, AllocError>
-        ensures { IfOk result (λ entry.
+        ensures same { IfOk result (λ entry.
             acl_entry_value entry ≡ owned_acl_entry (acl_entry_value self.entry)) }
+        ensures memory { IsOwned (text_of self.entry.identifier) → IsOk result }
     {
         let AclEntry { identifier, rights } = self;
         Ok(AclEntry {
@@ -70,9 +72,10 @@ fn owned_entries(
     alloc: Global,
     entries: Vec<AclEntry<'_>>,
 ) -> Result<Vec<AclEntry<'static>>, AllocError>
-    ensures { IfOk result (λ v.
+    ensures same { IfOk result (λ v.
         map acl_entry_value v.items
         ≡ map owned_acl_entry (map acl_entry_value entries.entry.items)) }
+    ensures memory { entries.entry.items ≡ [] → IsOk result }
 {
     let mut owned = Vec::with_capacity(alloc, entries.len())?;
     for entry in entries {
@@ -82,9 +85,11 @@ fn owned_entries(
 }
 
 impl<'a> Acl<'a> {
-    /// The same list with all texts owned. It takes memory for the list, and for borrowed texts; `Err`: memory ran out.
+    /// The same list with all texts owned. It takes memory for entries, and for borrowed texts; `Err`: memory ran out.
     pub fn into_owned(self, alloc: Global) -> Result<Acl<'static>, AllocError>
-        ensures { IfOk result (λ acl. acl_value acl ≡ owned_acl (acl_value self.entry)) }
+        ensures same { IfOk result (λ acl. acl_value acl ≡ owned_acl (acl_value self.entry)) }
+        ensures memory { IsOwned (text_of self.entry.mailbox) → self.entry.acls.items ≡ []
+            → IsOk result }
     {
         Ok(Acl {
             mailbox: owned_text(alloc, self.mailbox)?,
@@ -96,8 +101,10 @@ impl<'a> Acl<'a> {
 impl<'a> ListRights<'a> {
     /// The same rights with all texts owned. It takes memory only for borrowed texts; `Err`: memory ran out.
     pub fn into_owned(self, alloc: Global) -> Result<ListRights<'static>, AllocError>
-        ensures { IfOk result (λ rights.
+        ensures same { IfOk result (λ rights.
             list_rights_value rights ≡ owned_list_rights (list_rights_value self.entry)) }
+        ensures memory { IsOwned (text_of self.entry.mailbox)
+            → IsOwned (text_of self.entry.identifier) → IsOk result }
     {
         Ok(ListRights {
             mailbox: owned_text(alloc, self.mailbox)?,
@@ -112,8 +119,9 @@ impl<'a> MyRights<'a> {
     /// The same rights with the mailbox's name owned. It takes memory only where that is borrowed; `Err`: memory ran
     /// out.
     pub fn into_owned(self, alloc: Global) -> Result<MyRights<'static>, AllocError>
-        ensures { IfOk result (λ rights.
+        ensures same { IfOk result (λ rights.
             my_rights_value rights ≡ owned_my_rights (my_rights_value self.entry)) }
+        ensures memory { IsOwned (text_of self.entry.mailbox) → IsOk result }
     {
         Ok(MyRights {
             mailbox: owned_text(alloc, self.mailbox)?,

@@ -1,6 +1,6 @@
 //! Annotations of mailboxes.
 
-ghost use Rattle.std.specs.Prelude.{◌≡◌, IfOk, map};
+ghost use Rattle.std.specs.Prelude.{◌≡◌, [], IfOk, IsOk, map};
 ghost use Rattle.std.specs.Option.{option_map};
 ghost use Rattle.std.specs.String.{string_bytes};
 ghost use Rattle.imap_extensions.specs.Annotations.{metadata_value};
@@ -37,10 +37,11 @@ fn copied_value(value: &Option<String>) -> Result<Option<String>, AllocError>
     })
 }
 
-/// The same annotations. It takes memory for the list and for the texts; `Err`: memory ran out.
+/// The same annotations. It takes memory for the list, unless that is empty, and for the texts; `Err`: memory ran out.
 pub fn copied_annotations(annotations: &Vec<Metadata>) -> Result<Vec<Metadata>, AllocError>
-    ensures { IfOk result (λ v.
+    ensures same { IfOk result (λ v.
         map metadata_value v.items ≡ map metadata_value annotations.now.items) }
+    ensures memory { annotations.now.items ≡ [] → IsOk result }
 {
     let mut copy = Vec::with_capacity(*annotations.allocator(), annotations.len())?;
     for annotation in annotations {

@@ -1,6 +1,6 @@
 //! What an implementation says of itself.
 
-ghost use Rattle.std.specs.Prelude.{◌≡◌, IfOk, OnOk};
+ghost use Rattle.std.specs.Prelude.{◌≡◌, [], IfOk, IsOk, OnOk};
 ghost use Rattle.std.specs.FinMap.{insert};
 ghost use Rattle.std.specs.Cow.{cow_str_bytes};
 ghost use Rattle.imap_grammar.specs.Text.{text_of, owned_text as owned};
@@ -44,10 +44,11 @@ fn put_owned(
     put(map, key, value)
 }
 
-/// The same map with all texts owned, its keys too. It takes memory for the map, and for borrowed texts; `Err`: memory
-/// ran out.
+/// The same map with all texts owned, its keys too. It takes memory for the map unless that is empty, and for borrowed
+/// texts; `Err`: memory ran out.
 pub fn owned_id_map(alloc: Global, map: IdMap<'_>) -> Result<IdMap<'static>, AllocError>
-    ensures { IfOk result (λ m. id_value m ≡ owned_id (id_value map.entry)) }
+    ensures same { IfOk result (λ m. id_value m ≡ owned_id (id_value map.entry)) }
+    ensures memory { map.entry.entries ≡ [] → IsOk result }
 {
     let mut owned = HashMap::new(alloc);
     for (key, value) in map {

@@ -1,8 +1,10 @@
 //! Quotas.
 
-ghost use Rattle.std.specs.Prelude.{◌≡◌, map, IfOk, IsOk};
+ghost use Rattle.std.specs.Prelude.{◌≡◌, [], map, IfOk, IsOk};
+ghost use Rattle.imap_grammar.specs.Text.{text_of, IsOwned};
+ghost use Rattle.imap_items.specs.Copies.{IsLent};
 ghost use Rattle.imap_extensions.specs.Quotas.{quota_resource_name_value, quota_resource_value, quota_value, quota_root_value, IsLentName};
-ghost use Rattle.imap_extensions.specs.Owned.{owned_quota_resource_name, owned_quota_resource, owned_quota, owned_quota_root};
+ghost use Rattle.imap_extensions.specs.Owned.{owned_quota_resource_name, owned_quota_resource, owned_quota, owned_quota_root, IsOwnedName};
 
 use imap_items::copies::{copied_text, copied_texts};
 use imap_items::owned::{owned_text, owned_texts};
@@ -66,9 +68,10 @@ impl<'a> QuotaResourceName<'a> {
 
     /// The same name with its text owned. It takes memory only where that is borrowed; `Err`: memory ran out.
     pub fn into_owned(self, alloc: Global) -> Result<QuotaResourceName<'static>, AllocError>
-        ensures { IfOk result (λ name.
+        ensures same { IfOk result (λ name.
             quota_resource_name_value name
             ≡ owned_quota_resource_name (quota_resource_name_value self.entry)) }
+        ensures memory { IsOwnedName (quota_resource_name_value self.entry) → IsOk result }
     {
         Ok(match self {
             QuotaResourceName::Storage => QuotaResourceName::Storage,
@@ -94,9 +97,10 @@ impl<'a> QuotaResource<'a> {
 
     /// The same resource with its text owned. It takes memory only where that is borrowed; `Err`: memory ran out.
     pub fn into_owned(self, alloc: Global) -> Result<QuotaResource<'static>, AllocError>
-        ensures { IfOk result (λ resource.
+        ensures same { IfOk result (λ resource.
             quota_resource_value resource
             ≡ owned_quota_resource (quota_resource_value self.entry)) }
+        ensures memory { IsOwnedName (quota_resource_name_value self.entry.name) → IsOk result }
     {
         let QuotaResource { name, usage, limit } = self;
         Ok(QuotaResource {
@@ -110,8 +114,9 @@ impl<'a> QuotaResource<'a> {
 fn copied_resources<'a>(
     resources: &Vec<QuotaResource<'a>>,
 ) -> Result<Vec<QuotaResource<'a>>, AllocError>
-    ensures { IfOk result (λ v.
+    ensures same { IfOk result (λ v.
         map quota_resource_value v.items ≡ map quota_resource_value resources.now.items) }
+    ensures memory { resources.now.items ≡ [] → IsOk result }
 {
     let mut copies = Vec::with_capacity(*resources.allocator(), resources.len())?;
     for resource in resources {
@@ -124,9 +129,10 @@ fn owned_resources(
     alloc: Global,
     resources: Vec<QuotaResource<'_>>,
 ) -> Result<Vec<QuotaResource<'static>>, AllocError>
-    ensures { IfOk result (λ v.
+    ensures same { IfOk result (λ v.
         map quota_resource_value v.items
         ≡ map owned_quota_resource (map quota_resource_value resources.entry.items)) }
+    ensures memory { resources.entry.items ≡ [] → IsOk result }
 {
     let mut owned = Vec::with_capacity(alloc, resources.len())?;
     for resource in resources {
@@ -136,9 +142,11 @@ fn owned_resources(
 }
 
 impl<'a> Quota<'a> {
-    /// The same quota. It takes memory for the resources, and for owned texts; `Err`: memory ran out.
+    /// The same quota. It takes memory for resources, and for owned texts; `Err`: memory ran out.
     pub fn clone(&self) -> Result<Self, AllocError>
-        ensures { IfOk result (λ copy. quota_value copy ≡ quota_value self.now) }
+        ensures same { IfOk result (λ copy. quota_value copy ≡ quota_value self.now) }
+        ensures memory { IsLent (text_of self.now.root_name) → self.now.resources.items ≡ []
+            → IsOk result }
     {
         Ok(Quota {
             root_name: copied_text(&self.root_name)?,
@@ -146,10 +154,13 @@ impl<'a> Quota<'a> {
         })
     }
 
-    /// The same quota with all texts owned. It takes memory for the resources, and for borrowed texts; `Err`: memory
-    /// ran out.
+    /// The same quota with all texts owned. It takes memory for resources, and for borrowed texts; `Err`: memory ran
+    /// out.
     pub fn into_owned(self, alloc: Global) -> Result<Quota<'static>, AllocError>
-        ensures { IfOk result (λ quota. quota_value quota ≡ owned_quota (quota_value self.entry)) }
+        ensures same { IfOk result (λ quota.
+            quota_value quota ≡ owned_quota (quota_value self.entry)) }
+        ensures memory { IsOwned (text_of self.entry.root_name) → self.entry.resources.items ≡ []
+            → IsOk result }
     {
         Ok(Quota {
             root_name: owned_text(alloc, self.root_name)?,
@@ -159,9 +170,12 @@ impl<'a> Quota<'a> {
 }
 
 impl<'a> QuotaRoot<'a> {
-    /// The same roots. It takes memory for the list of them, and for owned texts; `Err`: memory ran out.
+    /// The same roots. It takes memory for the list of them unless that is empty, and for owned texts; `Err`: memory
+    /// ran out.
     pub fn clone(&self) -> Result<Self, AllocError>
-        ensures { IfOk result (λ copy. quota_root_value copy ≡ quota_root_value self.now) }
+        ensures same { IfOk result (λ copy. quota_root_value copy ≡ quota_root_value self.now) }
+        ensures memory { IsLent (text_of self.now.mailbox_name)
+            → self.now.quota_root_names.items ≡ [] → IsOk result }
     {
         Ok(QuotaRoot {
             mailbox_name: copied_text(&self.mailbox_name)?,
@@ -169,11 +183,13 @@ impl<'a> QuotaRoot<'a> {
         })
     }
 
-    /// The same roots with all texts owned. It takes memory for the list of them, and for borrowed texts; `Err`: memory
-    /// ran out.
+    /// The same roots with all texts owned. It takes memory for the list of them unless that is empty, and for borrowed
+    /// texts; `Err`: memory ran out.
     pub fn into_owned(self, alloc: Global) -> Result<QuotaRoot<'static>, AllocError>
-        ensures { IfOk result (λ root.
+        ensures same { IfOk result (λ root.
             quota_root_value root ≡ owned_quota_root (quota_root_value self.entry)) }
+        ensures memory { IsOwned (text_of self.entry.mailbox_name)
+            → self.entry.quota_root_names.items ≡ [] → IsOk result }
     {
         Ok(QuotaRoot {
             mailbox_name: owned_text(alloc, self.mailbox_name)?,

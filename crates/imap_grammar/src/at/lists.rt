@@ -6,7 +6,7 @@ ghost use Rattle.imap_grammar.specs.Positions.{Ahead, named_in, StepsExactlyAt};
 ghost use Rattle.imap_grammar.specs.PositionLists.{FollowsAt, Advances, KeepsAhead, Onward};
 ghost use Rattle.imap_grammar.specs.Rule.{meaning};
 ghost use Rattle.imap_grammar.specs.Meaning.{many_means};
-ghost use Rattle.imap_grammar.specs.Lists.{or_memory, or_memory_behind, separator as separator_rule, behind_means, list1_means, list0_means, list_means, nonempty_list_means, delimited_means, opt_opt_means};
+ghost use Rattle.imap_grammar.specs.Lists.{or_memory_behind, separator as separator_rule, behind_means, list1_means, list0_means, opened_means, list_means, nonempty_list_means, delimited_means, opt_opt_means};
 
 use crate::at::Reached;
 use crate::at::span::Span;
@@ -61,7 +61,8 @@ fn one_item<O: Drop, F: Fn(usize) -> Reached<O>>(f: &F, m: &[u8], p: usize) -> R
 
 /// What f reads, as often as it does, with nothing between.
 ///
-/// f has to consume at least a byte. Its `Incomplete` and `Failure` go through. It takes memory for the list.
+/// f has to consume at least a byte. Its `Incomplete` and `Failure` go through. It takes memory for the list, and only
+/// once f read a first item.
 pub fn repeated<O: Drop, F: Fn(usize) -> Reached<O>>(
     alloc: Global,
     f: F,
@@ -71,8 +72,8 @@ pub fn repeated<O: Drop, F: Fn(usize) -> Reached<O>>(
     requires start { p ≤ length m.now }
     requires may { (k : ℕ) → k ≤ length m.now → F.pre f k }
     requires advances { Advances m.now (F.post f) }
-    ensures follows { FollowsAt (λ a. or_memory (many_means a)) (F.post f) (λ x. x.items) m.now p
-        result }
+    ensures follows { FollowsAt (λ a. or_memory_behind a (many_means a)) (F.post f) (λ x. x.items)
+        m.now p result }
     ensures ahead { Ahead m.now p result }
 {
     let mut q = p;
@@ -116,7 +117,7 @@ pub fn separated<O: Drop, F: Fn(usize) -> Reached<O>>(
 /// What f reads, zero or more times, with a separator between.
 ///
 /// It ends as `separated` does. f has to consume at least a byte. Its `Incomplete` and `Failure` go through.
-/// It takes memory for the list.
+/// It takes memory for the list, and only once f read a first item.
 pub fn maybe_separated<O: Drop, F: Fn(usize) -> Reached<O>>(
     alloc: Global,
     between: Separator,
@@ -127,7 +128,8 @@ pub fn maybe_separated<O: Drop, F: Fn(usize) -> Reached<O>>(
     requires start { p ≤ length m.now }
     requires may { (k : ℕ) → k ≤ length m.now → F.pre f k }
     requires advances { Advances m.now (F.post f) }
-    ensures follows { FollowsAt (λ a. or_memory (list0_means (meaning (separator_rule between)) a))
+    ensures follows { FollowsAt
+        (λ a. or_memory_behind a (list0_means (meaning (separator_rule between)) a))
         (F.post f) (λ x. x.items) m.now p result }
     ensures ahead { Ahead m.now p result }
 {
@@ -140,7 +142,7 @@ pub fn maybe_separated<O: Drop, F: Fn(usize) -> Reached<O>>(
 /// A list in parentheses of zero or more: what f reads, with one space between, and maybe a space before the `)`.
 ///
 /// `Error` where no `(` stands, or the list isn't closed where f denies. f has to consume at least a byte. Its
-/// `Incomplete` and `Failure` go through. It takes memory for the list.
+/// `Incomplete` and `Failure` go through. It takes memory for the list, and only once f read a first item.
 pub fn parenthesized_list<O: Drop, F: Fn(usize) -> Reached<O>>(
     alloc: Global,
     f: F,
@@ -150,8 +152,8 @@ pub fn parenthesized_list<O: Drop, F: Fn(usize) -> Reached<O>>(
     requires start { p ≤ length m.now }
     requires may { (k : ℕ) → k ≤ length m.now → F.pre f k }
     requires advances { Advances m.now (F.post f) }
-    ensures follows { FollowsAt (λ a. or_memory (list_means a)) (F.post f) (λ x. x.items) m.now p
-        result }
+    ensures follows { FollowsAt (λ a. or_memory_behind (opened_means a) (list_means a)) (F.post f)
+        (λ x. x.items) m.now p result }
     ensures ahead { Ahead m.now p result }
 {
     let (p, _) = tag(b"(", m, p)?;
@@ -165,7 +167,7 @@ pub fn parenthesized_list<O: Drop, F: Fn(usize) -> Reached<O>>(
 /// `)`.
 ///
 /// `Error` where no `(` stands, f denies at once, or the list isn't closed where f denies. f has to consume at least a
-/// byte. Its `Incomplete` and `Failure` go through. It takes memory for the list.
+/// byte. Its `Incomplete` and `Failure` go through. It takes memory for the list, and only once f read a first item.
 pub fn parenthesized_nonempty_list<O: Drop, F: Fn(usize) -> Reached<O>>(
     alloc: Global,
     f: F,
@@ -175,8 +177,8 @@ pub fn parenthesized_nonempty_list<O: Drop, F: Fn(usize) -> Reached<O>>(
     requires start { p ≤ length m.now }
     requires may { (k : ℕ) → k ≤ length m.now → F.pre f k }
     requires advances { Advances m.now (F.post f) }
-    ensures follows { FollowsAt (λ a. or_memory (nonempty_list_means a)) (F.post f) (λ x. x.items)
-        m.now p result }
+    ensures follows { FollowsAt (λ a. or_memory_behind (opened_means a) (nonempty_list_means a))
+        (F.post f) (λ x. x.items) m.now p result }
     ensures ahead { Ahead m.now p result }
 {
     let (p, _) = tag(b"(", m, p)?;

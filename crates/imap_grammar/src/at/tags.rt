@@ -56,6 +56,7 @@ pub fn tag(text: &[u8], m: &[u8], p: usize) -> Reached<Span>
         }
         return Err(Err::Error);
     }
+    // A front as long as the word is compared at once.
     let (front, _) = i.split_at(text.len());
     if !agrees(text, front) {
         return Err(Err::Error);
@@ -65,7 +66,7 @@ pub fn tag(text: &[u8], m: &[u8], p: usize) -> Reached<Span>
 }
 
 /// These bytes, ASCII letters in either case; others are `Error`. No memory.
-#[tactic(auto, using(crate::proofs::Positions::stepped, crate::proofs::Positions::zip_cut), unfolding(crate::specs::Step::tag_step))]
+#[tactic(auto, using(crate::proofs::Positions::stepped), unfolding(crate::specs::Step::tag_step))]
 pub fn word(text: &[u8], m: &[u8], p: usize) -> Reached<Span>
     requires { p ≤ length m.now }
     ensures steps { StepsExactlyAt (tag_by same_letter text.now) (named_in m.now) m.now p result }
@@ -73,15 +74,11 @@ pub fn word(text: &[u8], m: &[u8], p: usize) -> Reached<Span>
     ensures no_failure { NeverFails result }
 {
     let (_, i) = m.split_at(p);
-    if i.len() < text.len() {
-        if agrees_in_any_case(text, i) {
-            return Err(Err::Incomplete(Needed::Unknown));
-        }
+    if !agrees_in_any_case(text, i) {
         return Err(Err::Error);
     }
-    let (front, _) = i.split_at(text.len());
-    if !agrees_in_any_case(text, front) {
-        return Err(Err::Error);
+    if i.len() < text.len() {
+        return Err(Err::Incomplete(Needed::Unknown));
     }
     let q = p + text.len();
     Ok((q, Span { start: p, end: q }))

@@ -1,8 +1,9 @@
 //! Flags at a position, as texts; lists of them as the spans of these.
 
-ghost use Rattle.std.specs.Prelude.{◌≤◌, length, codes, map};
+ghost use Rattle.std.specs.Prelude.{◌≤◌, length, drop, codes, map};
 ghost use Rattle.imap_grammar.specs.Positions.{AnswersAt, Ahead, Inside, EachInside, named_in, StepsAt, StepsExactlyAt};
-ghost use Rattle.imap_grammar.specs.Memory.{NeverFails};
+ghost use Rattle.imap_grammar.specs.Lists.{opened};
+ghost use Rattle.imap_grammar.specs.Memory.{StartsWith, FailsOnlyIf, NeverFails};
 ghost use Rattle.imap_grammar.specs.Tags.{exactly_names};
 ghost use Rattle.imap_items.specs.Flags as flags;
 ghost use Rattle.imap_items.specs.Spanned.{decoded_in};
@@ -106,8 +107,8 @@ fn flag_text(m: &[u8], p: usize) -> Reached<Span>
 
 /// Flags in parentheses, maybe none, each as the span of its text, which is UTF-8 (RFC 3501, section 9: flag-list).
 ///
-/// A list without its parentheses, or a flag that is not UTF-8, is `Error`. It takes memory for the list, and for no
-/// text.
+/// A list without its parentheses, or a flag that is not UTF-8, is `Error`. It takes memory for the list, and only
+/// behind its first flag; for no text.
 pub fn flag_list(alloc: Global, m: &[u8], p: usize) -> Reached<Vec<Span>>
     requires { p ≤ length m.now }
     ensures steps { StepsAt flags.flag_list (λ x. map (decoded_in m.now) x.items) m.now p result }
@@ -115,6 +116,7 @@ pub fn flag_list(alloc: Global, m: &[u8], p: usize) -> Reached<Vec<Span>>
         result }
     ensures ahead { Ahead m.now p result }
     ensures inside { EachInside p result }
+    ensures memory { FailsOnlyIf (StartsWith (opened flags.flag_text) (drop p m.now)) result }
 {
     let item = |k: usize|
         requires { k ≤ length m.now }

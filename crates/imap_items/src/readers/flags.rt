@@ -2,7 +2,8 @@
 
 ghost use Rattle.std.specs.Prelude.{map};
 ghost use Rattle.imap_grammar.specs.Answer.{Answers, Steps, StepsExactly};
-ghost use Rattle.imap_grammar.specs.Memory.{NeverFails};
+ghost use Rattle.imap_grammar.specs.Lists.{opened};
+ghost use Rattle.imap_grammar.specs.Memory.{StartsWith, FailsOnlyIf, NeverFails};
 ghost use Rattle.imap_grammar.specs.Text.{text_of};
 ghost use Rattle.imap_items.specs.Flags as flags;
 
@@ -67,11 +68,12 @@ pub(crate) fn flag_text(i: &[u8]) -> IResult<&[u8], CowStr<'_>>
 
 /// Flags in parentheses, maybe none (RFC 3501, section 9: flag-list).
 ///
-/// A list without its parentheses, or a flag that is not UTF-8, is `Error`. It takes memory for the list, and for no
-/// text.
+/// A list without its parentheses, or a flag that is not UTF-8, is `Error`. It takes memory for the list, and only
+/// behind its first flag; for no text.
 pub fn flag_list(alloc: Global, i: &[u8]) -> IResult<&[u8], Vec<CowStr<'_>>>
     ensures steps { Steps flags.flag_list (λ x. map text_of x.items) i.now result }
     ensures answer { Answers flags.flag_list (λ x. map text_of x.items) i.now result }
+    ensures memory { FailsOnlyIf (StartsWith (opened flags.flag_text) i.now) result }
 {
     parenthesized_list(alloc, flag_text, i)
 }

@@ -1,8 +1,8 @@
 //! Capabilities.
 
-ghost use Rattle.std.specs.Prelude.{◌≡◌, IfOk};
+ghost use Rattle.std.specs.Prelude.{◌≡◌, IfOk, IsOk};
 ghost use Rattle.imap_items.specs.Capabilities.{capability_value};
-ghost use Rattle.imap_items.specs.Owned.{owned_capability};
+ghost use Rattle.imap_items.specs.Owned.{owned_capability, IsOwnedCapability};
 
 use crate::owned::owned_text;
 use std::alloc::{AllocError, Global};
@@ -22,8 +22,9 @@ pub enum Capability<'a> {
 impl<'a> Capability<'a> {
     /// The same capability with its text owned. It takes memory only where that is borrowed; `Err`: memory ran out.
     pub fn into_owned(self, alloc: Global) -> Result<Capability<'static>, AllocError>
-        ensures { IfOk result (λ c.
+        ensures same { IfOk result (λ c.
             capability_value c ≡ owned_capability (capability_value self.entry)) }
+        ensures memory { IsOwnedCapability (capability_value self.entry) → IsOk result }
     {
         Ok(match self {
             Capability::Imap4rev1 => Capability::Imap4rev1,

@@ -3,7 +3,7 @@
 ghost use Rattle.std.specs.Prelude.{◌≤◌, length, drop, IsTrue};
 ghost use Rattle.std.specs.Option.{option_map};
 ghost use Rattle.imap_grammar.specs.Positions.{Ahead, named_in, StepsAt, StepsExactlyAt};
-ghost use Rattle.imap_grammar.specs.Memory.{FailsOnlyIf, NeverFails};
+ghost use Rattle.imap_grammar.specs.Memory.{BeginsWord, FailsOnlyIf, NeverFails};
 ghost use Rattle.imap_grammar.specs.Meaning.{begins};
 ghost use Rattle.imap_grammar.specs.Classes.{is_digit};
 ghost use Rattle.imap_grammar.specs.Rule.{opt, otherwise, ◌▹◌};
@@ -260,12 +260,14 @@ fn maybe_spec(alloc: Global, m: &[u8], p: usize) -> Reached<Option<SectionPath>>
 
 /// A section in brackets, `None` where they are empty (RFC 3501, section 9: section).
 ///
-/// No `[`, or behind it neither `]` nor a section and then `]`, is `Error`. It takes memory for the path of a part.
+/// No `[`, or behind it neither `]` nor a section and then `]`, is `Error`. It takes memory for the path of a part, and
+/// only behind the `[`.
 #[tactic(auto, unfolding(crate::specs::Sections::section))]
 pub fn section(alloc: Global, m: &[u8], p: usize) -> Reached<Option<SectionPath>>
     requires { p ≤ length m.now }
     ensures steps { StepsAt sections.section (option_map path_value) m.now p result }
     ensures ahead { Ahead m.now p result }
+    ensures memory { FailsOnlyIf (BeginsWord "[" (drop p m.now)) result }
 {
     let (p, _) = tag(b"[", m, p)?;
     let (p, path) = maybe_spec(alloc, m, p)?;

@@ -3,7 +3,7 @@
 ghost use Rattle.std.specs.Prelude.{IsTrue};
 ghost use Rattle.std.specs.Option.{option_map};
 ghost use Rattle.imap_grammar.specs.Answer.{Answers, Steps, StepsExactly};
-ghost use Rattle.imap_grammar.specs.Memory.{FailsOnlyIf, NeverFails};
+ghost use Rattle.imap_grammar.specs.Memory.{BeginsWord, FailsOnlyIf, NeverFails};
 ghost use Rattle.imap_grammar.specs.Meaning.{begins};
 ghost use Rattle.imap_grammar.specs.Classes.{is_digit};
 ghost use Rattle.imap_sections.specs.Sections as sections;
@@ -47,11 +47,13 @@ pub fn section_msgtext(i: &[u8]) -> IResult<&[u8], MessageSection>
 
 /// A section in brackets, `None` where they are empty (RFC 3501, section 9: section).
 ///
-/// No `[`, or behind it neither `]` nor a section and then `]`, is `Error`. It takes memory for the path of a part.
+/// No `[`, or behind it neither `]` nor a section and then `]`, is `Error`. It takes memory for the path of a part, and
+/// only behind the `[`.
 #[tactic(auto, using(imap_grammar::proofs::Agreement::answered))]
 pub fn section(alloc: Global, i: &[u8]) -> IResult<&[u8], Option<SectionPath>>
     ensures steps { Steps sections.section (option_map path_value) i.now result }
     ensures answer { Answers sections.section (option_map path_value) i.now result }
+    ensures memory { FailsOnlyIf (BeginsWord "[" i.now) result }
 {
     let (q, path) = at::sections::section(alloc, i, 0)?;
     Ok((rest(i, q), path))

@@ -3,7 +3,7 @@
 /// What of a message or of a part is meant (RFC 3501, section 9: section-msgtext, section-text).
 #[derive(Clone, Copy, Debug, PartialEq, Eq)]
 pub enum MessageSection {
-    /// `HEADER`, and its `.FIELDS` and `.FIELDS.NOT`.
+    /// `HEADER`, `HEADER.FIELDS` or `HEADER.FIELDS.NOT`: they are not told apart, and the names of fields are not kept.
     Header,
     /// `MIME`
     Mime,

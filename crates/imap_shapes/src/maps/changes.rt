@@ -23,7 +23,9 @@ pub struct Owning<'b> {
 
 impl<'b> Owning<'b> {
     /// The change that makes each text owned. No memory.
-    pub fn new(alloc: Global) -> Owning<'b> {
+    pub fn new(alloc: Global) -> Owning<'b>
+        ensures { result.alloc ≡ alloc }
+    {
         Owning {
             alloc,
             target: PhantomData,

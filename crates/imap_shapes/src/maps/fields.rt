@@ -1,7 +1,7 @@
 //! Maps of parameters, encodings and fields.
 
-ghost use Rattle.std.specs.Prelude.{◌≡◌, IfOk, map};
-ghost use Rattle.imap_shapes.specs.FieldValues.{pair_seen, params_seen, encoding_seen, fields_seen};
+ghost use Rattle.std.specs.Prelude.{◌≡◌, IfOk, IsOk, map};
+ghost use Rattle.imap_shapes.specs.FieldValues.{pair_seen, params_seen, encoding_seen, fields_seen, HoldsNone};
 
 use super::change::Change;
 use super::parts::mapped_optional_text;
@@ -38,10 +38,11 @@ pub(crate) fn mapped_params<S, C: Change<S>>(
 }
 
 impl<S> ContentEncoding<S> {
-    /// The same encoding with its text changed.
+    /// The same encoding with its text changed. It takes memory only for a text.
     pub(crate) fn try_map<C: Change<S>>(&self, c: &C) -> Result<ContentEncoding<C::To>, AllocError>
-        ensures { IfOk result (λ e.
+        ensures changed { IfOk result (λ e.
             encoding_seen C.after e ≡ encoding_seen (C.before c.now) self.now) }
+        ensures memory { HoldsNone self.now → IsOk result }
     {
         match self {
             ContentEncoding::SevenBit => Ok(ContentEncoding::SevenBit),

@@ -56,6 +56,36 @@ fn boxed_only<T: Drop>(alloc: Global, mut items: Vec<T>) -> Result<Box<T>, Alloc
     }
 }
 
+// A single part of a kind: what each has, moved out of what was read of it, and what this kind has more.
+macro_rules! single_part {
+    (
+        $kind:ident, $ty:ident, $subtype:ident, $fields:ident, $extension:ident
+        $(, $name:ident: $more:ident)*
+    ) => {
+        BodyStructure::$kind {
+            common: BodyContentCommon {
+                ty: ContentType {
+                    ty: $ty,
+                    subtype: $subtype,
+                    params: $fields.param,
+                },
+                disposition: $extension.disposition,
+                language: $extension.language,
+                location: $extension.location,
+            },
+            other: BodyContentSinglePart {
+                id: $fields.id,
+                md5: $extension.md5,
+                description: $fields.description,
+                transfer_encoding: $fields.transfer_encoding,
+                octets: $fields.octets,
+            },
+            $($name: $more,)*
+            extension: $extension.extension,
+        }
+    };
+}
+
 // A text (RFC 3501, section 9: body-type-text).
 #[tactic(auto, unfolding(crate::specs::Bodies::body_type_text))]
 fn body_type_text<K: Keep>(
@@ -80,27 +110,7 @@ fn body_type_text<K: Keep>(
     let (p, fields) = spaced_fields(keep, alloc, m, p)?;
     let (p, lines) = made!(spaced_number(m, p), fields);
     let (p, extension_data) = made!(body_ext_1part(keep, alloc, m, p), fields);
-    others.push_reserved(BodyStructure::Text {
-        common: BodyContentCommon {
-            ty: ContentType {
-                ty,
-                subtype,
-                params: fields.param,
-            },
-            disposition: extension_data.disposition,
-            language: extension_data.language,
-            location: extension_data.location,
-        },
-        other: BodyContentSinglePart {
-            id: fields.id,
-            md5: extension_data.md5,
-            description: fields.description,
-            transfer_encoding: fields.transfer_encoding,
-            octets: fields.octets,
-        },
-        lines,
-        extension: extension_data.extension,
-    });
+    others.push_reserved(single_part!(Text, ty, subtype, fields, extension_data, lines: lines));
     Ok(p)
 }
 
@@ -127,26 +137,7 @@ fn body_type_basic<K: Keep>(
     let subtype = keep.text(m, subtype)?;
     let (p, fields) = spaced_fields(keep, alloc, m, p)?;
     let (p, extension_data) = made!(body_ext_1part(keep, alloc, m, p), fields);
-    others.push_reserved(BodyStructure::Basic {
-        common: BodyContentCommon {
-            ty: ContentType {
-                ty,
-                subtype,
-                params: fields.param,
-            },
-            disposition: extension_data.disposition,
-            language: extension_data.language,
-            location: extension_data.location,
-        },
-        other: BodyContentSinglePart {
-            id: fields.id,
-            md5: extension_data.md5,
-            description: fields.description,
-            transfer_encoding: fields.transfer_encoding,
-            octets: fields.octets,
-        },
-        extension: extension_data.extension,
-    });
+    others.push_reserved(single_part!(Basic, ty, subtype, fields, extension_data));
     Ok(p)
 }
 
@@ -312,29 +303,9 @@ fn body_type_msg<K: Keep>(
     let (p, inner) = made!(spaced_body(keep, alloc, level, m, p), envelope, fields);
     let (p, lines) = made!(spaced_number(m, p), inner, envelope, fields);
     let (p, extension_data) = made!(body_ext_1part(keep, alloc, m, p), inner, envelope, fields);
-    others.push_reserved(BodyStructure::Message {
-        common: BodyContentCommon {
-            ty: ContentType {
-                ty,
-                subtype,
-                params: fields.param,
-            },
-            disposition: extension_data.disposition,
-            language: extension_data.language,
-            location: extension_data.location,
-        },
-        other: BodyContentSinglePart {
-            id: fields.id,
-            md5: extension_data.md5,
-            description: fields.description,
-            transfer_encoding: fields.transfer_encoding,
-            octets: fields.octets,
-        },
-        envelope,
-        body: inner,
-        lines,
-        extension: extension_data.extension,
-    });
+    others.push_reserved(single_part!(
+        Message, ty, subtype, fields, extension_data, envelope: envelope, body: inner, lines: lines
+    ));
     Ok(p)
 }
 

@@ -1,13 +1,16 @@
-use Rattle.std.proofs.Common.{rules, ◌≡◌, ◌∙◌, sym, subst, Err, Fits, w8, get_or}
+use Rattle.std.proofs.Common.{rules, ◌≡◌, ◌⊎◌, ◌∙◌, sym, subst, inl, inr, Err, Fits, w8, get_or}
 use Rattle.imap_grammar.specs.declared.answer.Err.TheVariants.{Error}
 use Rattle.imap_grammar.specs.Answer.{Gives}
 use Rattle.imap_grammar.specs.Step.{step}
-use Rattle.imap_grammar.proofs.Memory.{same_kind, none_of_kind, none_yielded}
-use Rattle.imap_proto.specs.Lines.{response, tagged, fetched_line, vanished_line, quota_line, annotation_line, enabled_line, capability_line, acl_line}
+use Rattle.imap_grammar.specs.Memory.{BeginsWord, StartsWith}
+use Rattle.imap_grammar.proofs.Memory.{same_kind, none_of_kind, none_yielded, exactly_fails}
+use Rattle.imap_items.specs.Statuses.{status}
+use Rattle.imap_data.specs.MailboxData.{BeginsListDatum}
+use Rattle.imap_proto.specs.Lines.{response, tagged, count_line, fetched_line, vanished_line, quota_line, annotation_line, enabled_line, capability_line, acl_line, mailbox_line, list_line}
 use Rattle.imap_proto.specs.Memory.{TakesNone}
 use Rattle.imap_proto.specs.Responses.{response_value}
-use Rattle.imap_proto.proofs.FirstBytes.{response_star, response_other, datum_of_number, datum_of_vanished, datum_of_quota, datum_of_annotation, datum_of_enabled, datum_of_capability, datum_of_acl, datum_other}
-use Rattle.imap_proto.proofs.Memory.{tagged_other, fetched_other, vanished_other, quota_other, annotation_other, enabled_other, capability_other, acl_other}
+use Rattle.imap_proto.proofs.FirstBytes.{response_star, response_other, datum_of_number, datum_of_vanished, datum_of_quota, datum_of_annotation, datum_of_enabled, datum_of_capability, datum_of_acl, datum_of_mailbox, datum_of_list, datum_other}
+use Rattle.imap_proto.proofs.Memory.{tagged_other, fetched_other, vanished_other, quota_other, annotation_other, enabled_other, capability_other, acl_other, wants_datum, wants_fetched, quota_root_begins}
 use Rattle.imap_proto.proofs.Numbered.{number_stopped, number_and_fetch}
 use Rattle.imap_proto.proofs.Starred.{starred, moved, first_byte}
 use Rattle.imap_proto.proofs.lines.response.Goals as goal
@@ -19,7 +22,7 @@ pub returns-in-Some-eq102-second-clause-steps : goal.returns-in-Some-eq102-secon
 returns-in-Some-eq102-second-clause-steps c =
     let fits : Fits w8 (get_or c.in-Ok.rest.now 0 0) = first_byte _ _ _ c.in-Ok.ensures.steps c.type_inv.i in
     let same : step response c.args.i.now ≡ step (fetched_line c.in-Ok-number.n) c.in-Ok-number.rest.now = starred _ _ _ (response_star _ (search rules)) c.in-Ok.ensures.steps ∙ datum_of_number _ (search (rules, fits)) (search rules) ∙ number_and_fetch _ _ _ c.in-Ok-number.ensures.steps (search rules) in
-    subst (Gives response_value c.fetched_line.result) (sym same) c.fetched_line.ensures
+    subst (Gives response_value c.fetched_line.result) (sym same) c.fetched_line.ensures.steps
 
 pub returns-in-Some-eq102-second-clause-memory : goal.returns-in-Some-eq102-second-clause-memory
 returns-in-Some-eq102-second-clause-memory c =
@@ -66,3 +69,49 @@ returns-in-Some-eq99-clause-memory c =
 pub returns-in-Some-eq97-clause-memory : goal.returns-in-Some-eq97-clause-memory
 returns-in-Some-eq97-clause-memory c =
     moved TakesNone response acl_line _ _ _ (starred _ _ _ (response_star _ (search rules)) c.in-Ok.ensures.steps ∙ datum_of_acl _ (search rules)) (none_of_kind TakesNone acl_line _ _ acl_other)
+
+pub returns-in-Some-eq108-clause-memory : goal.returns-in-Some-eq108-clause-memory
+returns-in-Some-eq108-clause-memory c =
+    moved TakesNone response list_line _ _ _ (starred _ _ _ (response_star _ (search rules)) c.in-Ok.ensures.steps ∙ datum_of_list _ (search rules)) c.list_line.ensures.memory
+
+pub returns-in-Some-eq102-clause-memory : goal.returns-in-Some-eq102-clause-memory
+returns-in-Some-eq102-clause-memory c =
+    moved TakesNone response mailbox_line _ _ _ (starred _ _ _ (response_star _ (search rules)) c.in-Ok.ensures.steps ∙ datum_of_mailbox _ (search rules)) c.mailbox_line.ensures.memory
+
+-- ---- behind what memory may be wanted
+
+pub returns-in-Some-eq111-clause-failure : goal.returns-in-Some-eq111-clause-failure
+returns-in-Some-eq111-clause-failure c = wants_datum (StartsWith status) _ _ _ _ (λ r p. inl p) c.in-Ok.ensures.steps c.status_line.ensures.failure
+
+pub returns-in-Some-eq102-clause-failure : goal.returns-in-Some-eq102-clause-failure
+returns-in-Some-eq102-clause-failure c = wants_datum BeginsListDatum _ _ _ _ (λ r p. inr (inr (inl (inl p)))) c.in-Ok.ensures.steps c.mailbox_line.ensures.failure
+
+pub returns-in-Some-eq108-clause-failure : goal.returns-in-Some-eq108-clause-failure
+returns-in-Some-eq108-clause-failure c = wants_datum (λ r. (BeginsWord "LIST " r ⊎ BeginsWord "LSUB " r) ⊎ BeginsWord "LISTRIGHTS" r) _ _ _ _ (λ r p. elim p [ inl q ↦ elim q [ inl b ↦ inr (inr (inl (inl (inr (inl b))))) | inr b ↦ inr (inr (inl (inl (inr (inr (inl b)))))) ] | inr b ↦ inr (inr (inr (inr (inr (inr (inr (inr (inr (inl b))))))))) ]) c.in-Ok.ensures.steps c.list_line.ensures.failure
+
+pub returns-in-Some-eq99-clause-failure : goal.returns-in-Some-eq99-clause-failure
+returns-in-Some-eq99-clause-failure c = wants_datum (BeginsWord "CAPABILITY") _ _ _ _ (λ r p. inr (inr (inr (inl p)))) c.in-Ok.ensures.steps c.capability_line.ensures.failure
+
+pub returns-in-Some-eq101-clause-failure : goal.returns-in-Some-eq101-clause-failure
+returns-in-Some-eq101-clause-failure c = wants_datum (BeginsWord "ENABLED") _ _ _ _ (λ r p. inr (inr (inr (inr (inl p))))) c.in-Ok.ensures.steps c.enabled_line.ensures.failure
+
+pub returns-in-Some-eq109-clause-failure : goal.returns-in-Some-eq109-clause-failure
+returns-in-Some-eq109-clause-failure c = wants_datum (λ r. BeginsWord "METADATA " r ⊎ BeginsWord "MYRIGHTS" r) _ _ _ _ (λ r p. elim p [ inl b ↦ inr (inr (inl (inr b))) | inr b ↦ inr (inr (inr (inr (inr (inr (inr (inr (inr (inr b))))))))) ]) c.in-Ok.ensures.steps c.annotation_line.ensures.failure
+
+pub returns-in-Some-eq118-clause-failure : goal.returns-in-Some-eq118-clause-failure
+returns-in-Some-eq118-clause-failure c = wants_datum (BeginsWord "VANISHED") _ _ _ _ (λ r p. inr (inr (inr (inr (inr (inl p)))))) c.in-Ok.ensures.steps c.vanished_line.ensures.failure
+
+pub returns-in-Some-eq113-clause-failure : goal.returns-in-Some-eq113-clause-failure
+returns-in-Some-eq113-clause-failure c = wants_datum (λ r. BeginsWord "QUOTA" r ⊎ BeginsWord "QUOTAROOT" r) _ _ _ _ (λ r p. elim p [ inl b ↦ inr (inr (inr (inr (inr (inr (inl b)))))) | inr b ↦ inr (inr (inr (inr (inr (inr (inl (quota_root_begins r b))))))) ]) c.in-Ok.ensures.steps c.quota_line.ensures.failure
+
+pub returns-in-Some-eq105-clause-failure : goal.returns-in-Some-eq105-clause-failure
+returns-in-Some-eq105-clause-failure c = wants_datum (BeginsWord "ID") _ _ _ _ (λ r p. inr (inr (inr (inr (inr (inr (inr (inl p)))))))) c.in-Ok.ensures.steps c.id_line.ensures.failure
+
+pub returns-in-Some-eq97-clause-failure : goal.returns-in-Some-eq97-clause-failure
+returns-in-Some-eq97-clause-failure c = wants_datum (BeginsWord "ACL") _ _ _ _ (λ r p. inr (inr (inr (inr (inr (inr (inr (inr (inl p))))))))) c.in-Ok.ensures.steps c.acl_line.ensures.failure
+
+pub returns-in-Some-eq102-second-clause-failure : goal.returns-in-Some-eq102-second-clause-failure
+returns-in-Some-eq102-second-clause-failure c = wants_fetched _ _ _ _ _ _ c.in-Ok.ensures.steps c.in-Ok-number.ensures.steps c.fetched_line.ensures.failure
+
+pub returns-in_default-clause-failure : goal.returns-in_default-clause-failure
+returns-in_default-clause-failure c = exactly_fails _ response_value (count_line c.in-Ok-number.n) c.in-Ok-number.rest.now c.count_line.result c.count_line.ensures

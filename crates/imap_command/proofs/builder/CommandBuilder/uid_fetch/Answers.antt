@@ -1,4 +1,5 @@
+use Rattle.std.proofs.Common.{refl}
 use Rattle.imap_command.proofs.builder.CommandBuilder.uid_fetch.Goals as goal
 
 pub returns : goal.returns
-returns c = rw (c.with_text.ensures) c.in_ok-args.ensures.items
+returns c = record { leads = refl; text = rw (c.with_text.ensures) c.in_ok-args.ensures.items }

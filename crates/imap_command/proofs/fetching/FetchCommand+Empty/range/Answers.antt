@@ -4,5 +4,6 @@ use Rattle.imap_command.proofs.fetching.FetchCommand+Empty.range.Goals as goal
 pub returns : goal.returns
 returns c = record {
   in_range = (omega arith, omega arith);
+  leads = refl;
   text = λ calls at was. rw (c.with_text.ensures, c.in_ok-push_range.ensures, at, c.self.view_is, was) refl;
 }

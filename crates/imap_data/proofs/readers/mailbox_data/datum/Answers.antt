@@ -1,7 +1,7 @@
-use Rattle.std.proofs.Common.{rules}
-use Rattle.imap_grammar.proofs.Memory.{same_kind, none_of_kind, fails_apart}
+use Rattle.std.proofs.Common.{rules, inr}
+use Rattle.imap_grammar.proofs.Memory.{same_kind, none_of_kind, fails_apart, exactly_fails, wider}
 use Rattle.imap_data.specs.DatumValues.{datum_value, IsNumber}
-use Rattle.imap_data.specs.MailboxData.{mailbox_datum, flags, list_or_lsub, datum_of_s, datum_of_x}
+use Rattle.imap_data.specs.MailboxData.{mailbox_datum, flags, list_or_lsub, datum_of_s, datum_of_x, datum_of_number}
 use Rattle.imap_data.proofs.FirstBytes.{datum_is_flags, datum_is_list_or_lsub, datum_is_of_s, datum_is_of_x}
 use Rattle.imap_data.proofs.NumberData.{flags_other, list_or_lsub_other, of_s_other, labels_other}
 use Rattle.imap_data.proofs.readers.mailbox_data.datum.Goals as goal
@@ -19,3 +19,9 @@ pub returns-in-Some-eq120-clause-memory : goal.returns-in-Some-eq120-clause-memo
 returns-in-Some-eq120-clause-memory c =
     let x = c.datum_of_x.ensures in
     same_kind IsNumber mailbox_datum datum_of_x _ _ (datum_is_of_x _ (search rules)) (fails_apart _ IsNumber datum_value datum_of_x _ _ x.steps x.memory (λ v rest is k b. labels_other v _ rest b is k))
+
+pub returns-in-Some-eq115-clause-worded : goal.returns-in-Some-eq115-clause-worded
+returns-in-Some-eq115-clause-worded c = wider _ _ c.datum_of_s.result (λ h. inr (inr (inr (inr h)))) c.datum_of_s.ensures.memory
+
+pub returns-in-Some-clause-worded : goal.returns-in-Some-clause-worded
+returns-in-Some-clause-worded c = exactly_fails _ datum_value datum_of_number _ _ c.datum_of_number.ensures

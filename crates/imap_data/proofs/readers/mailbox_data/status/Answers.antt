@@ -1,8 +1,22 @@
-use Rattle.std.proofs.Common.{refl}
+use Rattle.std.proofs.Common.{rules, refl}
+use Rattle.imap_grammar.specs.Tags.{word}
+use Rattle.imap_grammar.proofs.Memory.{part_failed, holds_already, begins_word}
 use Rattle.imap_data.specs.MailboxData.{status}
 use Rattle.imap_data.proofs.readers.mailbox_data.status.Goals as goal
 
-pub returns : goal.returns
+pub returns-clause-steps : goal.returns-clause-steps
 unfolding status
-returns c =
+returns-clause-steps c =
     rw (c.in_ok-rest.ensures.steps, c.in_ok-rest-2.ensures.steps, c.in_ok-rest-3.ensures.steps, c.in_ok-rest-4.ensures) refl
+
+pub returns-in_err-rest-clause-memory : goal.returns-in_err-rest-clause-memory
+returns-in_err-rest-clause-memory c = part_failed _ (word "STATUS ") _ c.in_err-rest.field-0.0 _ (search rules) c.in_err-rest.ensures.steps
+
+pub returns-in_err-rest-2-clause-memory : goal.returns-in_err-rest-2-clause-memory
+returns-in_err-rest-2-clause-memory c = holds_already _ c.from_residual-in_err-rest-2.result (begins_word "STATUS " _ _ _ c.in_ok-rest.ensures.steps)
+
+pub returns-in_err-rest-3-clause-memory : goal.returns-in_err-rest-3-clause-memory
+returns-in_err-rest-3-clause-memory c = holds_already _ c.from_residual-in_err-rest-3.result (begins_word "STATUS " _ _ _ c.in_ok-rest.ensures.steps)
+
+pub returns-in_err-rest-4-clause-memory : goal.returns-in_err-rest-4-clause-memory
+returns-in_err-rest-4-clause-memory c = holds_already _ c.from_residual-in_err-rest-4.result (begins_word "STATUS " _ _ _ c.in_ok-rest.ensures.steps)

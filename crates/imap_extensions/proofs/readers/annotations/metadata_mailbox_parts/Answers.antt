@@ -1,12 +1,12 @@
-use Rattle.std.proofs.Common.{refl}
+use Rattle.std.proofs.Common.{rules, refl}
 use Rattle.std.proofs.lemmas.Result.{err_from_is_err_and}
 use Rattle.imap_grammar.proofs.Agreement.{stops}
-use Rattle.imap_grammar.proofs.Memory.{holds_already, begins_word}
 use Rattle.imap_extensions.specs.Annotations.{metadata_mailbox}
+use Rattle.imap_extensions.proofs.Annotations.{mailbox_fails}
 use Rattle.imap_extensions.proofs.readers.annotations.metadata_mailbox_parts.Goals as goal
 
 pub returns-in_err-rest-2-clause-memory : goal.returns-in_err-rest-2-clause-memory
-returns-in_err-rest-2-clause-memory c = holds_already _ c.from_residual-in_err-rest-2.result (begins_word "METADATA " _ _ _ c.in_ok-rest.ensures.steps)
+returns-in_err-rest-2-clause-memory c = mailbox_fails _ _ _ c.in_err-rest-2.field-0.0 c.quoted_utf8.result _ (search rules) c.in_err-rest-2.was c.in_ok-rest.ensures.steps c.quoted_utf8.ensures.memory
 
 pub returns-in_err-rest-3-clause-steps : goal.returns-in_err-rest-3-clause-steps
 unfolding metadata_mailbox

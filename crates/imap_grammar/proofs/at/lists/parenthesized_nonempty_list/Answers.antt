@@ -1,10 +1,10 @@
-use Rattle.std.proofs.Common.{rules, inl, inr}
+use Rattle.std.proofs.Common.{rules, inl}
 use Rattle.imap_grammar.specs.contracts.at.lists.parenthesized_nonempty_list.F-Fn.{words}
 use Rattle.imap_grammar.specs.Rule.{meaning, ◌⨾◌}
 use Rattle.imap_grammar.specs.Tags.{tag, sp, blanks0}
 use Rattle.imap_grammar.specs.Lists.{list1_means}
 use Rattle.imap_grammar.specs.PositionLists.{called_at}
-use Rattle.imap_grammar.proofs.Joins.{enclosed_yields, enclosed_unopened, enclosed_fails, enclosed_unclosed, both_read, first_failed, second_failed}
+use Rattle.imap_grammar.proofs.Joins.{enclosed_yields, enclosed_unopened, enclosed_stops, enclosed_unclosed, both_read, first_failed, second_failed}
 use Rattle.imap_grammar.proofs.PositionJoins.{stopped_at, told_at, fault_at}
 use Rattle.imap_grammar.proofs.at.lists.parenthesized_nonempty_list.Goals as goal
 
@@ -14,7 +14,7 @@ returns-in_err-p-clause-follows g c = stopped_at c.in_err-p.field-0.0 (search ru
 pub returns-in_err-p-2-clause-follows : goal.returns-in_err-p-2-clause-follows
 returns-in_err-p-2-clause-follows g c =
     stopped_at c.in_err-p-2.field-0.0 (search rules)
-    (elim (fault_at _ c.separated.ensures.follows c.in_err-p-2.was) [ inl f ↦ inl (enclosed_fails (blanks0 ⨾ tag ")") (list1_means (meaning sp) (called_at c.args.m.now ((words g.row.O g.row.F g.F.Fn).post c.args.f))) _ _ _ _ c.in_ok-p.ensures.steps f) | inr e ↦ inr e.0 ])
+    (enclosed_stops (blanks0 ⨾ tag ")") (called_at c.args.m.now ((words g.row.O g.row.F g.F.Fn).post c.args.f)) (list1_means (meaning sp) (called_at c.args.m.now ((words g.row.O g.row.F g.F.Fn).post c.args.f))) _ _ _ _ c.in_ok-p.ensures.steps (fault_at _ c.separated.ensures.follows c.in_err-p-2.was))
 
 pub returns-in_err-p-3-clause-follows : goal.returns-in_err-p-3-clause-follows
 returns-in_err-p-3-clause-follows g c =

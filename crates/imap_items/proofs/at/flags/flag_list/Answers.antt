@@ -1,5 +1,5 @@
 use Rattle.imap_grammar.proofs.Agreement.{answered_at}
-use Rattle.imap_grammar.proofs.PositionUnder.{listed_at, advances_at, exact_at}
+use Rattle.imap_grammar.proofs.PositionUnder.{listed_at, listed_fails_at, advances_at, exact_at}
 use Rattle.imap_grammar.proofs.PositionItems.{inside_ahead, listed_inside}
 use Rattle.imap_items.specs.Flags.{flag_text, flag_list}
 use Rattle.imap_items.specs.Spanned.{decoded_in}
@@ -18,3 +18,6 @@ returns-clause-answer c = answered_at _ _ _ _ _ (returns-clause-steps c)
 
 pub returns-clause-inside : goal.returns-clause-inside
 returns-clause-inside c = listed_inside _ c.parenthesized_list.ensures.follows c.requires (advances_at (decoded_in c.args.m.now) flag_text (λ k r le h. exact_at _ _ _ r h.0) (λ k r le h. inside_ahead _ _ r h.1) flag_text_takes) (λ k r le h. h.1)
+
+pub returns-clause-memory : goal.returns-clause-memory
+returns-clause-memory c = listed_fails_at (decoded_in c.args.m.now) flag_text _ c.parenthesized_list.ensures.follows (λ k r le h. h.0)

@@ -1,8 +1,8 @@
 use Rattle.std.proofs.Common.{rules, refl}
 use Rattle.imap_grammar.specs.Text.{text_of}
 use Rattle.imap_grammar.proofs.Agreement.{answered}
-use Rattle.imap_grammar.proofs.Under.{shorter_ends, exactly_at}
-use Rattle.imap_grammar.proofs.Callers.{listed}
+use Rattle.imap_grammar.proofs.Under.{shorter_ends, exactly_at, exact_still}
+use Rattle.imap_grammar.proofs.Callers.{listed, listed_fails}
 use Rattle.imap_items.proofs.Takes.{flag_text_takes}
 use Rattle.imap_items.specs.Flags.{flag_text, flag_list}
 use Rattle.imap_items.proofs.readers.flags.flag_list.Goals as goal
@@ -16,3 +16,6 @@ returns-clause-steps c = listed text_of flag_text c.parenthesized_list.ensures (
 
 pub returns-clause-answer : goal.returns-clause-answer
 returns-clause-answer c = answered _ _ _ _ (returns-clause-steps c)
+
+pub returns-clause-memory : goal.returns-clause-memory
+returns-clause-memory c = listed_fails text_of flag_text _ c.parenthesized_list.ensures (λ n r h. exact_still text_of flag_text r h.shows h.says.met.0)

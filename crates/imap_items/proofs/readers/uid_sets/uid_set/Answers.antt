@@ -1,9 +1,7 @@
-use Rattle.std.proofs.Common.{rules, refl, subst}
+use Rattle.std.proofs.Common.{rules, refl}
 use Rattle.imap_grammar.specs.declared.lists.Separator.TheVariants.{Comma}
-use Rattle.imap_grammar.specs.Step.{step}
-use Rattle.imap_grammar.specs.Answer.{Exactly}
 use Rattle.imap_grammar.proofs.Agreement.{answered}
-use Rattle.imap_grammar.proofs.Under.{shorter_ends, exactly_at}
+use Rattle.imap_grammar.proofs.Under.{shorter_ends, exactly_at, exact_still}
 use Rattle.imap_grammar.proofs.Callers.{separated_read, separated_fails}
 use Rattle.imap_items.proofs.Takes.{uid_set_member_takes}
 use Rattle.imap_items.specs.UidSets.{member_value, uid_set, uid_set_member}
@@ -25,4 +23,4 @@ returns-clause-ordered c = ordered_members c.separated.result c.args.i.now (retu
 
 pub returns-clause-memory : goal.returns-clause-memory
 returns-clause-memory c =
-    separated_fails Comma member_value uid_set_member _ c.separated.ensures (λ n r h. subst (λ j. Exactly member_value r (step uid_set_member j)) h.shows h.says.met)
+    separated_fails Comma member_value uid_set_member _ c.separated.ensures (λ n r h. exact_still member_value uid_set_member r h.shows h.says.met)

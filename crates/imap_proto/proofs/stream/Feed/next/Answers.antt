@@ -1,11 +1,11 @@
-use Rattle.std.proofs.Common.{◌≡◌, ◌-◌, length, arith, sym, ap, subst, ◌∙◌, drop, rules}
+use Rattle.std.proofs.Common.{◌≡◌, ◌-◌, length, arith, refl, sym, ap, subst, ◌∙◌, drop, rules}
 use Rattle.imap_grammar.specs.Meaning.{Denies}
 use Rattle.imap_grammar.specs.Rule.{meaning}
 use Rattle.imap_grammar.specs.declared.answer.Err.TheVariants.{Error}
 use Rattle.imap_grammar.proofs.Agreement.{agrees}
 use Rattle.imap_proto.specs.Lines.{response}
 use Rattle.imap_proto.specs.Streams.{Waiting, gave}
-use Rattle.imap_proto.specs.Feeds.{WaitsFor}
+use Rattle.imap_proto.specs.Feeds.{WaitsFor, FeedMayWant}
 use Rattle.imap_proto.proofs.Streams.{shorter}
 use Rattle.imap_proto.proofs.Feeds.{waits_for_size, waits_for_some, waiting, left_behind, gave_front}
 use Rattle.imap_proto.proofs.stream.Feed.next.Goals as goal
@@ -50,3 +50,6 @@ returns-in-Ok-clause-goes_on c = λ pieces vs f. let given = returns-in-Ok-claus
 
 pub returns-in-Err-Error-clause-kept : goal.returns-in-Err-Error-clause-kept
 returns-in-Err-Error-clause-kept c = search rules depth 2
+
+pub returns-in-Err-Failure-clause-denied : goal.returns-in-Err-Failure-clause-denied
+returns-in-Err-Failure-clause-denied c = subst FeedMayWant c.held.ensures ((rw c.in-Err-Failure.field-0-is at c.in-Err-Failure.ensures.failure) refl)

@@ -1,9 +1,10 @@
-use Rattle.std.proofs.Common.{arith}
+use Rattle.std.proofs.Common.{refl, arith}
 use Rattle.std.proofs.lemmas.Grind.{common_steps}
 use Rattle.imap_command.proofs.fetching.messages.FetchCommand+Messages.range_from.Goals as goal
 
 pub returns : goal.returns
 returns c = record {
   in_range = omega arith;
+  leads = refl;
   text = λ calls at was. grind (arith, common_steps);
 }

@@ -1,0 +1,23 @@
+use Rattle.std.proofs.Common.{refl}
+use Rattle.std.specs.Fmt.{digits}
+use Rattle.imap_vectors.proofs.canonical.texts_of_attributes.Goals as goal
+
+pub returns-clause-numbers : goal.returns-clause-numbers
+unfolding digits
+returns-clause-numbers c = refl
+
+pub returns-clause-texts : goal.returns-clause-texts
+unfolding digits
+returns-clause-texts c = refl
+
+pub returns-clause-a_section : goal.returns-clause-a_section
+unfolding digits
+returns-clause-a_section c = refl
+
+pub returns-clause-a_message : goal.returns-clause-a_message
+unfolding digits
+returns-clause-a_message c = refl
+
+pub returns-clause-a_multipart : goal.returns-clause-a_multipart
+unfolding digits
+returns-clause-a_multipart c = refl
