@@ -1,33 +1,28 @@
-//! Laws of the rules and types of this crate, as contracts of functions that do nothing.
+//! Laws of the rules of this crate, of `imap_items` and of `imap_extensions`, and of the types of this crate, as
+//! contracts of functions that do nothing. Those of the types of the other two are in their own `laws`.
 
 ghost use Rattle.imap_grammar.specs.Stable.{Stable};
-ghost use Rattle.imap_grammar.specs.Equality.{Tells, HashesAlike};
+ghost use Rattle.imap_grammar.specs.Equality.{Tells};
 ghost use Rattle.imap_grammar.specs.Copying.{CopiesFreely};
 ghost use Rattle.imap_items.specs.Statuses as statuses;
 ghost use Rattle.imap_items.specs.Flags as flags;
 ghost use Rattle.imap_items.specs.Capabilities as capabilities;
-ghost use Rattle.imap_items.specs.Capabilities.{capability_content};
 ghost use Rattle.imap_items.specs.UidSets as uid_sets;
-ghost use Rattle.imap_items.specs.UidSets.{member_value};
 ghost use Rattle.imap_data.specs.Codes as codes;
-ghost use Rattle.imap_data.specs.Codes.{code_content};
+ghost use Rattle.imap_data.specs.Codes.{CodeValue, code_content, lent_code};
 ghost use Rattle.imap_items.specs.Mailboxes as mailboxes;
 ghost use Rattle.imap_data.specs.Names as names;
 ghost use Rattle.imap_data.specs.Counts as counts;
 ghost use Rattle.imap_items.specs.Gmail as gmail;
 ghost use Rattle.imap_data.specs.MailboxData as mailbox_data;
 ghost use Rattle.imap_data.specs.Names.{NameAttributeValue, ListValue, attribute_content, list_content, lent_attribute, lent_list};
-ghost use Rattle.imap_data.specs.DatumValues.{datum_content};
+ghost use Rattle.imap_data.specs.DatumValues.{DatumValue, datum_content, lent_datum};
 ghost use Rattle.imap_extensions.specs.Annotations as annotations;
-ghost use Rattle.imap_extensions.specs.Annotations.{metadata_value};
 ghost use Rattle.imap_extensions.specs.Quotas as quotas;
 ghost use Rattle.imap_extensions.specs.Ids as ids;
 ghost use Rattle.imap_extensions.specs.Vanishings as vanishings;
-ghost use Rattle.imap_extensions.specs.Quotas.{quota_content, quota_resource_content, quota_resource_name_content, quota_root_content};
-ghost use Rattle.imap_extensions.specs.Ids.{id_content};
 ghost use Rattle.imap_items.specs.Rights as rights;
 ghost use Rattle.imap_extensions.specs.Acls as acls;
-ghost use Rattle.imap_extensions.specs.Acls.{acl_entry_content, acl_content, list_rights_content, my_rights_content};
 ghost use Rattle.imap_data.specs.Annotations as metadata;
 ghost use Rattle.std.specs.Prelude.{◌≡◌, map, option_map};
 ghost use Rattle.std.specs.List.{AllByRecursion};
@@ -40,8 +35,7 @@ ghost use Rattle.imap_items.specs.GmailTexts.{canonical_label_list, spells_label
 ghost use Rattle.imap_items.specs.CapabilityTexts.{canonical_capabilities, spells_capability_data, spells_enabled_data};
 ghost use Rattle.imap_items.specs.UidSetTexts.{canonical_uid_set, spells_uid_set};
 ghost use Rattle.imap_items.specs.MailboxTexts.{canonical_mailbox, spells_mailbox};
-ghost use Rattle.imap_data.specs.Codes.{CodeValue, lent_code};
-ghost use Rattle.imap_data.specs.DatumValues.{DatumValue, lent_datum};
+ghost use Rattle.imap_items.specs.RightTexts.{canonical_rights, spells_rights};
 ghost use Rattle.imap_extensions.specs.Quotas.{lent_quota, lent_quota_root};
 ghost use Rattle.imap_extensions.specs.Ids.{lent_id};
 ghost use Rattle.imap_extensions.specs.Acls.{lent_acl, lent_list_rights, lent_my_rights};
@@ -52,27 +46,24 @@ ghost use Rattle.imap_data.specs.MailboxDataTexts.{canonical_datum, spells_datum
 ghost use Rattle.imap_extensions.specs.QuotaTexts.{canonical_quota, spells_quota, canonical_quota_root, spells_quota_root};
 ghost use Rattle.imap_extensions.specs.IdTexts.{canonical_id, spells_id};
 ghost use Rattle.imap_extensions.specs.VanishingTexts.{canonical_vanished, spells_vanished};
+ghost use Rattle.imap_extensions.specs.AnnotationTexts.{canonical_metadata, canonical_annotations, canonical_entries, spells_metadata, spells_annotations, spells_entries};
 ghost use Rattle.imap_extensions.specs.AclTexts.{canonical_acl, spells_acl, canonical_list_rights, spells_list_rights, canonical_my_rights, spells_my_rights};
 
 use crate::types::codes::ResponseCode;
 use crate::types::counts::StatusAttribute;
 use crate::types::mailbox_data::MailboxDatum;
 use crate::types::names::{MailboxListData, NameAttribute};
-use imap_extensions::{
-    Acl, AclEntry, IdMap, ListRights, Metadata, MyRights, Quota, QuotaResource, QuotaResourceName,
-    QuotaRoot,
-};
 pub use imap_items::laws::conversions;
-use imap_items::{AclRight, Capability, Status, UidSetMember};
-use std::hash::Hash;
 
 /// Each rule has one answer. Bytes that are appended change neither a value nor a denial; and where n bytes are
 /// lacking, k appended ones (k < n) leave n - k lacking.
 #[tactic(auto, using(imap_grammar::proofs::Stability::is_stable))]
 pub fn stable()
     ensures status { Stable statuses.status }
+    ensures backslashed_text { Stable flags.backslashed_text }
     ensures flag { Stable flags.flag }
     ensures flag_perm { Stable flags.flag_perm }
+    ensures flag_text { Stable flags.flag_text }
     ensures flag_list { Stable flags.flag_list }
     ensures capability { Stable capabilities.capability }
     ensures capability_data { Stable capabilities.capability_data }
@@ -100,56 +91,27 @@ pub fn stable()
     ensures list_rights { Stable acls.list_rights }
     ensures my_rights { Stable acls.my_rights }
     ensures entry { Stable annotations.entry }
+    ensures metadata_mailbox { Stable annotations.metadata_mailbox }
+    ensures annotations { Stable annotations.annotations }
+    ensures entries { Stable annotations.entries }
     ensures metadata_solicited { Stable metadata.metadata_solicited }
     ensures metadata_unsolicited { Stable metadata.metadata_unsolicited }
 {}
 
 /// `==` tells whether two values say the same: texts by their bytes, whichever are borrowed.
-#[tactic(auto, using(imap_items::proofs::Capabilities::capability_tells, imap_items::proofs::UidSets::member_tells, crate::proofs::Codes::code_tells))]
+#[tactic(auto, using(crate::proofs::Codes::code_tells))]
 pub fn equality()
-    ensures status { Tells ⟦<Status as PartialEq>⟧.eq (λ s. s) }
-    ensures capability { Tells ⟦<Capability<'static> as PartialEq>⟧.eq capability_content }
-    ensures uid_set_member { Tells ⟦<UidSetMember as PartialEq>⟧.eq member_value }
     ensures response_code { Tells ⟦<ResponseCode<'static> as PartialEq>⟧.eq code_content }
     ensures name_attribute { Tells ⟦<NameAttribute<'static> as PartialEq>⟧.eq attribute_content }
     ensures list_data { Tells ⟦<MailboxListData<'static> as PartialEq>⟧.eq list_content }
     ensures status_item { Tells ⟦<StatusAttribute as PartialEq>⟧.eq (λ x. x) }
-    ensures metadata { Tells ⟦<Metadata as PartialEq>⟧.eq metadata_value }
     ensures mailbox_datum { Tells ⟦<MailboxDatum<'static> as PartialEq>⟧.eq datum_content }
-    ensures quota_resource_name { Tells ⟦<QuotaResourceName<'static> as PartialEq>⟧.eq
-        quota_resource_name_content }
-    ensures quota_resource { Tells ⟦<QuotaResource<'static> as PartialEq>⟧.eq
-        quota_resource_content }
-    ensures quota { Tells ⟦<Quota<'static> as PartialEq>⟧.eq quota_content }
-    ensures quota_root { Tells ⟦<QuotaRoot<'static> as PartialEq>⟧.eq quota_root_content }
-    ensures id_map { Tells ⟦<IdMap<'static> as PartialEq>⟧.eq id_content }
-    ensures acl_right { Tells ⟦<AclRight as PartialEq>⟧.eq (λ x. x) }
-    ensures acl_entry { Tells ⟦<AclEntry<'static> as PartialEq>⟧.eq acl_entry_content }
-    ensures acl { Tells ⟦<Acl<'static> as PartialEq>⟧.eq acl_content }
-    ensures list_rights { Tells ⟦<ListRights<'static> as PartialEq>⟧.eq list_rights_content }
-    ensures my_rights { Tells ⟦<MyRights<'static> as PartialEq>⟧.eq my_rights_content }
 {}
 
-/// A clone takes no memory, and is the same value.
+/// A clone of an item of STATUS takes no memory, and is the same value.
 pub fn cloning()
     ensures status_item { CopiesFreely ⟦<StatusAttribute as Clone>⟧.is_infallible
         ⟦<StatusAttribute as Clone>⟧.is_clone }
-    ensures acl_right { CopiesFreely ⟦<AclRight as Clone>⟧.is_infallible
-        ⟦<AclRight as Clone>⟧.is_clone }
-    ensures uid_set_member { CopiesFreely ⟦<UidSetMember as Clone>⟧.is_infallible
-        ⟦<UidSetMember as Clone>⟧.is_clone }
-{}
-
-/// Values that say the same hash alike.
-pub fn hashing()
-    ensures capability { HashesAlike ⟦<Capability<'static> as Hash>⟧.hash_input capability_content }
-    ensures quota_resource_name { HashesAlike ⟦<QuotaResourceName<'static> as Hash>⟧.hash_input
-        quota_resource_name_content }
-    ensures quota_resource { HashesAlike ⟦<QuotaResource<'static> as Hash>⟧.hash_input
-        quota_resource_content }
-    ensures quota { HashesAlike ⟦<Quota<'static> as Hash>⟧.hash_input quota_content }
-    ensures quota_root { HashesAlike ⟦<QuotaRoot<'static> as Hash>⟧.hash_input quota_root_content }
-    ensures acl_right { HashesAlike ⟦<AclRight as Hash>⟧.hash_input (λ x. x) }
 {}
 
 /// Each value that holds nothing is read from its text, each letter in either case, whatever follows that.
@@ -162,8 +124,7 @@ pub fn constants()
         resource_texts }
 {}
 
-/// An owned value says the same as the value that it was made from. Of those of `imap_items` and `imap_extensions` the
-/// laws of these say it.
+/// An owned value says the same as the value that it was made from.
 #[tactic(auto, using(crate::proofs::Owned::owned_code_says, crate::proofs::Owned::owned_attribute_says, crate::proofs::Owned::owned_list_says, crate::proofs::Owned::owned_datum_says))]
 pub fn owning()
     ensures response_code { (c : CodeValue) → lent_code (owned_code c) ≡ lent_code c }
@@ -221,10 +182,17 @@ pub fn read_back()
     ensures id { SpellsAndReadsBack ids.id (option_map lent_id) canonical_id spells_id Closes }
     ensures vanished { SpellsAndReadsBack vanishings.vanished as_is canonical_vanished
         spells_vanished Closes }
+    ensures metadata_mailbox { SpellsAndReadsBack annotations.metadata_mailbox lent_text
+        canonical_metadata spells_metadata Closes }
+    ensures annotations { SpellsAndReadsBack annotations.annotations as_is canonical_annotations
+        spells_annotations Closes }
+    ensures entries { SpellsAndReadsBack annotations.entries (map lent_text) canonical_entries
+        spells_entries Closes }
     ensures metadata_solicited { SpellsAndReadsBack metadata.metadata_solicited lent_datum
         canonical_datum spells_datum Closes }
     ensures metadata_unsolicited { SpellsAndReadsBack metadata.metadata_unsolicited lent_datum
         canonical_datum spells_datum Closes }
+    ensures rights { SpellsAndReadsBack rights.rights as_is canonical_rights spells_rights Closes }
     ensures acl { SpellsAndReadsBack acls.acl lent_acl canonical_acl spells_acl Closes }
     ensures list_rights { SpellsAndReadsBack acls.list_rights lent_list_rights canonical_list_rights
         spells_list_rights Closes }

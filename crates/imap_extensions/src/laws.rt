@@ -1,24 +1,11 @@
-//! Laws of the rules and types of this crate, as contracts of functions that do nothing.
+//! Laws of the types of this crate, as contracts of functions that do nothing. Those of its rules are in `imap_data`.
 
-ghost use Rattle.std.specs.Prelude.{◌≡◌, map, option_map};
-ghost use Rattle.imap_grammar.specs.Stable.{Stable};
+ghost use Rattle.std.specs.Prelude.{◌≡◌};
 ghost use Rattle.imap_grammar.specs.Equality.{Tells, HashesAlike};
-ghost use Rattle.imap_grammar.specs.Text.{lent_text};
-ghost use Rattle.imap_grammar.specs.ReadBack.{SpellsAndReadsBack, Closes, as_is};
-ghost use Rattle.imap_extensions.specs.Quotas as quotas;
 ghost use Rattle.imap_extensions.specs.Quotas.{QuotaResourceNameValue, QuotaResourceValue, QuotaValue, QuotaRootValue, quota_content, quota_resource_content, quota_resource_name_content, quota_root_content, lent_quota_resource_name, lent_quota_resource, lent_quota, lent_quota_root};
-ghost use Rattle.imap_extensions.specs.QuotaTexts.{canonical_quota, spells_quota, canonical_quota_root, spells_quota_root};
-ghost use Rattle.imap_extensions.specs.Ids as ids;
 ghost use Rattle.imap_extensions.specs.Ids.{IdValue, id_content, lent_id};
-ghost use Rattle.imap_extensions.specs.IdTexts.{canonical_id, spells_id};
-ghost use Rattle.imap_extensions.specs.Vanishings as vanishings;
-ghost use Rattle.imap_extensions.specs.VanishingTexts.{canonical_vanished, spells_vanished};
-ghost use Rattle.imap_extensions.specs.Acls as acls;
 ghost use Rattle.imap_extensions.specs.Acls.{AclEntryValue, AclValue, ListRightsValue, MyRightsValue, acl_entry_content, acl_content, list_rights_content, my_rights_content, lent_acl_entry, lent_acl, lent_list_rights, lent_my_rights};
-ghost use Rattle.imap_extensions.specs.AclTexts.{canonical_acl, spells_acl, canonical_list_rights, spells_list_rights, canonical_my_rights, spells_my_rights};
-ghost use Rattle.imap_extensions.specs.Annotations as annotations;
 ghost use Rattle.imap_extensions.specs.Annotations.{metadata_value};
-ghost use Rattle.imap_extensions.specs.AnnotationTexts.{canonical_metadata, canonical_annotations, canonical_entries, spells_metadata, spells_annotations, spells_entries};
 ghost use Rattle.imap_extensions.specs.Owned.{owned_quota_resource_name, owned_quota_resource, owned_quota, owned_quota_root, owned_id, owned_acl_entry, owned_acl, owned_list_rights, owned_my_rights};
 
 use crate::types::acls::{Acl, AclEntry, ListRights, MyRights};
@@ -26,26 +13,6 @@ use crate::types::annotations::Metadata;
 use crate::types::ids::IdMap;
 use crate::types::quotas::{Quota, QuotaResource, QuotaResourceName, QuotaRoot};
 use std::hash::Hash;
-
-/// Each rule has one answer. Bytes that are appended change neither a value nor a denial; and where n bytes are
-/// lacking, k appended ones (k < n) leave n - k lacking.
-#[tactic(auto, using(imap_grammar::proofs::Stability::is_stable))]
-pub fn stable()
-    ensures quota_resource { Stable quotas.quota_resource }
-    ensures quota { Stable quotas.quota }
-    ensures quota_root { Stable quotas.quota_root }
-    ensures id_pair { Stable ids.id_pair }
-    ensures id { Stable ids.id }
-    ensures vanished { Stable vanishings.vanished }
-    ensures acl_entry { Stable acls.acl_entry }
-    ensures acl { Stable acls.acl }
-    ensures list_rights { Stable acls.list_rights }
-    ensures my_rights { Stable acls.my_rights }
-    ensures entry { Stable annotations.entry }
-    ensures metadata_mailbox { Stable annotations.metadata_mailbox }
-    ensures annotations { Stable annotations.annotations }
-    ensures entries { Stable annotations.entries }
-{}
 
 /// `==` tells whether two values say the same: texts by their bytes, whichever are borrowed.
 pub fn equality()
@@ -111,27 +78,4 @@ pub fn lending()
         owned_list_rights (lent_list_rights r) ≡ owned_list_rights r }
     ensures my_rights { (r : MyRightsValue) →
         owned_my_rights (lent_my_rights r) ≡ owned_my_rights r }
-{}
-
-/// What each rule takes spells the value that it yields. On the canonical text of a value that it yields, the rule
-/// yields that value again, with all texts borrowed. What follows the text is left whole: any bytes that begin with `)`
-/// or CR. Excepted is a text too long to be written as a literal.
-pub fn read_back()
-    ensures quota { SpellsAndReadsBack quotas.quota lent_quota canonical_quota spells_quota Closes }
-    ensures quota_root { SpellsAndReadsBack quotas.quota_root lent_quota_root canonical_quota_root
-        spells_quota_root Closes }
-    ensures id { SpellsAndReadsBack ids.id (option_map lent_id) canonical_id spells_id Closes }
-    ensures vanished { SpellsAndReadsBack vanishings.vanished as_is canonical_vanished
-        spells_vanished Closes }
-    ensures acl { SpellsAndReadsBack acls.acl lent_acl canonical_acl spells_acl Closes }
-    ensures list_rights { SpellsAndReadsBack acls.list_rights lent_list_rights canonical_list_rights
-        spells_list_rights Closes }
-    ensures my_rights { SpellsAndReadsBack acls.my_rights lent_my_rights canonical_my_rights
-        spells_my_rights Closes }
-    ensures metadata_mailbox { SpellsAndReadsBack annotations.metadata_mailbox lent_text
-        canonical_metadata spells_metadata Closes }
-    ensures annotations { SpellsAndReadsBack annotations.annotations as_is canonical_annotations
-        spells_annotations Closes }
-    ensures entries { SpellsAndReadsBack annotations.entries (map lent_text) canonical_entries
-        spells_entries Closes }
 {}

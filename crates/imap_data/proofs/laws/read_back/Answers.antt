@@ -4,11 +4,13 @@ use Rattle.imap_items.proofs.GmailTexts.{keeps_label_list, keeps_msgid, keeps_th
 use Rattle.imap_items.proofs.CapabilityTexts.{keeps_capability_data, keeps_enabled_data}
 use Rattle.imap_items.proofs.UidSetTexts.{keeps_uid_set}
 use Rattle.imap_items.proofs.MailboxTexts.{keeps_mailbox}
+use Rattle.imap_items.proofs.RightTexts.{keeps_rights}
 use Rattle.imap_data.proofs.CodeTexts.{keeps_response_code}
 use Rattle.imap_data.proofs.MailboxDataTexts.{keeps_mailbox_datum, keeps_list_or_lsub}
 use Rattle.imap_extensions.proofs.QuotaTexts.{keeps_quota, keeps_quota_root}
 use Rattle.imap_extensions.proofs.IdTexts.{keeps_id}
 use Rattle.imap_extensions.proofs.VanishingTexts.{keeps_vanished}
+use Rattle.imap_extensions.proofs.AnnotationTexts.{keeps_metadata_mailbox, keeps_annotations, keeps_entries}
 use Rattle.imap_data.proofs.AnnotationTexts.{keeps_solicited, keeps_unsolicited}
 use Rattle.imap_extensions.proofs.AclTexts.{keeps_acl, keeps_my_rights}
 use Rattle.imap_extensions.proofs.OptionalRights.{keeps_list_rights}
@@ -68,11 +70,23 @@ returns-clause-id c = keeps_id
 pub returns-clause-vanished : goal.returns-clause-vanished
 returns-clause-vanished c = keeps_vanished
 
+pub returns-clause-metadata_mailbox : goal.returns-clause-metadata_mailbox
+returns-clause-metadata_mailbox c = keeps_metadata_mailbox
+
+pub returns-clause-annotations : goal.returns-clause-annotations
+returns-clause-annotations c = keeps_annotations
+
+pub returns-clause-entries : goal.returns-clause-entries
+returns-clause-entries c = keeps_entries
+
 pub returns-clause-metadata_solicited : goal.returns-clause-metadata_solicited
 returns-clause-metadata_solicited c = keeps_solicited
 
 pub returns-clause-metadata_unsolicited : goal.returns-clause-metadata_unsolicited
 returns-clause-metadata_unsolicited c = keeps_unsolicited
+
+pub returns-clause-rights : goal.returns-clause-rights
+returns-clause-rights c = keeps_rights
 
 pub returns-clause-acl : goal.returns-clause-acl
 returns-clause-acl c = keeps_acl
