@@ -113,11 +113,11 @@ append_uid_of (validity, uids) = AppendUid validity uids
 abbrev pub copy_uid_of : ℕ × (List MemberValue × List MemberValue) → CodeValue
 copy_uid_of (validity, (source, destination)) = CopyUid validity source destination
 
--- resp-code-apnd = "APPENDUID" SP nz-number SP append-uid, where a uid-set stands as append-uid
+-- resp-code-apnd = "APPENDUID" SP nz-number SP append-uid, where a uid-set stands as append-uid, and zero is read, too
 unfoldable pub append_uid : Rule CodeValue
 append_uid = gives append_uid_of (word "APPENDUID " ▹ number ⨾ sp ▹ uid_set)
 
--- resp-code-copy = "COPYUID" SP nz-number SP uid-set SP uid-set
+-- resp-code-copy = "COPYUID" SP nz-number SP uid-set SP uid-set, where zero is read, too
 unfoldable pub copy_uid : Rule CodeValue
 copy_uid = gives copy_uid_of (word "COPYUID " ▹ number ⨾ sp ▹ uid_set ⨾ sp ▹ uid_set)
 
@@ -171,7 +171,8 @@ basic_code =
     or names "TRYCREATE" TryCreate
 
 -- RFC 4551: resp-text-code =/ "HIGHESTMODSEQ" SP mod-sequence-value / "NOMODSEQ" / "MODIFIED" SP set, without the last
--- two; RFC 4315: resp-text-code =/ resp-code-apnd / resp-code-copy / "UIDNOTSTICKY"
+-- two, and zero is read as a mod-sequence-value, too; RFC 4315: resp-text-code =/ resp-code-apnd / resp-code-copy /
+-- "UIDNOTSTICKY"
 unfoldable pub uid_code : Rule CodeValue
 uid_code = highest_mod_seq or append_uid or copy_uid or names "UIDNOTSTICKY" UidNotSticky
 

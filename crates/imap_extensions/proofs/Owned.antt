@@ -1,5 +1,5 @@
--- An owned value says the same as the value that it was made from; and the owned form of a value doesn't depend on which
--- of its texts are borrowed.
+-- An owned value says the same as the value that it was made from; and the owned form of a value doesn't depend on
+-- which of its texts are borrowed.
 use Rattle.std.proofs.Common.{◌≡◌, List, [], ◌∷◌, Option, None, Some, refl, ap, ap₂, map}
 use Rattle.std.specs.Option.{option_map}
 use Rattle.imap_grammar.specs.Text.{Text, lent_text, owned_text}

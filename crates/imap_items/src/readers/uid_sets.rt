@@ -30,8 +30,11 @@ fn maybe_range_end(i: &[u8]) -> IResult<&[u8], Option<u32>>
     maybe!(range_end(i), i)
 }
 
+// A number, and the one behind a colon if there is one.
+type Ends = (u32, Option<u32>);
+
 #[tactic(auto, unfolding(crate::specs::UidSets::maybe_range))]
-fn maybe_range(i: &[u8]) -> IResult<&[u8], (u32, Option<u32>)>
+fn maybe_range(i: &[u8]) -> IResult<&[u8], Ends>
     ensures { StepsExactly sets.maybe_range (λ x. x) i.now result }
 {
     let (rest, first) = number(i)?;
