@@ -150,6 +150,18 @@ static SINGLE_PARTS: Rows = &[
         b"(\"message\" \"rfc822\" NIL NIL NIL \"7BIT\" 9)",
         r#"Basic { common: BodyContentCommon { ty: ContentType { ty: "message", subtype: "rfc822", params: None }, disposition: None, language: None, location: None }, other: BodyContentSinglePart { id: None, md5: None, description: None, transfer_encoding: SevenBit, octets: 9 }, extension: None }"#,
     ),
+    (
+        b"(\"\xff\" {1}\r\n\xff (\"\xff\" \"\xff\") {1}\r\n\xff {1}\r\n\xff \"\xff\" 0010 {1}\r\n\xff (\"\xff\" NIL) {1}\r\n\xff {1}\r\n\xff ({1}\r\n\xff 0))",
+        r#"Basic { common: BodyContentCommon { ty: ContentType { ty: "�", subtype: "�", params: Some([("�", "�")]) }, disposition: Some(ContentDisposition { ty: "�", params: None }), language: Some(["�"]), location: Some("�") }, other: BodyContentSinglePart { id: Some("�"), md5: Some("�"), description: Some("�"), transfer_encoding: Other("�"), octets: 10 }, extension: Some(List([Str(Some("�")), Num(0)])) }"#,
+    ),
+    (
+        b"({1}\r\na \"b\" (\"z\" \"1\" \"a\" \"2\" \"a\" \"2\") \"\xff\" \"\xff\" {1}\r\n\xff 4294967295 \"\xff\" ({1}\r\na ({1}\r\nb {1}\r\nc)) (\"\xff\" {2}\r\nen \"en\") \"\xff\" 004294967295)",
+        r#"Basic { common: BodyContentCommon { ty: ContentType { ty: "a", subtype: "b", params: Some([("z", "1"), ("a", "2"), ("a", "2")]) }, disposition: Some(ContentDisposition { ty: "a", params: Some([("b", "c")]) }), language: Some(["�", "en", "en"]), location: Some("�") }, other: BodyContentSinglePart { id: Some("�"), md5: Some("�"), description: Some("�"), transfer_encoding: Other("�"), octets: 4294967295 }, extension: Some(Num(4294967295)) }"#,
+    ),
+    (
+        b"(\"Text\" {1}\r\n\xff NIL NIL NIL NIL 0 004294967295)",
+        r#"Text { common: BodyContentCommon { ty: ContentType { ty: "TEXT", subtype: "�", params: None }, disposition: None, language: None, location: None }, other: BodyContentSinglePart { id: None, md5: None, description: None, transfer_encoding: SevenBit, octets: 0 }, lines: 4294967295, extension: None }"#,
+    ),
     (b"()", "Error"),
     (b"\"A\"", "Error"),
     (b"(\"A\" \"B\" NIL NIL NIL NIL x)", "Error"),
@@ -179,6 +191,14 @@ static MESSAGES_AND_MULTIPARTS: Rows = &[
     (
         b"((\"A\" \"B\" NIL NIL NIL NIL 1) \"M\" (\"d\" NIL) \"en\" 7)",
         r#"Multipart { common: BodyContentCommon { ty: ContentType { ty: "MULTIPART", subtype: "M", params: None }, disposition: Some(ContentDisposition { ty: "d", params: None }), language: Some(["en"]), location: None }, bodies: [Basic { common: BodyContentCommon { ty: ContentType { ty: "A", subtype: "B", params: None }, disposition: None, language: None, location: None }, other: BodyContentSinglePart { id: None, md5: None, description: None, transfer_encoding: SevenBit, octets: 1 }, extension: None }], extension: Some(Num(7)) }"#,
+    ),
+    (
+        b"(\"MESSAGE\" \"RFC822\" NIL NIL NIL NIL 9 (NIL NIL NIL NIL NIL NIL NIL NIL NIL NIL) (\"A\" \"B\" NIL NIL NIL NIL 1) 004294967295)",
+        r#"Message { common: BodyContentCommon { ty: ContentType { ty: "MESSAGE", subtype: "RFC822", params: None }, disposition: None, language: None, location: None }, other: BodyContentSinglePart { id: None, md5: None, description: None, transfer_encoding: SevenBit, octets: 9 }, envelope: Envelope { date: None, subject: None, from: None, sender: None, reply_to: None, to: None, cc: None, bcc: None, in_reply_to: None, message_id: None }, body: Basic { common: BodyContentCommon { ty: ContentType { ty: "A", subtype: "B", params: None }, disposition: None, language: None, location: None }, other: BodyContentSinglePart { id: None, md5: None, description: None, transfer_encoding: SevenBit, octets: 1 }, extension: None }, lines: 4294967295, extension: None }"#,
+    ),
+    (
+        b"((\"A\" \"B\" NIL NIL NIL NIL 1) {1}\r\n\xff)",
+        r#"Multipart { common: BodyContentCommon { ty: ContentType { ty: "MULTIPART", subtype: "�", params: None }, disposition: None, language: None, location: None }, bodies: [Basic { common: BodyContentCommon { ty: ContentType { ty: "A", subtype: "B", params: None }, disposition: None, language: None, location: None }, other: BodyContentSinglePart { id: None, md5: None, description: None, transfer_encoding: SevenBit, octets: 1 }, extension: None }], extension: None }"#,
     ),
     (b"((\"A\" \"B\" NIL NIL NIL NIL 1))", "Error"),
     (

@@ -95,6 +95,34 @@ static WITH_NUMBERS: Rows = &[
         b"+ [highestmodseq 6]\r\n",
         "Continue(Outcome { code: Some(HighestModSeq(6)), information: None })",
     ),
+    (
+        b"* OK [UIDNEXT 04294967295] Predicted next UID\r\n",
+        r#"Data { status: Ok, outcome: Outcome { code: Some(UidNext(4294967295)), information: Some("Predicted next UID") } }"#,
+    ),
+    (
+        b"* OK [UIDVALIDITY 04294967295] UIDs valid\r\n",
+        r#"Data { status: Ok, outcome: Outcome { code: Some(UidValidity(4294967295)), information: Some("UIDs valid") } }"#,
+    ),
+    (
+        b"* OK [UNSEEN 04294967295] First unseen\r\n",
+        r#"Data { status: Ok, outcome: Outcome { code: Some(Unseen(4294967295)), information: Some("First unseen") } }"#,
+    ),
+    (
+        b"* OK [HIGHESTMODSEQ 00]\r\n",
+        "Data { status: Ok, outcome: Outcome { code: Some(HighestModSeq(0)), information: None } }",
+    ),
+    (
+        b"* OK [METADATA LONGENTRIES 018446744073709551615]\r\n",
+        "Data { status: Ok, outcome: Outcome { code: Some(MetadataLongEntries(18446744073709551615)), information: None } }",
+    ),
+    (
+        b"* OK [METADATA LONGENTRIES 00]\r\n",
+        "Data { status: Ok, outcome: Outcome { code: Some(MetadataLongEntries(0)), information: None } }",
+    ),
+    (
+        b"* OK [METADATA MAXSIZE 00]\r\n",
+        "Data { status: Ok, outcome: Outcome { code: Some(MetadataMaxSize(0)), information: None } }",
+    ),
 ];
 
 static WITH_LISTS: Rows = &[
@@ -142,6 +170,26 @@ static WITH_LISTS: Rows = &[
         b"* OK [COPYUID 9 1:2,5 7] d\r\n",
         r#"Data { status: Ok, outcome: Outcome { code: Some(CopyUid(9, [UidRange(1..=2), Uid(5)], [Uid(7)])), information: Some("d") } }"#,
     ),
+    (
+        b"* OK [APPENDUID 04294967295 04294967295,0:04294967295]\r\n",
+        "Data { status: Ok, outcome: Outcome { code: Some(AppendUid(4294967295, [Uid(4294967295), UidRange(0..=4294967295)])), information: None } }",
+    ),
+    (
+        b"* OK [APPENDUID 0 5]\r\n",
+        "Data { status: Ok, outcome: Outcome { code: Some(AppendUid(0, [Uid(5)])), information: None } }",
+    ),
+    (
+        b"* OK [COPYUID 04294967295 3 4:2,9] Done\r\n",
+        r#"Data { status: Ok, outcome: Outcome { code: Some(CopyUid(4294967295, [Uid(3)], [UidRange(2..=4), Uid(9)])), information: Some("Done") } }"#,
+    ),
+    (
+        b"* NO [BADCHARSET (UTF-8 {1}\r\n\xff a]\xff \t )] x\r\n",
+        r#"Data { status: No, outcome: Outcome { code: Some(BadCharset(Some(["UTF-8", "�", "a]�"]))), information: Some("x") } }"#,
+    ),
+    (
+        b"* OK [PERMANENTFLAGS ()] No permanent flags permitted\r\n",
+        r#"Data { status: Ok, outcome: Outcome { code: Some(PermanentFlags([])), information: Some("No permanent flags permitted") } }"#,
+    ),
 ];
 
 // What is no code is text, in which a literal that was promised is still waited for.
@@ -158,6 +206,10 @@ static TEXT_IN_BRACKETS: Rows = &[
     (
         b"* OK [MAILBOXID (F1)] x\r\n",
         r#"Data { status: Ok, outcome: Outcome { code: None, information: Some("[MAILBOXID (F1)] x") } }"#,
+    ),
+    (
+        b"* NO [BADCHARSET ()] x\r\n",
+        r#"Data { status: No, outcome: Outcome { code: None, information: Some("[BADCHARSET ()] x") } }"#,
     ),
 ];
 
@@ -184,6 +236,14 @@ static CAPABILITIES: Rows = &[
     (
         b"* ENABLED IMAP4rev1x\r\n",
         r#"Capabilities([Atom("IMAP4rev1x")])"#,
+    ),
+    (
+        b"* CAPABILITY IMAP4rev1 LITERAL+ AUTH=\xc3\xa9+ \xc3\xa9 \r\n",
+        r#"Capabilities([Imap4rev1, Atom("LITERAL+"), Auth("é+"), Atom("é")])"#,
+    ),
+    (
+        b"* ENABLED \xc3\xa9+ CONDSTORE QRESYNC   \r\n",
+        r#"Capabilities([Atom("é+"), Atom("CONDSTORE"), Atom("QRESYNC")])"#,
     ),
 ];
 

@@ -16,6 +16,10 @@ static VANISHED: Rows = &[
         b"* vanished\t (earlier) \t9,0,7\r\n",
         "Vanished { earlier: true, uids: [9..=9, 0..=0, 7..=7] }",
     ),
+    (
+        b"* VANISHED 04294967295,0:04294967295,04294967295:0\r\n",
+        "Vanished { earlier: false, uids: [4294967295..=4294967295, 0..=4294967295, 4294967295..=0] }",
+    ),
     (b"* VANISHED", "Incomplete(Unknown)"),
     (b"* VANISHED (EARLY) 1\r\n", "Error"),
 ];
@@ -58,6 +62,14 @@ static QUOTAS: Rows = &[
         b"* quotaroot\t inbox \tb\t a c\r\n",
         r#"QuotaRoot(QuotaRoot { mailbox_name: "inbox", quota_root_names: ["b", "a", "c"] })"#,
     ),
+    (
+        b"* QUOTA {5}\r\nuser\xff (STORAGE 0512 18446744073709551615 MESSAGE 18446744073709551615 010 {1}\r\n\xff 1 2 a]\xff 3 4)\r\n",
+        r#"Quota(Quota { root_name: "user�", resources: [QuotaResource { name: Storage, usage: 512, limit: 18446744073709551615 }, QuotaResource { name: Message, usage: 18446744073709551615, limit: 10 }, QuotaResource { name: Atom("�"), usage: 1, limit: 2 }, QuotaResource { name: Atom("a]�"), usage: 3, limit: 4 }] })"#,
+    ),
+    (
+        b"* QUOTAROOT \"inbox\xff\" \"\xff\" a]\xff {1}\r\nb\r\n",
+        r#"QuotaRoot(QuotaRoot { mailbox_name: "inbox�", quota_root_names: ["�", "a]�", "b"] })"#,
+    ),
 ];
 
 static IDENTITIES: Rows = &[
@@ -71,6 +83,10 @@ static IDENTITIES: Rows = &[
     ),
     (b"* ID (\"a\" NIL)\r\n", "Id(Some({}))"),
     (b"* ID NIL\r\n", "Id(None)"),
+    (
+        b"* ID (\"\xfe\" \"1\" {1}\r\n\xff \"Cyrus \xc3\xa9\xff\")\r\n",
+        r#"Id(Some({"�": "Cyrus é�"}))"#,
+    ),
     (b"* I", "Incomplete(Unknown)"),
     (b"* ID (\"a\" \"1\"", "Incomplete(Unknown)"),
     (b"* ID ()\r\n", "Error"),
@@ -118,6 +134,22 @@ static RIGHTS: Rows = &[
         r#"Acl(Acl { mailbox: "x", acls: [AclEntry { identifier: "fred", rights: [Lookup] }, AclEntry { identifier: "y", rights: [Read] }] })"#,
     ),
     (b"* ACL x \t\r\n", r#"Acl(Acl { mailbox: "x", acls: [] })"#),
+    (
+        b"* ACL {5}\r\nInbox {2}\r\na\xff {2}\r\nlr b] \"\" \"c\" LL]\xff\r\n",
+        r#"Acl(Acl { mailbox: "INBOX", acls: [AclEntry { identifier: "a�", rights: [Lookup, Read] }, AclEntry { identifier: "b]", rights: [] }, AclEntry { identifier: "c", rights: [Custom('L'), Custom('L'), Custom(']'), Custom('�')] }] })"#,
+    ),
+    (
+        b"* LISTRIGHTS \"a]\" \"b\xff\" zLL] \"\" {3}\r\nlr\xff lz\r\n",
+        r#"ListRights(ListRights { mailbox: "a]", identifier: "b�", required: [Custom('z'), Custom('L'), Custom('L'), Custom(']')], optional: [Lookup, Read, Custom('�'), Lookup, Custom('z')] })"#,
+    ),
+    (
+        b"* MYRIGHTS \"x\" {4}\r\nllL\xff\r\n",
+        r#"MyRights(MyRights { mailbox: "x", rights: [Lookup, Lookup, Custom('L'), Custom('�')] })"#,
+    ),
+    (
+        b"* MYRIGHTS \"\" \"\"\r\n",
+        r#"MyRights(MyRights { mailbox: "", rights: [] })"#,
+    ),
     (b"* ACL", "Incomplete(Unknown)"),
     (b"* MYRIGHTS", "Incomplete(Unknown)"),
     (b"* MYRIGHTS x", "Incomplete(Unknown)"),

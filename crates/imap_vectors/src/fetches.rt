@@ -43,6 +43,14 @@ static FLAGS_AND_NUMBERS: Rows = &[
         r#"Fetch(1, [GmailLabels(["\\\\"])])"#,
     ),
     (b"* 1 FETCH (FLAGS (\xff))\r\n", "Fetch(1, [Unknown])"),
+    (
+        b"* 0070000 FETCH (UID 0070000 RFC822.SIZE 4294967295 MODSEQ (09007199254740993) X-GM-MSGID 018446744073709551615 X-GM-THRID 018446744073709551615)\r\n",
+        "Fetch(70000, [Uid(70000), Rfc822Size(4294967295), ModSeq(9007199254740993), GmailMsgId(18446744073709551615), GmailThrId(18446744073709551615)])",
+    ),
+    (
+        b"* 1 FETCH (EMAILID (M\xc3\xa9) EMAILID (\xff) THREADID (a]\xc3\xa9) THREADID (\xff) \xc3\xa9 1 FLAGS (\\\xc3\xa9+ $a+]\xc3\xa9 $b $b))\r\n",
+        r#"Fetch(1, [EmailId("Mé"), Unknown, ThreadId(Some("a]é")), Unknown, Unknown, Flags(["\\é+", "$a+]é", "$b", "$b"])])"#,
+    ),
 ];
 
 static TEXTS_AND_BYTES: Rows = &[
@@ -83,6 +91,14 @@ static TEXTS_AND_BYTES: Rows = &[
         b"* 2 FETCH (BODY[HEADER.FIELDS.NOT (\"DATE\")] {2}\r\nab UID 7)\r\n",
         "Fetch(2, [BodySection { section: Some(Full(Header)), index: None, contents: Some([97, 98]) }, Uid(7)])",
     ),
+    (
+        b"* 1 FETCH (RFC822 \"a\" RFC822.HEADER {1}\r\nb RFC822.TEXT {1}\r\nc INTERNALDATE {26}\r\n 7-Jul-1996 02:44:25 +0000 BODY[] \"e\")\r\n",
+        r#"Fetch(1, [Rfc822(Some([97])), Rfc822Header(Some([98])), Rfc822Text(Some([99])), InternalDate(" 7-Jul-1996 02:44:25 +0000"), BodySection { section: None, index: None, contents: Some([101]) }])"#,
+    ),
+    (
+        b"* 1 FETCH (BODY[4294967295.0070000.3.text]<4294967295> NIL body[1.mime]<007> NIL BODY[HEADER.FIELDS (a] \"b\" c )] NIL)\r\n",
+        "Fetch(1, [BodySection { section: Some(Part([4294967295, 70000, 3], Some(Text))), index: Some(4294967295), contents: None }, BodySection { section: Some(Part([1], Some(Mime))), index: Some(7), contents: None }, BodySection { section: Some(Full(Header)), index: None, contents: None }])",
+    ),
     (b"* 1 FETCH (BODY[3]<4294967296> NIL)\r\n", "Error"),
 ];
 
@@ -110,6 +126,10 @@ static STRUCTURES: Rows = &[
     (
         b"* 12 FETCH (ENVELOPE (\"d\" \"s\" ((\"T\" NIL \"gray\" \"cac\")) NIL NIL NIL NIL NIL NIL \"<i>\"))\r\n",
         "Fetch(12, [Envelope(Envelope { date: Some([100]), subject: Some([115]), from: Some([Address { name: Some([84]), adl: None, mailbox: Some([103, 114, 97, 121]), host: Some([99, 97, 99]) }]), sender: None, reply_to: None, to: None, cc: None, bcc: None, in_reply_to: None, message_id: Some([60, 105, 62]) })])",
+    ),
+    (
+        b"* 1 FETCH (bodystructure (\"A\" \"B\" NIL NIL NIL NIL 1))\r\n",
+        r#"Fetch(1, [BodyStructure(Basic { common: BodyContentCommon { ty: ContentType { ty: "A", subtype: "B", params: None }, disposition: None, language: None, location: None }, other: BodyContentSinglePart { id: None, md5: None, description: None, transfer_encoding: SevenBit, octets: 1 }, extension: None })])"#,
     ),
     (
         b"* 1 FETCH (BODY (\"TEXT\" \"PLAIN\" NIL NIL NIL \"7BIT\" 5 1))\r\n",

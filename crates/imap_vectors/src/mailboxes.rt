@@ -21,6 +21,10 @@ static NUMBERS: Rows = &[
     (b"* SEARCH 2 (MODSEQ 5)\r\n", "Error"),
     (b"* SORT 2 3 6\r\n", "MailboxData(Sort([2, 3, 6]))"),
     (b"* sort 6 2 3\r\n", "MailboxData(Sort([6, 2, 3]))"),
+    (
+        b"* SORT 04294967295 0\r\n",
+        "MailboxData(Sort([4294967295, 0]))",
+    ),
     (b"* ESEARCH (TAG \"A1\") UID ALL 1:3\r\n", "Error"),
 ];
 
@@ -44,6 +48,14 @@ static NAMES: Rows = &[
     (
         b"* list (\\NOINFERIORS \\NOSELECT \\ALL \\ARCHIVE \\DRAFTS \\FLAGGED \\JUNK \\SENT \\TRASH \\ ) NIL x\r\n",
         r#"MailboxData(List(MailboxListData { name_attributes: [NoInferiors, NoSelect, All, Archive, Drafts, Flagged, Junk, Sent, Trash, Extension("\\")], delimiter: None, name: "x" }))"#,
+    ),
+    (
+        b"* LIST (\\\xc3\xa9) \"\xff\" {5}\r\nInbox\r\n",
+        r#"MailboxData(List(MailboxListData { name_attributes: [Extension("\\é")], delimiter: Some("�"), name: "INBOX" }))"#,
+    ),
+    (
+        b"* LIST () \"/\" INBOX\r\n",
+        r#"MailboxData(List(MailboxListData { name_attributes: [], delimiter: Some("/"), name: "INBOX" }))"#,
     ),
     (b"* LIST (|Sent) \"/\" x\r\n", "Error"),
     (b"* LIST (\\All2) \"/\" x\r\n", "Error"),
@@ -69,6 +81,10 @@ static STATES: Rows = &[
     (
         b"* status a+b (highestmodseq 0 messages 0 recent 0 uidnext 0 uidvalidity 0 unseen 0 )\r\n",
         r#"MailboxData(Status { mailbox: "a+b", status: [HighestModSeq(0), Messages(0), Recent(0), UidNext(0), UidValidity(0), Unseen(0)] })"#,
+    ),
+    (
+        b"* STATUS a]\xff (HIGHESTMODSEQ 01 MESSAGES 4294967295 RECENT 04294967295 UIDNEXT 04294967295 UIDVALIDITY 04294967295 UNSEEN 04294967295 MESSAGES 007)\r\n",
+        r#"MailboxData(Status { mailbox: "a]�", status: [HighestModSeq(1), Messages(4294967295), Recent(4294967295), UidNext(4294967295), UidValidity(4294967295), Unseen(4294967295), Messages(7)] })"#,
     ),
     (b"* STATUS x (UNSEEN 1 SIZE 5)\r\n", "Error"),
     (b"* STATUS x (MAILBOXID (F1))\r\n", "Error"),
@@ -103,6 +119,10 @@ static FLAGS: Rows = &[
     (
         b"* X-GM-THRID 1266894439832287888\r\n",
         "MailboxData(GmailThrId(1266894439832287888))",
+    ),
+    (
+        b"* X-GM-LABELS (\\\xc3\xa9 a] \"\xff\")\r\n",
+        r#"MailboxData(GmailLabels(["\\é", "a]", "�"]))"#,
     ),
 ];
 
@@ -139,6 +159,10 @@ static ANNOTATIONS: Rows = &[
         b"* METADATA \"x\" ({18}\r\n/private/comment\r% NIL {20}\r\n/private/comment/a\r% NIL\t )\r\n",
         r#"MailboxData(MetadataSolicited { mailbox: "x", values: [Metadata { entry: "/private/comment\r%", value: None }, Metadata { entry: "/private/comment/a\r%", value: None }] })"#,
     ),
+    (
+        b"* METADATA \"x\" (/shared/comment/a] \" \xff\xc3\xa9A \" \"/shared/comment \xff\" \"b\")\r\n",
+        r#"MailboxData(MetadataSolicited { mailbox: "x", values: [Metadata { entry: "/shared/comment/a]", value: Some(" �éA ") }, Metadata { entry: "/shared/comment �", value: Some("b") }] })"#,
+    ),
     (b"* METADATA x /shared/comment\r\n", "Error"),
     (
         b"* METADATA \"x\" (\"/private/comment/a *\" NIL)\r\n",
@@ -168,6 +192,8 @@ static ANNOTATIONS: Rows = &[
     (b"* METADATA \"x\" (/Shared/comment NIL)\r\n", "Error"),
     (b"* METADATA \"x\" (/shared/commented NIL)\r\n", "Error"),
     (b"* METADATA \"x\" ()\r\n", "Error"),
+    (b"* METADATA \"x\" (\"/shared/vendor//a\" NIL)\r\n", "Error"),
+    (b"* METADATA \"x\" \"/shared/vendor x\"\r\n", "Error"),
 ];
 
 /// The tables of these lines.

@@ -20,6 +20,10 @@ static TAGGED: Rows = &[
         b"a1 no\r\n",
         r#"Done { tag: RequestId("a1"), status: No, outcome: Outcome { code: None, information: None } }"#,
     ),
+    (
+        b"!#$&',-./09:;<=>?@AZ[]^_`az|}~\x7f\xc3\xa9 NO\r\n",
+        r#"Done { tag: RequestId("!#$&',-./09:;<=>?@AZ[]^_`az|}~\u{7f}é"), status: No, outcome: Outcome { code: None, information: None } }"#,
+    ),
     (b"a+1 OK\r\n", "Error"),
     (b"a1 XX", "Error"),
     (b"\xff OK\r\n", "Error"),
@@ -70,8 +74,13 @@ static UNTAGGED: Rows = &[
         b"* OK \xe2\x82x\r\n",
         r#"Data { status: Ok, outcome: Outcome { code: None, information: Some("�x") } }"#,
     ),
+    (
+        b"* OK  \"a\\b\" {3} %*](\xc3\xa9\t\x01\x7f \r\n",
+        r#"Data { status: Ok, outcome: Outcome { code: None, information: Some(" \"a\\b\" {3} %*](é\t\u{1}\u{7f} ") } }"#,
+    ),
     (b"* OKAY\r\n", "Error"),
     (b"* X\r\n", "Error"),
+    (b"* OK a\0b\r\n", "Error"),
 ];
 
 /// The tables of these lines.
