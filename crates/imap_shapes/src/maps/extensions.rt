@@ -92,12 +92,32 @@ impl<S> BodyExt1Part<S> {
         ensures { IfOk result (λ x.
             ext_1part_seen C.after x ≡ ext_1part_seen (C.before c.now) self.now) }
     {
+        let md5 = made!(mapped_optional_text(c, &self.md5));
+        let disposition = made!(mapped_disposition(alloc, c, &self.disposition), md5);
+        let language = made!(
+            mapped_optional_texts(alloc, c, &self.language),
+            disposition,
+            md5
+        );
+        let location = made!(
+            mapped_optional_text(c, &self.location),
+            language,
+            disposition,
+            md5
+        );
+        let extension = made!(
+            mapped_extension(alloc, c, &self.extension),
+            location,
+            language,
+            disposition,
+            md5
+        );
         Ok(BodyExt1Part {
-            md5: mapped_optional_text(c, &self.md5)?,
-            disposition: mapped_disposition(alloc, c, &self.disposition)?,
-            language: mapped_optional_texts(alloc, c, &self.language)?,
-            location: mapped_optional_text(c, &self.location)?,
-            extension: mapped_extension(alloc, c, &self.extension)?,
+            md5,
+            disposition,
+            language,
+            location,
+            extension,
         })
     }
 }
@@ -113,12 +133,32 @@ impl<S> BodyExtMPart<S> {
         ensures { IfOk result (λ x.
             ext_mpart_seen C.after x ≡ ext_mpart_seen (C.before c.now) self.now) }
     {
+        let param = made!(mapped_params(alloc, c, &self.param));
+        let disposition = made!(mapped_disposition(alloc, c, &self.disposition), param);
+        let language = made!(
+            mapped_optional_texts(alloc, c, &self.language),
+            disposition,
+            param
+        );
+        let location = made!(
+            mapped_optional_text(c, &self.location),
+            language,
+            disposition,
+            param
+        );
+        let extension = made!(
+            mapped_extension(alloc, c, &self.extension),
+            location,
+            language,
+            disposition,
+            param
+        );
         Ok(BodyExtMPart {
-            param: mapped_params(alloc, c, &self.param)?,
-            disposition: mapped_disposition(alloc, c, &self.disposition)?,
-            language: mapped_optional_texts(alloc, c, &self.language)?,
-            location: mapped_optional_text(c, &self.location)?,
-            extension: mapped_extension(alloc, c, &self.extension)?,
+            param,
+            disposition,
+            language,
+            location,
+            extension,
         })
     }
 }
