@@ -10,9 +10,10 @@ use Rattle.imap_bytes.specs.Numbers.{number}
 use Rattle.imap_bytes.specs.Strings.{nil_or}
 use Rattle.imap_bytes.specs.Texts.{string_utf8, nstring_utf8}
 use Rattle.imap_shapes.specs.FieldValues.{ParamsValue}
-use Rattle.imap_shapes.specs.ExtensionValues.{DispositionValue, ExtensionValue, Num, Str, Listed, extensions_of, Ext1PartValue, ExtMPartValue}
+use Rattle.imap_shapes.specs.ExtensionValues.{DispositionValue, disposition_seen, languages_seen, ExtensionValue, Num, Str, Listed, extensions_of, extension_seen, Ext1PartValue, ExtMPartValue}
 use Rattle.imap_envelopes.specs.Envelopes.{spaced}
 use Rattle.imap_structure.specs.Fields.{body_fld_param}
+use Rattle.imap_structure.specs.declared.at.extensions.SharedFields.{SharedFields}
 
 -- ---- disposition and language
 
@@ -90,8 +91,12 @@ maybe_spaced a = opt_opt_of (spaced a)
 unfoldable pub last_extension : Rule (Option ExtensionValue)
 last_extension = opt (spaced body_extension)
 
+-- what both kinds of extension data end with: disposition, language, location and extension
+abbrev pub SharedValue : Type 0
+SharedValue = Option DispositionValue × (Option (List Text) × (Option Text × Option ExtensionValue))
+
 abbrev pub Ext : Type 0 → Type 0
-Ext A = A × (Option DispositionValue × (Option (List Text) × (Option Text × Option ExtensionValue)))
+Ext A = A × SharedValue
 
 abbrev pub ext_1part_of : Ext (Option Text) → Ext1PartValue
 ext_1part_of (md5, (disposition, (language, (location, extension)))) =
@@ -134,3 +139,19 @@ body_ext_mpart =
     ⨾ maybe_spaced body_fld_lang
     ⨾ maybe_spaced nstring_utf8
     ⨾ last_extension)
+
+-- The end of both, which has a reader of its own: [SP body-fld-dsp [SP body-fld-lang [SP body-fld-loc
+--     *(SP body-extension)]]]
+abbrev pub shared_fields : Rule SharedValue
+shared_fields =
+    maybe_spaced body_fld_dsp
+    ⨾ maybe_spaced body_fld_lang
+    ⨾ maybe_spaced nstring_utf8
+    ⨾ last_extension
+
+-- What these fields say, where f is what a text says.
+unfoldable pub shared_fields_seen : {S : Type 0} → (S → Text) → SharedFields S → SharedValue
+shared_fields_seen f x = (
+  option_map (disposition_seen f) x.disposition,
+  (languages_seen f x.language, (option_map f x.location, option_map (extension_seen f) x.extension)),
+)

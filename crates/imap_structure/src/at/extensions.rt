@@ -8,7 +8,7 @@ ghost use Rattle.imap_bytes.specs.Texts as texts;
 ghost use Rattle.imap_envelopes.specs.Envelopes.{spaced};
 ghost use Rattle.imap_structure.specs.Fields as fields;
 ghost use Rattle.imap_structure.specs.Extensions as extensions;
-ghost use Rattle.imap_structure.specs.Extensions.{maybe_spaced};
+ghost use Rattle.imap_structure.specs.Extensions.{maybe_spaced, shared_fields_seen};
 ghost use Rattle.imap_envelopes.specs.Spanned.{maybe_text_in};
 ghost use Rattle.imap_shapes.specs.FieldValues.{params_seen};
 ghost use Rattle.imap_shapes.specs.ExtensionValues.{disposition_seen, languages_seen, extension_seen, ext_1part_seen, ext_mpart_seen};
@@ -28,12 +28,22 @@ use imap_envelopes::at::texts::{
     nstring_text, spaced_nstring_text, spaced_string_text, string_text,
 };
 use imap_envelopes::kept::kept_text;
+use imap_shapes::made;
 use imap_shapes::shapes::extensions::{
     BodyExt1Part, BodyExtMPart, BodyExtension, ContentDisposition,
 };
 use imap_shapes::shapes::fields::BodyParams;
 use imap_shapes::spans::SpannedText;
 use std::alloc::{AllocError, Global};
+
+// What extension data of single parts and of multiparts ends with, as it is kept.
+#[derive(Drop)]
+struct SharedFields<S> {
+    disposition: Option<ContentDisposition<S>>,
+    language: Option<Vec<S>>,
+    location: Option<S>,
+    extension: Option<BodyExtension<S>>,
+}
 
 fn spaced_params<K: Keep>(
     keep: &K,
@@ -432,6 +442,44 @@ fn last_extension<K: Keep>(
     maybe!(spaced_extension(keep, alloc, MAX_EXTENSION_DEPTH, m, p), p)
 }
 
+// The fields that extension data of single parts and of multiparts ends with. A reader of their own, since one of all
+// fields takes longer to prove.
+#[tactic(auto, unfolding(crate::specs::Extensions::shared_fields_seen))]
+#[inline(always)]
+fn shared_fields<K: Keep>(
+    keep: &K,
+    alloc: Global,
+    m: &[u8],
+    p: usize,
+) -> Reached<SharedFields<K::Text>>
+    requires start { p ≤ length m.now }
+    requires serves { K.serves keep.now m.now }
+    ensures steps { StepsAt extensions.shared_fields
+        (shared_fields_seen (K.text_said (named_in m.now))) m.now p result }
+    ensures ahead { Ahead m.now p result }
+    ensures rests { RestsOn (λ n. shared_fields_seen (K.text_said n)) result }
+{
+    let (p, disposition) = maybe_disposition(keep, alloc, m, p)?;
+    let (p, language) = made!(maybe_languages(keep, alloc, m, p), disposition);
+    let (p, location) = made!(maybe_nstring_text(m, p), language, disposition);
+    let location = kept_text(keep, m, location)?;
+    let (p, extension) = made!(
+        last_extension(keep, alloc, m, p),
+        location,
+        language,
+        disposition
+    );
+    Ok((
+        p,
+        SharedFields {
+            disposition,
+            language,
+            location,
+            extension,
+        },
+    ))
+}
+
 /// Extension data of a single part (RFC 3501, section 9: body-ext-1part).
 ///
 /// A field that its rule denies counts as missing, with its space: nothing is read for it, and the next field is tried
@@ -451,18 +499,16 @@ pub fn body_ext_1part<K: Keep>(
     ensures rests { RestsOn (λ n. ext_1part_seen (K.text_said n)) result }
 {
     let (p, md5) = maybe_nstring_text(m, p)?;
-    let (p, disposition) = maybe_disposition(keep, alloc, m, p)?;
-    let (p, language) = maybe_languages(keep, alloc, m, p)?;
-    let (p, location) = maybe_nstring_text(m, p)?;
-    let (p, extension) = last_extension(keep, alloc, m, p)?;
+    let md5 = kept_text(keep, m, md5)?;
+    let (p, shared) = shared_fields(keep, alloc, m, p)?;
     Ok((
         p,
         BodyExt1Part {
-            md5: kept_text(keep, m, md5)?,
-            disposition,
-            language,
-            location: kept_text(keep, m, location)?,
-            extension,
+            md5,
+            disposition: shared.disposition,
+            language: shared.language,
+            location: shared.location,
+            extension: shared.extension,
         },
     ))
 }
@@ -486,18 +532,15 @@ pub fn body_ext_mpart<K: Keep>(
     ensures rests { RestsOn (λ n. ext_mpart_seen (K.text_said n)) result }
 {
     let (p, param) = maybe_params(keep, alloc, m, p)?;
-    let (p, disposition) = maybe_disposition(keep, alloc, m, p)?;
-    let (p, language) = maybe_languages(keep, alloc, m, p)?;
-    let (p, location) = maybe_nstring_text(m, p)?;
-    let (p, extension) = last_extension(keep, alloc, m, p)?;
+    let (p, shared) = shared_fields(keep, alloc, m, p)?;
     Ok((
         p,
         BodyExtMPart {
             param,
-            disposition,
-            language,
-            location: kept_text(keep, m, location)?,
-            extension,
+            disposition: shared.disposition,
+            language: shared.language,
+            location: shared.location,
+            extension: shared.extension,
         },
     ))
 }
