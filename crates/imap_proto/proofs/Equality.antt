@@ -34,11 +34,11 @@ use Rattle.imap_proto.specs.Responses.{ResponseValue, Capabilities, Continue, Do
 use Rattle.imap_proto.specs.Feeds.{lent_whole}
 use Rattle.imap_proto.specs.declared.response.Response.{Response}
 use Rattle.imap_proto.specs.declared.response.Response.TheVariants as variant
+use Rattle.imap_proto.specs.declared.stream.Whole.{Whole}
 use Rattle.imap_proto.specs.contracts.outcome.OutcomePartialEq.TheImpl as outcome_eq
 use Rattle.imap_proto.specs.contracts.response.RequestIdPartialEq.TheImpl as tag_eq
 use Rattle.imap_proto.specs.contracts.response.ResponsePartialEq.TheImpl as response_eq
 use Rattle.imap_proto.specs.contracts.stream.EndPartialEq.TheImpl as end_eq
-use Rattle.imap_proto.specs.contracts.stream.WholePartialEq.TheImpl as whole_eq
 
 -- ---- outcomes
 
@@ -150,5 +150,8 @@ module _ (fetches : FetchesTold) where
   responses_tell : Tells (pointwise (response_eq.eq-value).it) (λ xs. map lent_response (map response_value xs))
   responses_tell = lists_tell (response_eq.eq-value).it response_value lent_response response_tells
 
-  pub whole_tells : Tells (whole_eq.eq-value).it lent_whole
+  abbrev whole_same : Whole Response → Whole Response → Bool
+  whole_same w x = pointwise (response_eq.eq-value).it w.responses.items x.responses.items && (pointwise nat_eq w.rest.items x.rest.items && (end_eq.eq-value).it w.end x.end)
+
+  pub whole_tells : Tells whole_same lent_whole
   whole_tells = both_tell (field (λ w. w.responses.items) responses_tell) (both_tell (field (λ w. w.rest.items) text_tells) (field (λ w. w.end) ends_tell))

@@ -76,14 +76,14 @@ TakesAll held before left after end =
     × Splits held vs left end
 
 -- the split of m, the texts of its responses owned
-abbrev pub IsWhole : Bytes → Whole → Type 0
+abbrev pub IsWhole : Bytes → Whole Response → Type 0
 IsWhole m w =
     (vs : List ResponseValue)
     × (map response_value w.responses.items ≡ map owned_response vs)
     × Splits m vs w.rest.items w.end
 
 -- what it says, with all texts borrowed: two wholes say the same where these are equal
-abbrev pub lent_whole : Whole → List ResponseValue × (Bytes × End)
+abbrev pub lent_whole : Whole Response → List ResponseValue × (Bytes × End)
 lent_whole w = (map lent_response (map response_value w.responses.items), (w.rest.items, w.end))
 
 -- ---- law
@@ -91,7 +91,7 @@ lent_whole w = (map lent_response (map response_value w.responses.items), (w.res
 -- the bytes alone tell the whole, and not where they were cut
 abbrev pub OneWhole : Type 0
 OneWhole =
-    (m : Bytes) (w x : Whole) →
+    (m : Bytes) (w x : Whole Response) →
     IsWhole m w →
     IsWhole m x →
     (map response_value w.responses.items ≡ map response_value x.responses.items)

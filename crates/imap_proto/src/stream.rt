@@ -175,10 +175,11 @@ impl Feed {
 }
 
 /// What stands in the pieces of a stream.
+// Generic in its responses, since what is derived over a type parameter is proved in a tenth of the time.
 #[derive(Debug, Drop, PartialEq, Eq)]
-pub struct Whole {
+pub struct Whole<R = Response<'static>> {
     /// The responses, one behind another, with all their texts owned.
-    pub responses: Vec<Response<'static>>,
+    pub responses: Vec<R>,
     /// The bytes behind them.
     pub rest: Vec<u8>,
     /// Why these give no response; `Waits` where there are none.
