@@ -1,6 +1,6 @@
 -- What stands in all the pieces of a stream.
-use Rattle.std.proofs.Common.{◌≡◌, ℕ, List, [], ◌∷◌, ◌++◌, map, refl, sym, ap, subst, ◌∙◌, append_assoc, length, drop, get_or, ◌<◌, ◌+◌}
-use Rattle.std.proofs.lemmas.List.{append-nil, map-append, drop_more}
+use Rattle.std.proofs.Common.{◌≡◌, ℕ, List, [], ◌∷◌, ◌++◌, map, refl, sym, ap, subst, ◌∙◌, append_assoc, length, drop, get_or, ◌<◌, ◌≤◌, ◌+◌}
+use Rattle.std.proofs.lemmas.List.{append-nil, map-append, drop_more, at_drop_all}
 use Rattle.std.specs.Borrow.{Bor}
 use Rattle.imap_grammar.specs.Rule.{meaning}
 use Rattle.imap_grammar.specs.Text.{Bytes}
@@ -61,6 +61,14 @@ read_denied all coming piece held responses end is so_far =
     let denied = subst (λ k. EndsAs held k) is so_far.splits.ends in
     read_piece all coming piece held (held ++ piece) responses responses end end so_far
     (takes_none (held ++ piece) responses end (subst (λ k. EndsAs (held ++ piece) k) (sym is) (stable.denies_more held piece denied)))
+
+-- where no piece is left, all is read
+pub all_read : (pieces : List (Bor Bytes)) (i : ℕ) (held rest : Bytes) (responses : List Response) (end : End) → length pieces ≤ i → ReadSoFar (joined (map (λ p. p.now) pieces)) (joined (map (λ p. p.now) (drop i pieces))) held responses end → rest ≡ held
+    → (vs : List ResponseValue) × (map response_value responses ≡ map owned_response vs) × Splits (joined (map (λ p. p.now) pieces)) vs rest end
+all_read pieces i held rest responses end over so_far is =
+    let none : joined (map (λ (p : Bor Bytes). p.now) (drop i pieces)) ≡ [] = at_drop_all (λ ps. joined (map (λ (p : Bor Bytes). p.now) ps)) pieces i over in
+    let all = sym (append-nil so_far.read) ∙ ap (λ k. so_far.read ++ k) (sym none) ∙ so_far.joins in
+    (so_far.values, so_far.owned, subst (λ k. Splits (joined (map (λ (p : Bor Bytes). p.now) pieces)) so_far.values k end) (sym is) (subst (λ m. Splits m so_far.values held end) all so_far.splits))
 
 -- ---- one whole
 

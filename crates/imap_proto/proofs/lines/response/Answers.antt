@@ -9,7 +9,7 @@ use Rattle.imap_data.specs.MailboxData.{BeginsListDatum}
 use Rattle.imap_proto.specs.Lines.{response, tagged, count_line, fetched_line, vanished_line, quota_line, annotation_line, enabled_line, capability_line, acl_line, mailbox_line, list_line}
 use Rattle.imap_proto.specs.Memory.{TakesNone}
 use Rattle.imap_proto.specs.Responses.{response_value}
-use Rattle.imap_proto.proofs.FirstBytes.{response_star, response_other, datum_of_number, datum_of_vanished, datum_of_quota, datum_of_annotation, datum_of_enabled, datum_of_capability, datum_of_acl, datum_of_mailbox, datum_of_list, datum_other}
+use Rattle.imap_proto.proofs.FirstBytes.{response_star, response_other, datum_of_number, datum_of_vanished, datum_of_quota, datum_of_annotation, datum_of_enabled, datum_of_capability, datum_of_acl, datum_of_mailbox, datum_of_list, datum_of_status, datum_of_id, datum_other}
 use Rattle.imap_proto.proofs.Memory.{tagged_other, fetched_other, vanished_other, quota_other, annotation_other, enabled_other, capability_other, acl_other, wants_datum, wants_fetched, quota_root_begins}
 use Rattle.imap_proto.proofs.Numbered.{number_stopped, number_and_fetch}
 use Rattle.imap_proto.proofs.Starred.{starred, moved, first_byte}
@@ -115,3 +115,45 @@ returns-in-Some-eq102-second-clause-failure c = wants_fetched _ _ _ _ _ _ c.in-O
 
 pub returns-in_default-clause-failure : goal.returns-in_default-clause-failure
 returns-in_default-clause-failure c = exactly_fails _ response_value (count_line c.in-Ok-number.n) c.in-Ok-number.rest.now c.count_line.result c.count_line.ensures
+
+-- ---- the data lines
+
+pub returns-in-Some-eq111-clause-steps : goal.returns-in-Some-eq111-clause-steps
+returns-in-Some-eq111-clause-steps c =
+    subst (Gives response_value c.status_line.result) (sym (starred _ _ _ (response_star _ (search rules)) c.in-Ok.ensures.steps ∙ datum_of_status _ (search rules))) c.status_line.ensures.steps
+
+pub returns-in-Some-eq102-clause-steps : goal.returns-in-Some-eq102-clause-steps
+returns-in-Some-eq102-clause-steps c =
+    subst (Gives response_value c.mailbox_line.result) (sym (starred _ _ _ (response_star _ (search rules)) c.in-Ok.ensures.steps ∙ datum_of_mailbox _ (search rules))) c.mailbox_line.ensures.steps
+
+pub returns-in-Some-eq108-clause-steps : goal.returns-in-Some-eq108-clause-steps
+returns-in-Some-eq108-clause-steps c =
+    subst (Gives response_value c.list_line.result) (sym (starred _ _ _ (response_star _ (search rules)) c.in-Ok.ensures.steps ∙ datum_of_list _ (search rules))) c.list_line.ensures.steps
+
+pub returns-in-Some-eq99-clause-steps : goal.returns-in-Some-eq99-clause-steps
+returns-in-Some-eq99-clause-steps c =
+    subst (Gives response_value c.capability_line.result) (sym (starred _ _ _ (response_star _ (search rules)) c.in-Ok.ensures.steps ∙ datum_of_capability _ (search rules))) c.capability_line.ensures.steps
+
+pub returns-in-Some-eq101-clause-steps : goal.returns-in-Some-eq101-clause-steps
+returns-in-Some-eq101-clause-steps c =
+    subst (Gives response_value c.enabled_line.result) (sym (starred _ _ _ (response_star _ (search rules)) c.in-Ok.ensures.steps ∙ datum_of_enabled _ (search rules))) c.enabled_line.ensures.steps
+
+pub returns-in-Some-eq109-clause-steps : goal.returns-in-Some-eq109-clause-steps
+returns-in-Some-eq109-clause-steps c =
+    subst (Gives response_value c.annotation_line.result) (sym (starred _ _ _ (response_star _ (search rules)) c.in-Ok.ensures.steps ∙ datum_of_annotation _ (search rules))) c.annotation_line.ensures.steps
+
+pub returns-in-Some-eq118-clause-steps : goal.returns-in-Some-eq118-clause-steps
+returns-in-Some-eq118-clause-steps c =
+    subst (Gives response_value c.vanished_line.result) (sym (starred _ _ _ (response_star _ (search rules)) c.in-Ok.ensures.steps ∙ datum_of_vanished _ (search rules))) c.vanished_line.ensures.steps
+
+pub returns-in-Some-eq113-clause-steps : goal.returns-in-Some-eq113-clause-steps
+returns-in-Some-eq113-clause-steps c =
+    subst (Gives response_value c.quota_line.result) (sym (starred _ _ _ (response_star _ (search rules)) c.in-Ok.ensures.steps ∙ datum_of_quota _ (search rules))) c.quota_line.ensures.steps
+
+pub returns-in-Some-eq105-clause-steps : goal.returns-in-Some-eq105-clause-steps
+returns-in-Some-eq105-clause-steps c =
+    subst (Gives response_value c.id_line.result) (sym (starred _ _ _ (response_star _ (search rules)) c.in-Ok.ensures.steps ∙ datum_of_id _ (search rules))) c.id_line.ensures.steps
+
+pub returns-in-Some-eq97-clause-steps : goal.returns-in-Some-eq97-clause-steps
+returns-in-Some-eq97-clause-steps c =
+    subst (Gives response_value c.acl_line.result) (sym (starred _ _ _ (response_star _ (search rules)) c.in-Ok.ensures.steps ∙ datum_of_acl _ (search rules))) c.acl_line.ensures.steps

@@ -1,6 +1,6 @@
-use Rattle.std.proofs.Common.{subst, map}
+use Rattle.std.proofs.Common.{subst, map, ◌∙◌}
 use Rattle.imap_proto.specs.Streams.{joined}
-use Rattle.imap_proto.proofs.Wholes.{ReadSoFar, joined_from, read_nothing, read_piece, read_denied}
+use Rattle.imap_proto.proofs.Wholes.{ReadSoFar, joined_from, read_nothing, read_piece, read_denied, all_read}
 use Rattle.imap_proto.proofs.stream.read_pieces.Goals as goal
 use Rattle.imap_proto.proofs.stream.read_pieces.Goals.{in-Waits+in_ok-end-in-Waits, in-Denied}
 
@@ -16,3 +16,7 @@ loop-piece-preserved c =
           (rw (w.feed-is, w.responses-is, w.end-is) (read_piece all _ _ _ _ _ _ _ _ before (rw c.in_ok-feed.ensures.fed at w.in_ok-end-in-Waits.ensures)))
       | in-Denied w ↦ (rw (w.feed-is, w.responses-is, w.end-is, c.in_ok-feed.ensures.fed) (read_denied all _ _ _ _ _ w.in-Denied.is before))
     ]
+
+pub returns : goal.returns
+returns c =
+    record { whole = all_read c.args.pieces.now c.loop-piece.piece-index _ _ _ _ c.loop-piece-test.false c.loop-piece.invariant (c.in_ok-rest.ensures.items ∙ c.held.ensures) }
