@@ -1,6 +1,7 @@
 //! Lists of attributes at a position, whatever is kept of each: one reader for positions and for what these name.
 
 ghost use Rattle.std.specs.Prelude.{◌≡◌, ◌≤◌, ◌+◌, ◌++◌, ◌∷◌, [], List, length, drop, map, IfOk, OnOk};
+ghost use Rattle.imap_grammar.specs.Memory.{BeginsWord, FailsOnlyIf};
 ghost use Rattle.imap_grammar.specs.Positions.{Ahead, named_in, StepsAt};
 ghost use Rattle.imap_grammar.specs.Rule.{list1, ◌▹◌};
 ghost use Rattle.imap_grammar.specs.Step.{step};
@@ -261,6 +262,7 @@ pub(crate) fn kept_list<K: KeepAttribute>(
     ensures kept { KeepsAt K.text_said K.bytes_said (K.keeps keep.now) m.now (p + 1) result
         (step rules.attribute_list (drop p m.now)) }
     ensures ahead { Ahead m.now p result }
+    ensures memory { FailsOnlyIf (BeginsWord "(" (drop p m.now)) result }
 {
     let (p, _) = tag(b"(", m, p)?;
     let (p, kept) = some_attributes(keep, alloc, m, p)?;

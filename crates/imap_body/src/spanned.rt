@@ -1,7 +1,8 @@
 //! Attributes of a message as positions in it: they keep no bytes, and tell their values of any message that has
 //! bytes in these places.
 
-ghost use Rattle.std.specs.Prelude.{◌≡◌, ◌≤◌, ◌+◌, ◌++◌, ◌∷◌, [], length, map, All, IfOk, OnOk};
+ghost use Rattle.std.specs.Prelude.{◌≡◌, ◌≤◌, ◌+◌, ◌++◌, ◌∷◌, [], length, drop, map, All, IfOk, OnOk};
+ghost use Rattle.imap_grammar.specs.Memory.{BeginsWord, FailsOnlyIf};
 ghost use Rattle.imap_grammar.specs.Positions.{AnswersAt, Ahead, StepsAt};
 ghost use Rattle.imap_attributes.specs.AttributeValues.{attribute_value, kept_value};
 ghost use Rattle.imap_body.specs.SpannedAttributes.{span_of, attribute_in, attribute_said, EndsAt, InFront, InTurn, WithinItsSpan};
@@ -109,8 +110,8 @@ pub(crate) fn spanned_attribute<K: KeepAttribute>(
 /// The attributes of a message in parentheses (RFC 3501, section 9: msg-att), each as its positions in m. All positions
 /// of an attribute lie in its span.
 ///
-/// An empty list, or one that has no `)` where its attributes end, is `Error`. It takes memory for the list, and for
-/// the lists, envelopes and body structures in it; for no text.
+/// An empty list, or one that has no `)` where its attributes end, is `Error`. It takes memory only
+/// behind `(`, for the list, and for the lists, envelopes and body structures in it; for no text.
 pub fn attribute_list_at(alloc: Global, m: &[u8], p: usize) -> Reached<Vec<SpannedAttribute>>
     requires { p ≤ length m.now }
     ensures steps { StepsAt rules.attribute_list (λ x. map (attribute_in m.now) x.items) m.now p
@@ -121,6 +122,7 @@ pub fn attribute_list_at(alloc: Global, m: &[u8], p: usize) -> Reached<Vec<Spann
     ensures rests { InFront (λ n x. map (attribute_in n) x.items) result }
     ensures spans { IfOk result (λ x. InTurn m.now (p + 1) x.0 x.1.items) }
     ensures inside { IfOk result (λ x. All WithinItsSpan x.1.items) }
+    ensures memory { FailsOnlyIf (BeginsWord "(" (drop p m.now)) result }
 {
     kept_list(&Positions, alloc, m, p)
 }

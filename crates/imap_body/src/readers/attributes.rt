@@ -2,6 +2,7 @@
 
 ghost use Rattle.std.specs.Prelude.{◌≡◌, ◌≤◌, length, drop, map, IfOk, IfErr};
 ghost use Rattle.imap_grammar.specs.Answer.{Answers, Steps};
+ghost use Rattle.imap_grammar.specs.Memory.{BeginsWord, FailsOnlyIf};
 ghost use Rattle.imap_grammar.specs.Positions.{named_in};
 ghost use Rattle.imap_grammar.specs.declared.answer.Err.TheVariants.{Failure};
 ghost use Rattle.imap_attributes.specs.AttributeValues.{attribute_value, parts_in};
@@ -63,12 +64,13 @@ pub fn attribute(alloc: Global, i: &[u8]) -> IResult<&[u8], AttributeValue<'_>>
 
 /// The attributes of a message in parentheses, one or more, with one space between (RFC 3501, section 9: msg-att).
 ///
-/// An empty list, or one that has no `)` where its attributes end, is `Error`. It takes memory for the list, for the
-/// lists, envelopes and body structures in it, and for texts that are not UTF-8.
+/// An empty list, or one that has no `)` where its attributes end, is `Error`. It takes memory only behind `(`,
+/// for the list, for the lists, envelopes and body structures in it, and for texts that are not UTF-8.
 #[tactic(auto, using(imap_grammar::proofs::Agreement::answered))]
 pub fn attribute_list(alloc: Global, i: &[u8]) -> IResult<&[u8], Vec<AttributeValue<'_>>>
     ensures steps { Steps rules.attribute_list (λ x. map attribute_value x.items) i.now result }
     ensures answer { Answers rules.attribute_list (λ x. map attribute_value x.items) i.now result }
+    ensures memory { FailsOnlyIf (BeginsWord "(" i.now) result }
 {
     let (q, values) = made!(kept_list(&Named { alloc, message: i }, alloc, i, 0));
     Ok((rest(i, q), values))
