@@ -4,7 +4,7 @@ use crate::streams::may_be_cut;
 use imap_bytes::at::Reached;
 use imap_bytes::texts::decode;
 use imap_proto::Response;
-use imap_proto::imap_core::IResult;
+use imap_proto::imap_core::{Err, IResult};
 use std::alloc::{AllocError, Global};
 use std::borrow::CowStr;
 use std::fmt::{Debug, Display};
@@ -42,6 +42,20 @@ pub fn says<T: Debug + Drop>(alloc: Global, answer: IResult<&[u8], T>, want: &st
         Ok(text) => text.as_str() == want,
         Err(_) => false,
     }
+}
+
+/// Whether there is a value, and it is told so.
+pub fn shows<T: Debug + Drop, E: Drop>(alloc: Global, value: Result<T, E>, want: &str) -> bool {
+    match value {
+        Ok(value) => says(alloc, Ok((NOTHING, value)), want),
+        Err(_) => false,
+    }
+}
+
+/// What was read, without what is left.
+pub fn value_of<T>(answer: IResult<&[u8], T>) -> Result<T, Err> {
+    let (_, value) = answer?;
+    Ok(value)
 }
 
 /// Asserts what a row says; where it fails, the row is told by its text.
@@ -87,8 +101,8 @@ pub fn parses(alloc: Global, line: &[u8], want: &str) -> bool {
     says(alloc, Response::parse(alloc, line), want)
 }
 
-/// Whether this is the text of a value.
-pub fn displays<T: Display + Drop>(alloc: Global, value: T, want: &str) -> bool {
+// Whether this is the text of a value.
+fn displays<T: Display>(alloc: Global, value: &T, want: &str) -> bool {
     match format!(in alloc; "{value}") {
         Ok(text) => text.as_str() == want,
         Err(_) => false,
@@ -141,5 +155,12 @@ pub fn says_marked(alloc: Global, answer: IResult<&[u8], CowStr<'_>>, want: &str
     match answer {
         Ok((rest, text)) => says(alloc, Ok((rest, with_mark(&text))), want),
         Err(error) => says(alloc, Err::<(&[u8], CowStr<'_>), _>(error), want),
+    }
+}
+
+/// Asserts the text of the value in each row.
+pub fn assert_texts<T: Display>(rt: &impl Abort, alloc: Global, rows: &[(T, &str)]) {
+    for (value, want) in rows {
+        assert_row(rt, displays(alloc, value, want), want);
     }
 }

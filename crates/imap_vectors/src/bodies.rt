@@ -1,6 +1,7 @@
 //! Body structures, their fields and extension data, as they are read and with all texts owned.
 
 use crate::answers::{Rows, assert_says};
+use crate::owned::{Lending, owned};
 use imap_body::readers::{body_extension, body_fields, body_structure};
 use imap_proto::imap_core::IResult;
 use imap_proto::rfc3501::body_structure::{
@@ -35,19 +36,20 @@ fn fields(alloc: Global, i: &[u8]) -> IResult<&[u8], Told<'_>> {
     Ok((i, in_order(value)))
 }
 
-fn owned_fields(alloc: Global, i: &[u8]) -> IResult<&[u8], Told<'static>> {
-    let (i, value) = body_fields(alloc, i)?;
-    Ok((i, in_order(value.into_owned(alloc)?)))
+impl Lending for BodyFields<'_> {
+    type Owned = Told<'static>;
+
+    fn made_owned(self, alloc: Global) -> Result<Told<'static>, AllocError> {
+        Ok(in_order(self.into_owned(alloc)?))
+    }
 }
 
-fn owned_extension(alloc: Global, i: &[u8]) -> IResult<&[u8], BodyExtension<'static>> {
-    let (i, value) = body_extension(alloc, i)?;
-    Ok((i, value.into_owned(alloc)?))
-}
+impl Lending for BodyExtension<'_> {
+    type Owned = BodyExtension<'static>;
 
-fn owned_body(alloc: Global, i: &[u8]) -> IResult<&[u8], BodyStructure<'static>> {
-    let (i, value) = body_structure(alloc, i)?;
-    Ok((i, value.into_owned(alloc)?))
+    fn made_owned(self, alloc: Global) -> Result<BodyExtension<'static>, AllocError> {
+        self.into_owned(alloc)
+    }
 }
 
 static FIELDS: Rows = &[
@@ -216,7 +218,7 @@ fn fields_of_bodies(rt: HostRuntime) {
     let alloc = rt.alloc();
     for (input, want) in FIELDS {
         assert_says(&rt, alloc, fields(alloc, input), want);
-        assert_says(&rt, alloc, owned_fields(alloc, input), want);
+        assert_says(&rt, alloc, owned(alloc, body_fields(alloc, input)), want);
     }
 }
 
@@ -225,8 +227,13 @@ fn extensions_of_bodies(rt: HostRuntime) {
     let alloc = rt.alloc();
     for (input, want) in EXTENSIONS {
         assert_says(&rt, alloc, body_extension(alloc, input), want);
-        assert_says(&rt, alloc, owned_extension(alloc, input), want);
+        assert_says(&rt, alloc, owned(alloc, body_extension(alloc, input)), want);
     }
+}
+
+fn owned_body(alloc: Global, i: &[u8]) -> IResult<&[u8], BodyStructure<'static>> {
+    let (i, value) = body_structure(alloc, i)?;
+    Ok((i, value.into_owned(alloc)?))
 }
 
 fn assert_bodies(rt: &impl Abort, alloc: Global, rows: Rows) {

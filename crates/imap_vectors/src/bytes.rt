@@ -1,11 +1,13 @@
 //! Bytes: classes, numbers, strings and sets.
 
-use crate::answers::{Rows, WAITS, assert_row, assert_says, says_bytes};
+use crate::answers::{Rows, WAITS, assert_row, says, says_bytes};
 use imap_proto::imap_core::{
     astring, atom, is_astring_char, is_atom_char, is_atom_specials, is_char, is_list_wildcards,
     is_quoted_specials, is_resp_specials, is_text_char, literal, nil, nstring, number, number_64,
     quoted, sequence_range, sequence_set, string,
 };
+use std::alloc::Global;
+use std::process::Abort;
 use std::test::*;
 
 const ATOM_SPECIALS: &[u8] =
@@ -14,30 +16,110 @@ const ATOM_SPECIALS: &[u8] =
 const NO_ASTRING_CHARS: &[u8] =
     b"\0\x01\x02\x03\x04\x05\x06\x07\x08\t\n\x0b\x0c\r\x0e\x0f\x10\x11\x12\x13\x14\x15\x16\x17\x18\x19\x1a\x1b\x1c\x1d\x1e\x1f \"%()*\\{";
 
-// Whether a class has these bytes and no others.
-fn has<F: Fn(u8) -> bool>(class: F, bytes: &[u8]) -> bool
-    requires { F.IsAlwaysCallable class }
-{
-    (0..=255u8).all(|c| class(c) == bytes.contains(&c))
+/// A class of bytes.
+#[derive(Clone, Copy)]
+enum Class {
+    Char,
+    TextChar,
+    ListWildcards,
+    QuotedSpecials,
+    RespSpecials,
+    AtomSpecials,
+    AtomChar,
+    AstringChar,
 }
 
-// Whether a class has all bytes but these.
-fn lacks<F: Fn(u8) -> bool>(class: F, bytes: &[u8]) -> bool
-    requires { F.IsAlwaysCallable class }
-{
-    (0..=255u8).all(|c| class(c) != bytes.contains(&c))
+fn is_in(class: Class, c: u8) -> bool {
+    match class {
+        Class::Char => is_char(c),
+        Class::TextChar => is_text_char(c),
+        Class::ListWildcards => is_list_wildcards(c),
+        Class::QuotedSpecials => is_quoted_specials(c),
+        Class::RespSpecials => is_resp_specials(c),
+        Class::AtomSpecials => is_atom_specials(c),
+        Class::AtomChar => is_atom_char(c),
+        Class::AstringChar => is_astring_char(c),
+    }
+}
+
+/// Which bytes are in a class.
+#[derive(Clone, Copy)]
+enum Members {
+    /// These and no others.
+    Has(&'static [u8]),
+    /// All but these.
+    Lacks(&'static [u8]),
+}
+
+fn is_member(members: Members, c: u8) -> bool {
+    match members {
+        Members::Has(bytes) => bytes.contains(&c),
+        Members::Lacks(bytes) => !bytes.contains(&c),
+    }
+}
+
+static CLASSES: &[(Class, Members)] = &[
+    (Class::Char, Members::Lacks(b"\0")),
+    (Class::TextChar, Members::Lacks(b"\0\n\r")),
+    (Class::ListWildcards, Members::Has(b"%*")),
+    (Class::QuotedSpecials, Members::Has(b"\"\\")),
+    (Class::RespSpecials, Members::Has(b"]")),
+    (Class::AtomSpecials, Members::Has(ATOM_SPECIALS)),
+    (Class::AtomChar, Members::Lacks(ATOM_SPECIALS)),
+    (Class::AstringChar, Members::Lacks(NO_ASTRING_CHARS)),
+];
+
+fn assert_members(rt: &impl Abort, class: Class, members: Members) {
+    for c in 0..=255u8 {
+        assert!(rt; is_in(class, c) == is_member(members, c), "byte {c}");
+    }
 }
 
 #[test]
 fn classes(rt: HostRuntime) {
-    assert!(rt; lacks(is_char, b"\0"));
-    assert!(rt; lacks(is_text_char, b"\0\n\r"));
-    assert!(rt; has(is_list_wildcards, b"%*"));
-    assert!(rt; has(is_quoted_specials, b"\"\\"));
-    assert!(rt; has(is_resp_specials, b"]"));
-    assert!(rt; has(is_atom_specials, ATOM_SPECIALS));
-    assert!(rt; lacks(is_atom_char, ATOM_SPECIALS));
-    assert!(rt; lacks(is_astring_char, NO_ASTRING_CHARS));
+    for (class, members) in CLASSES {
+        assert_members(&rt, *class, *members);
+    }
+}
+
+/// A reader of numbers, sets, strings or atoms.
+#[derive(Clone, Copy)]
+enum Reader {
+    Number,
+    LargeNumber,
+    Range,
+    Set,
+    Quoted,
+    Literal,
+    Str,
+    Astring,
+    Atom,
+    Nil,
+    MaybeString,
+}
+
+// Whether the reader answers so.
+fn reads(alloc: Global, reader: Reader, i: &[u8], want: &str) -> bool {
+    match reader {
+        Reader::Number => says(alloc, number(i), want),
+        Reader::LargeNumber => says(alloc, number_64(i), want),
+        Reader::Range => says(alloc, sequence_range(i), want),
+        Reader::Set => says(alloc, sequence_set(alloc, i), want),
+        Reader::Quoted => says_bytes(alloc, quoted(i), want),
+        Reader::Literal => says_bytes(alloc, literal(i), want),
+        Reader::Str => says_bytes(alloc, string(i), want),
+        Reader::Astring => says_bytes(alloc, astring(i), want),
+        Reader::Atom => says(alloc, atom(i), want),
+        Reader::Nil => says_bytes(alloc, nil(i), want),
+        Reader::MaybeString => says(alloc, nstring(i), want),
+    }
+}
+
+// Asserts that the reader answers each input of the table as its row says.
+fn assert_reads(rt: &impl Abort, alloc: Global, reader: Reader, rows: Rows) {
+    for (input, want) in rows {
+        assert_row(rt, reads(alloc, reader, input, want), want);
+    }
 }
 
 static NUMBERS: Rows = &[
@@ -82,31 +164,22 @@ static SETS: Rows = &[
 
 #[test]
 fn numbers(rt: HostRuntime) {
-    for (input, want) in NUMBERS {
-        assert_says(&rt, rt.alloc(), number(input), want);
-    }
+    assert_reads(&rt, rt.alloc(), Reader::Number, NUMBERS);
 }
 
 #[test]
 fn large_numbers(rt: HostRuntime) {
-    for (input, want) in LARGE_NUMBERS {
-        assert_says(&rt, rt.alloc(), number_64(input), want);
-    }
+    assert_reads(&rt, rt.alloc(), Reader::LargeNumber, LARGE_NUMBERS);
 }
 
 #[test]
 fn ranges(rt: HostRuntime) {
-    for (input, want) in RANGES {
-        assert_says(&rt, rt.alloc(), sequence_range(input), want);
-    }
+    assert_reads(&rt, rt.alloc(), Reader::Range, RANGES);
 }
 
 #[test]
 fn sets(rt: HostRuntime) {
-    let alloc = rt.alloc();
-    for (input, want) in SETS {
-        assert_says(&rt, alloc, sequence_set(alloc, input), want);
-    }
+    assert_reads(&rt, rt.alloc(), Reader::Set, SETS);
 }
 
 static QUOTED: Rows = &[
@@ -158,30 +231,22 @@ static ASTRINGS: Rows = &[
 
 #[test]
 fn quoted_strings(rt: HostRuntime) {
-    for (input, want) in QUOTED {
-        assert_row(&rt, says_bytes(rt.alloc(), quoted(input), want), want);
-    }
+    assert_reads(&rt, rt.alloc(), Reader::Quoted, QUOTED);
 }
 
 #[test]
 fn literals(rt: HostRuntime) {
-    for (input, want) in LITERALS {
-        assert_row(&rt, says_bytes(rt.alloc(), literal(input), want), want);
-    }
+    assert_reads(&rt, rt.alloc(), Reader::Literal, LITERALS);
 }
 
 #[test]
 fn strings(rt: HostRuntime) {
-    for (input, want) in STRINGS {
-        assert_row(&rt, says_bytes(rt.alloc(), string(input), want), want);
-    }
+    assert_reads(&rt, rt.alloc(), Reader::Str, STRINGS);
 }
 
 #[test]
 fn astrings(rt: HostRuntime) {
-    for (input, want) in ASTRINGS {
-        assert_row(&rt, says_bytes(rt.alloc(), astring(input), want), want);
-    }
+    assert_reads(&rt, rt.alloc(), Reader::Astring, ASTRINGS);
 }
 
 static ATOMS: Rows = &[
@@ -210,21 +275,15 @@ static MAYBE_STRINGS: Rows = &[
 
 #[test]
 fn atoms(rt: HostRuntime) {
-    for (input, want) in ATOMS {
-        assert_says(&rt, rt.alloc(), atom(input), want);
-    }
+    assert_reads(&rt, rt.alloc(), Reader::Atom, ATOMS);
 }
 
 #[test]
 fn nils(rt: HostRuntime) {
-    for (input, want) in NILS {
-        assert_row(&rt, says_bytes(rt.alloc(), nil(input), want), want);
-    }
+    assert_reads(&rt, rt.alloc(), Reader::Nil, NILS);
 }
 
 #[test]
 fn maybe_strings(rt: HostRuntime) {
-    for (input, want) in MAYBE_STRINGS {
-        assert_says(&rt, rt.alloc(), nstring(input), want);
-    }
+    assert_reads(&rt, rt.alloc(), Reader::MaybeString, MAYBE_STRINGS);
 }

@@ -1,6 +1,6 @@
 //! Commands.
 
-use crate::answers::{assert_row, displays};
+use crate::answers::assert_texts;
 use imap_proto::builders::command::{
     AttrMacro, Attribute, BuildError, Command, CommandBuilder, State,
 };
@@ -149,15 +149,14 @@ fn refused_arguments(rt: HostRuntime) {
     assert!(rt; is_refused(examined(alloc, "a\0"), BuildError::Nul));
 }
 
+static REFUSALS: &[(BuildError, &str)] = &[
+    (BuildError::CarriageReturn, "carriage return in an argument"),
+    (BuildError::LineFeed, "line feed in an argument"),
+    (BuildError::Nul, "zero byte in an argument"),
+    (BuildError::OutOfMemory, "out of memory"),
+];
+
 #[test]
 fn texts_of_refusals(rt: HostRuntime) {
-    let rows = [
-        (BuildError::CarriageReturn, "carriage return in an argument"),
-        (BuildError::LineFeed, "line feed in an argument"),
-        (BuildError::Nul, "zero byte in an argument"),
-        (BuildError::OutOfMemory, "out of memory"),
-    ];
-    for (refusal, want) in rows {
-        assert_row(&rt, displays(rt.alloc(), refusal, want), want);
-    }
+    assert_texts(&rt, rt.alloc(), REFUSALS);
 }

@@ -1,9 +1,10 @@
 //! Copies, equality, hashes and conversions of values.
 
-use crate::answers::Rows;
+use crate::answers::{Rows, assert_row, value_of};
 use imap_data::readers::{
     id, mailbox_datum, metadata_solicited, metadata_unsolicited, quota, quota_root,
 };
+use imap_proto::imap_core::{Err, IResult};
 use imap_proto::rfc2087::{Quota, QuotaResource, QuotaResourceName, QuotaRoot};
 use imap_proto::rfc3501::{MailboxDatum, MailboxListData, NameAttribute, Outcome};
 use imap_proto::rfc4314::AclRight;
@@ -17,11 +18,17 @@ use std::hash::Hash;
 use std::test::*;
 
 // Whether a copy was made, and equals the value.
-fn equals<T: PartialEq + Drop>(value: &T, copy: Result<T, AllocError>) -> bool {
+fn is_equal<T: PartialEq + Drop>(value: &T, copy: Result<T, AllocError>) -> bool {
     match &copy {
         Ok(copy) => copy == value,
         Err(_) => false,
     }
+}
+
+// The same of a value that is let go: over any type that is one step, and in a test each part of each kind would be
+// proved to be dropped.
+fn equals<T: PartialEq + Drop>(value: T, copy: Result<T, AllocError>) -> bool {
+    is_equal(&value, copy)
 }
 
 static DATA_OF_MAILBOXES: Rows = &[
@@ -44,25 +51,32 @@ static DATA_OF_MAILBOXES: Rows = &[
     (b"X-GM-THRID 8\r", "thread"),
 ];
 
-#[test]
-fn data_of_mailboxes(rt: HostRuntime) -> Result<(), Fail> {
-    let alloc = rt.alloc();
-    for (line, told) in DATA_OF_MAILBOXES {
-        let (_, datum) = mailbox_datum(alloc, line)?;
-        assert!(rt; equals(&datum, datum.clone()), "{told}");
+// Whether a datum was read, and equals its copy.
+fn is_copied(answer: IResult<&[u8], MailboxDatum<'_>>) -> bool {
+    match answer {
+        Ok((_, datum)) => {
+            let copy = datum.clone();
+            equals(datum, copy)
+        }
+        Err(_) => false,
     }
-    Ok(())
 }
 
 #[test]
-fn annotations(rt: HostRuntime) -> Result<(), Fail> {
+fn data_of_mailboxes(rt: HostRuntime) {
+    let alloc = rt.alloc();
+    for (line, told) in DATA_OF_MAILBOXES {
+        assert_row(&rt, is_copied(mailbox_datum(alloc, line)), told);
+    }
+}
+
+#[test]
+fn annotations(rt: HostRuntime) {
     let alloc = rt.alloc();
     let line = b"METADATA \"\xff\" (/shared/comment NIL /private/comment \"a\")\r";
-    let (_, datum) = metadata_solicited(alloc, line)?;
-    assert!(rt; equals(&datum, datum.clone()));
-    let (_, datum) = metadata_unsolicited(alloc, b"METADATA \"x\" /shared/comment\r")?;
-    assert!(rt; equals(&datum, datum.clone()));
-    Ok(())
+    assert!(rt; is_copied(metadata_solicited(alloc, line)));
+    let line = b"METADATA \"x\" /shared/comment\r";
+    assert!(rt; is_copied(metadata_unsolicited(alloc, line)));
 }
 
 #[test]
@@ -70,23 +84,26 @@ fn quotas(rt: HostRuntime) -> Result<(), Fail> {
     let alloc = rt.alloc();
     let line = b"QUOTA a\xff (STORAGE 1 2 MESSAGE 3 4 \"x\xff\" 5 6 y 7 8)\r";
     let (_, limits) = quota(alloc, line)?;
-    assert!(rt; equals(&limits, limits.clone()));
+    let copy = limits.clone();
+    assert!(rt; equals(limits, copy));
     let (_, root) = quota_root(alloc, b"QUOTAROOT b\xff a \xffc\r")?;
-    assert!(rt; equals(&root, root.clone()));
+    let copy = root.clone();
+    assert!(rt; equals(root, copy));
     Ok(())
 }
 
 #[test]
-fn parts_of_lists(rt: HostRuntime) -> Result<(), Fail> {
+fn parts_of_lists(rt: HostRuntime) {
     let names = MailboxListData {
         name_attributes: Vec::new(rt.alloc()),
         delimiter: Some(CowStr::Borrowed("/")),
         name: CowStr::Borrowed("x"),
     };
-    assert!(rt; equals(&names, names.clone()));
+    let copy = names.clone();
+    assert!(rt; equals(names, copy));
     let sent = NameAttribute::Sent;
-    assert!(rt; equals(&sent, sent.clone()));
-    Ok(())
+    let copy = sent.clone();
+    assert!(rt; equals(sent, copy));
 }
 
 #[test]
@@ -95,23 +112,30 @@ fn parts_of_annotations_and_quotas(rt: HostRuntime) -> Result<(), Fail> {
         entry: String::from_str(rt.alloc(), "/shared/comment")?,
         value: None,
     };
-    assert!(rt; equals(&annotation, annotation.clone()));
+    let copy = annotation.clone();
+    assert!(rt; equals(annotation, copy));
     let resource = QuotaResource {
         name: QuotaResourceName::Message,
         usage: 1,
         limit: 2,
     };
-    assert!(rt; equals(&resource, resource.clone()));
+    let copy = resource.clone();
+    assert!(rt; equals(resource, copy));
     let name = QuotaResourceName::Atom(CowStr::Borrowed("x"));
-    assert!(rt; equals(&name, name.clone()));
+    let copy = name.clone();
+    assert!(rt; equals(name, copy));
     Ok(())
 }
 
 #[test]
-fn members_of_sets(rt: HostRuntime) -> Result<(), Fail> {
-    assert!(rt; UidSetMember::UidRange(1..=8).clone()? == UidSetMember::from(1..=8));
+fn members_of_sets(rt: HostRuntime) {
+    assert!(rt;
+        equals(
+            UidSetMember::from(1..=8),
+            UidSetMember::UidRange(1..=8).clone()
+        )
+    );
     assert!(rt; UidSetMember::from(5) == UidSetMember::Uid(5));
-    Ok(())
 }
 
 // Whether a set of the first value has the second.
@@ -120,28 +144,66 @@ fn is_found<T: Eq + Hash + Drop>(alloc: Global, one: T, other: &T) -> bool {
     values.insert(one).is_ok() && values.contains(other)
 }
 
+// Whether two values are equal, and copies of one hash as both do.
+fn are_alike<T: Eq + Hash + Drop>(
+    alloc: Global,
+    one: T,
+    copy: Result<T, AllocError>,
+    other: Result<T, Err>,
+) -> bool {
+    match (copy, other) {
+        (Ok(copy), Ok(other)) => {
+            one == other && is_found(alloc, copy, &one) && is_found(alloc, one, &other)
+        }
+        _ => false,
+    }
+}
+
+const LENT: &[u8] = b"QUOTA \xef\xbf\xbd (STORAGE 1 2)\r";
+
+// Whether the quota is equal to its copy made owned, and hashes so.
+fn is_owned_alike(alloc: Global) -> Result<bool, Err> {
+    let (_, lent) = quota(alloc, LENT)?;
+    let copy = lent.clone();
+    let made_owned = copy_made_owned(alloc, &lent);
+    Ok(are_alike(alloc, lent, copy, made_owned))
+}
+
+fn copy_made_owned(alloc: Global, quota: &Quota<'_>) -> Result<Quota<'static>, Err> {
+    Ok(quota.clone()?.into_owned(alloc)?)
+}
+
 // Texts compare and hash by content, whichever are borrowed.
 #[test]
 fn equality_and_hashes(rt: HostRuntime) -> Result<(), Fail> {
     let alloc = rt.alloc();
-    let (_, lent) = quota(alloc, b"QUOTA \xef\xbf\xbd (STORAGE 1 2)\r")?;
-    let (_, owned) = quota(alloc, b"QUOTA \"\xff\" (STORAGE 1 2)\r")?;
-    assert!(rt; lent == owned);
-    assert!(rt; is_found(alloc, lent.clone()?, &owned));
-    assert!(rt; is_found(alloc, lent.clone()?, &lent));
-    let made_owned = lent.clone()?.into_owned(alloc)?;
-    assert!(rt; is_found(alloc, lent, &made_owned));
+    let (_, lent) = quota(alloc, LENT)?;
+    let copy = lent.clone();
+    let owned = value_of(quota(alloc, b"QUOTA \"\xff\" (STORAGE 1 2)\r"));
+    assert!(rt; are_alike(alloc, lent, copy, owned));
+    assert!(rt; is_owned_alike(alloc)?);
     Ok(())
+}
+
+// Whether two values were read, and are equal.
+fn are_same<T: PartialEq + Drop>(one: Result<T, Err>, other: Result<T, Err>) -> bool {
+    match (one, other) {
+        (Ok(one), Ok(other)) => one == other,
+        _ => false,
+    }
 }
 
 // Identities compare as finite maps.
 #[test]
-fn equal_identities(rt: HostRuntime) -> Result<(), Fail> {
+fn equal_identities(rt: HostRuntime) {
     let alloc = rt.alloc();
-    let (_, in_order) = id(alloc, b"ID (\"a\" \"1\" \"b\" \"2\")\r")?;
-    let (_, turned) = id(alloc, b"ID (\"b\" \"2\" \"a\" \"1\")\r")?;
-    assert!(rt; in_order == turned);
-    Ok(())
+    let in_order = value_of(id(alloc, b"ID (\"a\" \"1\" \"b\" \"2\")\r"));
+    let turned = value_of(id(alloc, b"ID (\"b\" \"2\" \"a\" \"1\")\r"));
+    assert!(rt; are_same(in_order, turned));
+}
+
+fn is_right(letter: char, right: AclRight) -> bool {
+    AclRight::from(letter) == right
 }
 
 #[test]
@@ -149,31 +211,29 @@ fn letters_of_rights(rt: HostRuntime) {
     for letter in "lrswipkxteancdz\u{e9}".chars() {
         assert!(rt; char::from(AclRight::from(letter)) == letter, "{letter}");
     }
-    assert!(rt; AclRight::from('l') == AclRight::Lookup);
-    assert!(rt; AclRight::from('d') == AclRight::OldDelete);
-    assert!(rt; AclRight::from('z') == AclRight::Custom('z'));
-    assert!(rt; AclRight::from(char::from(AclRight::Custom('l'))) == AclRight::Lookup);
+    assert!(rt; is_right('l', AclRight::Lookup));
+    assert!(rt; is_right('d', AclRight::OldDelete));
+    assert!(rt; is_right('z', AclRight::Custom('z')));
+    assert!(rt; is_right(char::from(AclRight::Custom('l')), AclRight::Lookup));
 }
 
-// The tag and the outcome of a tagged line.
-fn tagged(response: Response<'_>) -> Option<(RequestId, Outcome<'_>)> {
+// Whether the tag and the outcome of a tagged line are these.
+fn has_these_parts(response: &Response<'_>) -> bool {
     match response {
-        Response::Done { tag, outcome, .. } => Some((tag, outcome)),
-        other => {
-            drop(other);
-            None
+        Response::Done { tag, outcome, .. } => {
+            tag.as_bytes() == b"a1".as_slice()
+                && is_equal(tag, tag.clone())
+                && is_equal(outcome, Ok(Outcome::default()))
         }
+        _ => false,
     }
 }
 
 #[test]
 fn parts_of_status_lines(rt: HostRuntime) -> Result<(), Fail> {
     let (_, response) = Response::parse(rt.alloc(), b"a1 OK\r\n")?;
-    let Some((tag, outcome)) = tagged(response) else {
-        return Err(Fail::new("no tagged response"));
-    };
-    assert!(rt; tag.as_bytes() == b"a1".as_slice());
-    assert!(rt; equals(&tag, tag.clone()));
-    assert!(rt; outcome == Outcome::default());
+    let has_these_parts = has_these_parts(&response);
+    drop(response);
+    assert!(rt; has_these_parts);
     Ok(())
 }

@@ -1,15 +1,15 @@
 //! Fetches that are kept, and attributes as positions: what they tell of their message, and of another one in its
 //! place.
 
-use crate::answers::{NOTHING, Rows, assert_row, parses, says, says_at, told};
+use crate::answers::{NOTHING, Rows, assert_row, parses, says, says_at, shows, told};
 use crate::{codes, extensions, fetches, mailboxes, statuses};
-use imap_body::AttributeValue;
 use imap_body::spanned::{SpannedAttribute, attribute_list_at};
 use imap_body::spans::Span;
+use imap_bytes::at::Reached;
 use imap_proto::imap_core::Err;
 use imap_proto::kept::KeptFetch;
 use std::alloc::{AllocError, Global};
-use std::fmt;
+use std::fmt::{self, Debug};
 use std::process::Abort;
 use std::test::*;
 
@@ -23,13 +23,13 @@ impl fmt::Debug for Told {
     }
 }
 
-// Puts what an attribute says behind what the others say.
-fn tell_one(
+// Puts what an attribute says behind what the others say. Over any type, since each kind would be proved to be dropped.
+fn tell_one<T: Debug + Drop>(
     alloc: Global,
-    value: AttributeValue<'_>,
+    value: Result<T, AllocError>,
     attributes: &mut Vec<Told>,
 ) -> Result<(), AllocError> {
-    let text = told(alloc, Ok((NOTHING, value)))?;
+    let text = told(alloc, Ok((NOTHING, value?)))?;
     attributes.push(Told(text))?;
     Ok(())
 }
@@ -42,7 +42,7 @@ struct Fetch(u32, Vec<Told>);
 fn told_fetch(alloc: Global, kept: &KeptFetch) -> Result<Fetch, AllocError> {
     let mut attributes = Vec::new(alloc);
     for k in 0..kept.len() {
-        tell_one(alloc, kept.attribute(k)?, &mut attributes)?;
+        tell_one(alloc, kept.attribute(k), &mut attributes)?;
     }
     Ok(Fetch(kept.number(), attributes))
 }
@@ -249,12 +249,17 @@ static PLACES: &[Places] = &[
     },
 ];
 
-fn spans(alloc: Global, attributes: &[SpannedAttribute]) -> Result<Vec<Span>, AllocError> {
+// Where the attributes stand, and where their list ends.
+fn spans_up_to(
+    alloc: Global,
+    attributes: &[SpannedAttribute],
+    reached: usize,
+) -> Reached<Vec<Span>> {
     let mut spans = Vec::new(alloc);
     for attribute in attributes {
         spans.push(attribute.span())?;
     }
-    Ok(spans)
+    Ok((reached, spans))
 }
 
 // What the attributes name in a message.
@@ -265,35 +270,34 @@ fn told_values(
 ) -> Result<Vec<Told>, AllocError> {
     let mut values = Vec::new(alloc);
     for attribute in attributes {
-        tell_one(alloc, attribute.value(alloc, m)?, &mut values)?;
+        tell_one(alloc, attribute.value(alloc, m), &mut values)?;
     }
     Ok(values)
 }
 
+// Asserts where the attributes stand, and what they say of their message and of the other one.
+fn assert_placed(
+    rt: &impl Abort,
+    alloc: Global,
+    want: &Places,
+    reached: usize,
+    attributes: &[SpannedAttribute],
+) {
+    let places = spans_up_to(alloc, attributes, reached);
+    assert_row(rt, says_at(alloc, places, want.spans), want.spans);
+    let values = told_values(alloc, attributes, want.message);
+    assert_row(rt, shows(alloc, values, want.values), want.values);
+    let others = told_values(alloc, attributes, want.other);
+    assert_row(rt, shows(alloc, others, want.others), want.others);
+}
+
 #[test]
 fn positions(rt: HostRuntime) -> Result<(), Fail> {
-    let alloc = rt.alloc();
     for want in PLACES {
         assert!(rt; want.start <= want.message.len());
-        let (reached, attributes) = attribute_list_at(alloc, want.message, want.start)?;
-        let places = spans(alloc, &attributes)?;
-        assert!(rt;
-            says_at(alloc, Ok((reached, places)), want.spans),
-            "{}",
-            want.spans
-        );
-        let values = told_values(alloc, &attributes, want.message)?;
-        assert!(rt;
-            says(alloc, Ok((NOTHING, values)), want.values),
-            "{}",
-            want.values
-        );
-        let others = told_values(alloc, &attributes, want.other)?;
-        assert!(rt;
-            says(alloc, Ok((NOTHING, others)), want.others),
-            "{}",
-            want.others
-        );
+        let (reached, attributes) = attribute_list_at(rt.alloc(), want.message, want.start)?;
+        assert_placed(&rt, rt.alloc(), want, reached, &attributes);
+        drop(attributes);
     }
     Ok(())
 }

@@ -1,6 +1,6 @@
 //! Whole lines, and parts of body structures made by hand, with all texts owned.
 
-use crate::answers::{NOTHING, Rows, assert_row, assert_says, says, with_mark_if_any};
+use crate::answers::{Rows, assert_row, assert_says, shows, value_of, with_mark_if_any};
 use crate::{codes, extensions, fetches, mailboxes, statuses};
 use imap_body::{
     BodyContentCommon, BodyContentSinglePart, BodyExt1Part, BodyExtMPart, BodyExtension,
@@ -14,11 +14,26 @@ use std::fmt::Debug;
 use std::process::Abort;
 use std::test::*;
 
-// Whether there is a value, and it is told so.
-fn shows<T: Debug + Drop>(alloc: Global, value: Result<T, AllocError>, want: &str) -> bool {
-    match value {
-        Ok(value) => says(alloc, Ok((NOTHING, value)), want),
-        Err(_) => false,
+/// What may have texts that are lent.
+pub trait Lending {
+    /// The same with all texts owned.
+    type Owned: Debug + Drop;
+
+    /// Makes all texts owned.
+    fn made_owned(self, alloc: Global) -> Result<Self::Owned, AllocError>;
+}
+
+/// A reader's answer, with all texts of the value owned.
+pub fn owned<T: Lending>(alloc: Global, answer: IResult<&[u8], T>) -> IResult<&[u8], T::Owned> {
+    let (rest, value) = answer?;
+    Ok((rest, value.made_owned(alloc)?))
+}
+
+impl Lending for Response<'_> {
+    type Owned = Response<'static>;
+
+    fn made_owned(self, alloc: Global) -> Result<Response<'static>, AllocError> {
+        self.into_owned(alloc)
     }
 }
 
@@ -79,10 +94,11 @@ fn content_of_a_part(rt: HostRuntime) {
 #[test]
 fn extension_data(rt: HostRuntime) -> Result<(), Fail> {
     let alloc = rt.alloc();
+    let language = Vec::from_array(alloc, [CowStr::Borrowed("en")])?;
     let single = BodyExt1Part {
         md5: Some(NAME),
         disposition: Some(DISPOSITION),
-        language: Some(Vec::from_array(alloc, [CowStr::Borrowed("en")])?),
+        language: Some(language),
         location: Some(CowStr::Borrowed("l")),
         extension: Some(BodyExtension::Str(Some(NAME))),
     };
@@ -97,15 +113,16 @@ fn extension_data(rt: HostRuntime) -> Result<(), Fail> {
     } = single.into_owned(alloc)?;
     let (md5, location) = (with_mark_if_any(&md5), with_mark_if_any(&location));
     let fields = (md5, disposition, language, location, extension);
-    assert!(rt; shows(alloc, Ok(fields), want));
+    assert!(rt; shows(alloc, Ok::<_, AllocError>(fields), want));
     Ok(())
 }
 
 #[test]
 fn extension_data_of_a_multipart(rt: HostRuntime) -> Result<(), Fail> {
     let alloc = rt.alloc();
+    let param = Vec::from_array(alloc, [(NAME, CowStr::Borrowed("b"))])?;
     let multipart = BodyExtMPart {
-        param: Some(Vec::from_array(alloc, [(NAME, CowStr::Borrowed("b"))])?),
+        param: Some(param),
         disposition: Some(DISPOSITION),
         language: None,
         location: Some(CowStr::Borrowed("l")),
@@ -122,45 +139,37 @@ fn extension_data_of_a_multipart(rt: HostRuntime) -> Result<(), Fail> {
     } = multipart.into_owned(alloc)?;
     let location = with_mark_if_any(&location);
     let fields = (param, disposition, language, location, extension);
-    assert!(rt; shows(alloc, Ok(fields), want));
+    assert!(rt; shows(alloc, Ok::<_, AllocError>(fields), want));
     Ok(())
 }
 
 /// The answer of `Response::parse` to a line, its response made owned.
 pub fn owned_answer(alloc: Global, line: &[u8]) -> IResult<&[u8], Response<'static>> {
-    let (rest, response) = Response::parse(alloc, line)?;
-    Ok((rest, response.into_owned(alloc)?))
+    owned(alloc, Response::parse(alloc, line))
 }
 
 // The response at the front of a copy of these bytes, made owned: the copy is gone when it is answered.
 fn response_alone(alloc: Global, line: &[u8]) -> Result<Response<'static>, Err> {
     let copy = Vec::from_slice(alloc, line)?;
-    match owned_answer(alloc, copy.as_slice()) {
-        Ok((_, response)) => Ok(response),
-        Err(error) => Err(error),
-    }
+    value_of(owned_answer(alloc, copy.as_slice()))
 }
 
-// Whether two responses are equal. They are dropped by calls: in place, each part of each kind would be proved to be.
-fn are_equal(response: Response<'static>, other: Response<'static>) -> bool {
-    let is_equal = response == other;
-    drop(response);
-    drop(other);
-    is_equal
+// Whether two values are equal, or neither is there. Over any type, since a response that is dropped in place is proved
+// to be dropped part by part.
+fn are_equal<T: PartialEq + Drop>(one: Result<T, Err>, other: Result<T, Err>) -> bool {
+    match (one, other) {
+        (Ok(one), Ok(other)) => one == other,
+        (Err(_), Err(_)) => true,
+        _ => false,
+    }
 }
 
 // Whether a line's response equals what a second reading gives, made owned, if there is a response.
 fn equals_owned(alloc: Global, line: &'static [u8]) -> bool {
-    match response_alone(alloc, line) {
-        Ok(owned) => match Response::parse(alloc, line) {
-            Ok((_, response)) => are_equal(response, owned),
-            Err(_) => {
-                drop(owned);
-                false
-            }
-        },
-        Err(_) => Response::parse(alloc, line).is_err(),
-    }
+    are_equal(
+        response_alone(alloc, line),
+        value_of(Response::parse(alloc, line)),
+    )
 }
 
 // Asserts of each line of the table that its response made owned is told as its row says, and equals the borrowed one.
@@ -206,11 +215,9 @@ static READ: Rows = &[
 ];
 
 #[test]
-fn bytes_that_are_gone(rt: HostRuntime) -> Result<(), Fail> {
+fn bytes_that_are_gone(rt: HostRuntime) {
     let alloc = rt.alloc();
     for (line, want) in READ {
-        let response = response_alone(alloc, line)?;
-        assert_says(&rt, alloc, Ok((NOTHING, response)), want);
+        assert_row(&rt, shows(alloc, response_alone(alloc, line), want), want);
     }
-    Ok(())
 }

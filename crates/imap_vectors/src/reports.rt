@@ -2,7 +2,7 @@
 
 ghost use Rattle.std.specs.Prelude.{None};
 
-use crate::answers::displays;
+use crate::answers::assert_texts;
 use imap_report::{Fault, Finish, Sink, Source, report_of, run};
 use std::alloc::Global;
 use std::io::{self, ErrorKind};
@@ -305,11 +305,14 @@ fn writer_fails_anywhere(rt: HostRuntime) {
     }
 }
 
+static FAULTS: &[(Fault, &str)] = &[
+    (Fault::Read, "read failed"),
+    (Fault::Write, "write failed"),
+    (Fault::TooLong, "input too long"),
+    (Fault::OutOfMemory, "out of memory"),
+];
+
 #[test]
 fn faults(rt: HostRuntime) {
-    let alloc = rt.alloc();
-    assert!(rt; displays(alloc, Fault::Read, "read failed"));
-    assert!(rt; displays(alloc, Fault::Write, "write failed"));
-    assert!(rt; displays(alloc, Fault::TooLong, "input too long"));
-    assert!(rt; displays(alloc, Fault::OutOfMemory, "out of memory"));
+    assert_texts(&rt, rt.alloc(), FAULTS);
 }

@@ -14,28 +14,45 @@ fn long(alloc: Global, before: &str, letters: u32, after: &str) -> Result<String
     Ok(text)
 }
 
+/// A line in which a long text stands, and what it says.
+struct Stretched {
+    before: &'static str,
+    letters: u32,
+    after: &'static str,
+    says_before: &'static str,
+    says_after: &'static str,
+}
+
+fn is_told(alloc: Global, row: &Stretched) -> Result<bool, AllocError> {
+    let line = long(alloc, row.before, row.letters, row.after)?;
+    let told = long(alloc, row.says_before, row.letters, row.says_after)?;
+    Ok(parses(alloc, line.as_bytes(), told.as_str()))
+}
+
+static INFORMATION: Stretched = Stretched {
+    before: "* OK ",
+    letters: 70000,
+    after: "\r\n",
+    says_before: "Data { status: Ok, outcome: Outcome { code: None, information: Some(\"",
+    says_after: "\") } }",
+};
+
 // The information of a status line.
 #[test]
-fn long_information(rt: HostRuntime) -> Result<(), Fail> {
-    let alloc = rt.alloc();
-    let line = long(alloc, "* OK ", 70000, "\r\n")?;
-    let before = "Data { status: Ok, outcome: Outcome { code: None, information: Some(\"";
-    let told = long(alloc, before, 70000, "\") } }")?;
-    assert!(rt; parses(alloc, line.as_bytes(), told.as_str()));
-    Ok(())
+fn long_information(rt: HostRuntime) {
+    assert!(rt; matches!(is_told(rt.alloc(), &INFORMATION), Ok(true)));
 }
+
+static NAME: Stretched = Stretched {
+    before: "* STATUS ",
+    letters: 300,
+    after: " ()\r\n",
+    says_before: "MailboxData(Status { mailbox: \"",
+    says_after: "\", status: [] })",
+};
 
 // The name of the mailbox that a state is of.
 #[test]
-fn long_name(rt: HostRuntime) -> Result<(), Fail> {
-    let alloc = rt.alloc();
-    let line = long(alloc, "* STATUS ", 300, " ()\r\n")?;
-    let told = long(
-        alloc,
-        "MailboxData(Status { mailbox: \"",
-        300,
-        "\", status: [] })",
-    )?;
-    assert!(rt; parses(alloc, line.as_bytes(), told.as_str()));
-    Ok(())
+fn long_name(rt: HostRuntime) {
+    assert!(rt; matches!(is_told(rt.alloc(), &NAME), Ok(true)));
 }

@@ -2,22 +2,20 @@
 
 ghost use Rattle.std.specs.Prelude.{◌<◌};
 
-use crate::answers::parses;
+use crate::answers::{NOTHING, parses, says, shows};
 use crate::kept::is_kept;
+use crate::nests::push_times;
 use imap_proto::Response;
 use imap_proto::imap_core::{Err, IResult};
 use imap_proto::stream::{Feed, read_pieces};
 use std::alloc::{AllocError, Global};
-use std::fmt::Debug;
 use std::test::*;
 
 #[test]
 fn open_brackets(rt: HostRuntime) -> Result<(), Fail> {
     let alloc = rt.alloc();
     let mut line = Vec::from_slice(alloc, b"* 1 FETCH (BODYSTRUCTURE ")?;
-    for _ in 0..10_000 {
-        line.push(b'(')?;
-    }
+    push_times(&mut line, b"(", 10_000)?;
     assert!(rt; parses(alloc, &line, "Incomplete(Unknown)"));
     line.extend_from_slice(b"))\r\n")?;
     assert!(rt; parses(alloc, &line, "Fetch(1, [Unknown])"));
@@ -38,9 +36,8 @@ fn told_of(alloc: Global, pieces: &[&[u8]]) -> Result<String, AllocError> {
 }
 
 // Whether the pieces are told so.
-fn are_told(alloc: Global, pieces: &[&[u8]], want: &str) -> Result<bool, AllocError> {
-    let text = told_of(alloc, pieces)?;
-    Ok(text.as_str() == want)
+fn are_told(alloc: Global, pieces: &[&[u8]], want: &str) -> bool {
+    shows(alloc, read_pieces(alloc, pieces), want)
 }
 
 // The bytes in pieces of this size, the last one maybe shorter.
@@ -59,30 +56,29 @@ fn stream_in_pieces(rt: HostRuntime) -> Result<(), Fail> {
     let alloc = rt.alloc();
     for size in [1, 2, 3, 5, 7, 20, 100] {
         let pieces = cut(alloc, STREAM, size)?;
-        assert!(rt; are_told(alloc, &pieces, IN_STREAM)?, "{size}");
+        assert!(rt; are_told(alloc, &pieces, IN_STREAM), "{size}");
     }
     Ok(())
 }
 
 #[test]
-fn streams_without_a_response(rt: HostRuntime) -> Result<(), Fail> {
+fn streams_without_a_response(rt: HostRuntime) {
     let alloc = rt.alloc();
-    assert!(rt; are_told(alloc, &[], "Whole { responses: [], rest: [], end: Waits }")?);
+    assert!(rt; are_told(alloc, &[], "Whole { responses: [], rest: [], end: Waits }"));
     assert!(rt;
         are_told(
             alloc,
             &[b"* X\r\n", b"a1 OK\r\n"],
             "Whole { responses: [], rest: [42, 32, 88, 13, 10, 97, 49, 32, 79, 75, 13, 10], end: Denied }"
-        )?
+        )
     );
-    Ok(())
 }
 
 // Whether one byte at a time gives what the whole line gives.
 fn is_same_in_bytes(alloc: Global, line: &[u8]) -> Result<bool, AllocError> {
     let bytes = cut(alloc, line, 1)?;
     let whole = told_of(alloc, &[line])?;
-    are_told(alloc, &bytes, whole.as_str())
+    Ok(are_told(alloc, &bytes, whole.as_str()))
 }
 
 // How many bytes were left where there is a value.
@@ -114,12 +110,6 @@ pub fn may_be_cut(alloc: Global, line: &[u8]) -> bool {
         Ok(is_same) => is_same && do_beginnings_wait(alloc, line),
         Err(_) => false,
     }
-}
-
-// Whether something is told so.
-fn tells<T: Debug + Drop>(alloc: Global, value: T, want: &str) -> Result<bool, AllocError> {
-    let text = format!(in alloc; "{value:?}")?;
-    Ok(text.as_str() == want)
 }
 
 /// What is done with a feed, or asked of it.
@@ -154,23 +144,19 @@ fn holds(feed: &Feed, want: &[u8]) -> bool {
 }
 
 // Whether the feed does so.
-fn does(alloc: Global, feed: &mut Feed, step: &Step) -> Result<bool, AllocError> {
+fn does(alloc: Global, feed: &mut Feed, step: &Step) -> bool {
     match step {
-        Step::Feed(bytes) => {
-            feed.feed(bytes)?;
-            Ok(true)
-        }
-        Step::Next(want) => tells(alloc, feed.next(), want),
-        Step::Held(want) => Ok(holds(feed, want)),
+        Step::Feed(bytes) => feed.feed(bytes).is_ok(),
+        Step::Next(want) => says(alloc, Ok((NOTHING, feed.next())), want),
+        Step::Held(want) => holds(feed, want),
     }
 }
 
 #[test]
-fn feeding(rt: HostRuntime) -> Result<(), Fail> {
+fn feeding(rt: HostRuntime) {
     let alloc = rt.alloc();
     let mut feed = Feed::new(alloc);
     for (k, step) in STEPS.iter().enumerate() {
-        assert!(rt; does(alloc, &mut feed, step)?, "step {k}");
+        assert!(rt; does(alloc, &mut feed, step), "step {k}");
     }
-    Ok(())
 }

@@ -1,7 +1,7 @@
 //! Texts that bytes are decoded to, each with its mark, and the texts of faults.
 
 use crate::answers::{
-    Marked, Rows, assert_row, assert_says, displays, says, says_marked, with_mark,
+    Marked, Rows, assert_row, assert_says, assert_texts, says, says_marked, with_mark,
 };
 use crate::owned::owned_answer;
 use imap_proto::Response;
@@ -252,37 +252,34 @@ fn made_owned(rt: HostRuntime) {
     }
 }
 
+static FAULTS: &[(Err, &str)] = &[
+    (Err::Incomplete(Needed::Unknown), "more bytes are needed"),
+    (Err::Incomplete(Needed::Size(3)), "more bytes are needed"),
+    (Err::Error, "denied"),
+    (Err::Failure, "out of memory"),
+];
+
+static FAULTS_OF_PARTS: &[(PartsError, &str)] = &[
+    (PartsError::OutOfMemory, "out of memory"),
+    (PartsError::TooManyParts, "too many parts"),
+];
+
+static FAULTS_OF_FEEDS: &[(FeedError, &str)] = &[
+    (FeedError::Denied, "denied"),
+    (FeedError::OutOfMemory, "out of memory"),
+];
+
 #[test]
 fn texts_of_faults(rt: HostRuntime) {
-    let rows = [
-        (Err::Incomplete(Needed::Unknown), "more bytes are needed"),
-        (Err::Incomplete(Needed::Size(3)), "more bytes are needed"),
-        (Err::Error, "denied"),
-        (Err::Failure, "out of memory"),
-    ];
-    for (fault, want) in rows {
-        assert_row(&rt, displays(rt.alloc(), fault, want), want);
-    }
+    assert_texts(&rt, rt.alloc(), FAULTS);
 }
 
 #[test]
 fn texts_of_faults_of_parts(rt: HostRuntime) {
-    let rows = [
-        (PartsError::OutOfMemory, "out of memory"),
-        (PartsError::TooManyParts, "too many parts"),
-    ];
-    for (fault, want) in rows {
-        assert_row(&rt, displays(rt.alloc(), fault, want), want);
-    }
+    assert_texts(&rt, rt.alloc(), FAULTS_OF_PARTS);
 }
 
 #[test]
 fn texts_of_faults_of_feeds(rt: HostRuntime) {
-    let rows = [
-        (FeedError::Denied, "denied"),
-        (FeedError::OutOfMemory, "out of memory"),
-    ];
-    for (fault, want) in rows {
-        assert_row(&rt, displays(rt.alloc(), fault, want), want);
-    }
+    assert_texts(&rt, rt.alloc(), FAULTS_OF_FEEDS);
 }
