@@ -12,3 +12,4 @@ pub mod ListCodes
 pub mod NumberData
 pub mod Owned
 mod AnyCase
+mod Words

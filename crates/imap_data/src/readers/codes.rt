@@ -58,15 +58,6 @@ fn permanent_flags(alloc: Global, i: &[u8]) -> IResult<&[u8], ResponseCode<'_>>
     worded!(i: b"PERMANENTFLAGS ", flag_list(alloc) => ResponseCode::PermanentFlags)
 }
 
-#[tactic(auto, unfolding(crate::specs::Codes::capabilities))]
-fn capabilities(alloc: Global, i: &[u8]) -> IResult<&[u8], ResponseCode<'_>>
-    ensures steps { Steps codes.capabilities code_value i.now result }
-    ensures memory { FailsOnlyIf (BeginsWord "CAPABILITY" i.now) result }
-{
-    let (rest, capabilities) = capability_data(alloc, i)?;
-    Ok((rest, ResponseCode::Capabilities(capabilities)))
-}
-
 #[tactic(auto, unfolding(crate::specs::Codes::uid_validity))]
 fn uid_validity(i: &[u8]) -> IResult<&[u8], ResponseCode<'_>>
     ensures { StepsExactly codes.uid_validity code_value i.now result }
@@ -160,13 +151,13 @@ fn code_of_a(alloc: Global, i: &[u8]) -> IResult<&[u8], ResponseCode<'_>>
     append_uid(alloc, i)
 }
 
-#[tactic(auto, unfolding(crate::specs::Codes::code_of_c))]
+#[tactic(auto, unfolding(crate::specs::Codes::code_of_c, crate::specs::Codes::capabilities))]
 fn code_of_c(alloc: Global, i: &[u8]) -> IResult<&[u8], ResponseCode<'_>>
     ensures steps { Steps codes.code_of_c code_value i.now result }
     ensures memory { FailsOnlyIf (BeginsWord "CAPABILITY" i.now ⊎ BeginsWord "COPYUID " i.now)
         result }
 {
-    first!(capabilities(alloc, i));
+    first!(capability_data(alloc, i), list => ResponseCode::Capabilities(list));
     copy_uid(alloc, i)
 }
 

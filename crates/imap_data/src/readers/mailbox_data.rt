@@ -4,8 +4,12 @@ ghost use Rattle.std.specs.Prelude.{◌⊎◌};
 ghost use Rattle.imap_grammar.specs.Answer.{Answers, Steps, StepsExactly};
 ghost use Rattle.imap_grammar.specs.Memory.{BeginsWord, FailsOnlyIf, SucceedsFor};
 ghost use Rattle.imap_data.specs.MailboxData as rules;
-ghost use Rattle.imap_data.specs.MailboxData.{BeginsListDatum};
-ghost use Rattle.imap_data.specs.DatumValues.{datum_value, IsNumber};
+ghost use Rattle.imap_data.specs.MailboxData.{BeginsListDatum, BeginsText};
+ghost use Rattle.imap_data.specs.DatumValues.{datum_value, IsNumber, Listed};
+ghost use Rattle.imap_data.specs.Counts as counts;
+ghost use Rattle.imap_data.specs.Names as names;
+ghost use Rattle.imap_grammar.specs.Rule.{gives, tag_by, ◌▹◌};
+ghost use Rattle.imap_grammar.specs.Tags.{same_letter};
 
 use super::counts::{found_numbers, status_items};
 use super::names::list_data;
@@ -26,22 +30,16 @@ fn flags(alloc: Global, i: &[u8]) -> IResult<&[u8], MailboxDatum<'_>>
     worded!(i: b"FLAGS ", flag_list(alloc) => MailboxDatum::Flags)
 }
 
-#[tactic(auto, unfolding(crate::specs::MailboxData::list))]
+// A word in any case, and behind it what LIST says.
 #[inline(always)]
-fn list(alloc: Global, i: &[u8]) -> IResult<&[u8], MailboxDatum<'_>>
-    ensures steps { Steps rules.list datum_value i.now result }
-    ensures memory { FailsOnlyIf (BeginsWord "LIST " i.now) result }
+fn listed<'a>(alloc: Global, text: &[u8], i: &'a [u8]) -> IResult<&'a [u8], MailboxDatum<'a>>
+    ensures steps { Steps (gives Listed (tag_by same_letter text.now ▹ names.list_data)) datum_value
+        i.now result }
+    ensures memory { FailsOnlyIf (BeginsText text.now i.now) result }
 {
-    worded!(i: b"LIST ", list_data(alloc) => MailboxDatum::List)
-}
-
-#[tactic(auto, unfolding(crate::specs::MailboxData::lsub))]
-#[inline(always)]
-fn lsub(alloc: Global, i: &[u8]) -> IResult<&[u8], MailboxDatum<'_>>
-    ensures steps { Steps rules.lsub datum_value i.now result }
-    ensures memory { FailsOnlyIf (BeginsWord "LSUB " i.now) result }
-{
-    worded!(i: b"LSUB ", list_data(alloc) => MailboxDatum::List)
+    let (rest, _) = word(text, i)?;
+    let (rest, list) = list_data(alloc, rest)?;
+    Ok((rest, MailboxDatum::List(list)))
 }
 
 #[tactic(auto, unfolding(crate::specs::MailboxData::status))]
@@ -55,52 +53,6 @@ fn status(alloc: Global, i: &[u8]) -> IResult<&[u8], MailboxDatum<'_>>
     let (rest, _) = tag(b" ", rest)?;
     let (rest, status) = status_items(alloc, rest)?;
     Ok((rest, MailboxDatum::Status { mailbox, status }))
-}
-
-#[tactic(auto, unfolding(crate::specs::MailboxData::search))]
-#[inline(always)]
-fn search(alloc: Global, i: &[u8]) -> IResult<&[u8], MailboxDatum<'_>>
-    ensures steps { Steps rules.search datum_value i.now result }
-    ensures memory { FailsOnlyIf (BeginsWord "SEARCH" i.now) result }
-{
-    worded!(i: b"SEARCH", found_numbers(alloc) => MailboxDatum::Search)
-}
-
-#[tactic(auto, unfolding(crate::specs::MailboxData::labels))]
-#[inline(always)]
-fn labels(alloc: Global, i: &[u8]) -> IResult<&[u8], MailboxDatum<'_>>
-    ensures steps { Steps rules.labels datum_value i.now result }
-    ensures memory { FailsOnlyIf (BeginsWord "X-GM-LABELS " i.now) result }
-{
-    let (rest, labels) = gmail_label_list(alloc, i)?;
-    Ok((rest, MailboxDatum::GmailLabels(labels)))
-}
-
-#[tactic(auto, unfolding(crate::specs::MailboxData::msgid))]
-#[inline(always)]
-fn msgid(i: &[u8]) -> IResult<&[u8], MailboxDatum<'_>>
-    ensures { StepsExactly rules.msgid datum_value i.now result }
-{
-    let (rest, number) = gmail_msgid(i)?;
-    Ok((rest, MailboxDatum::GmailMsgId(number)))
-}
-
-#[tactic(auto, unfolding(crate::specs::MailboxData::thrid))]
-#[inline(always)]
-fn thrid(i: &[u8]) -> IResult<&[u8], MailboxDatum<'_>>
-    ensures { StepsExactly rules.thrid datum_value i.now result }
-{
-    let (rest, number) = gmail_thrid(i)?;
-    Ok((rest, MailboxDatum::GmailThrId(number)))
-}
-
-#[tactic(auto, unfolding(crate::specs::MailboxData::sort))]
-#[inline(always)]
-fn sort(alloc: Global, i: &[u8]) -> IResult<&[u8], MailboxDatum<'_>>
-    ensures steps { Steps rules.sort datum_value i.now result }
-    ensures memory { FailsOnlyIf (BeginsWord "SORT" i.now) result }
-{
-    worded!(i: b"SORT", found_numbers(alloc) => MailboxDatum::Sort)
 }
 
 // The number is read once, whichever word stands behind it.
@@ -119,18 +71,29 @@ fn datum_of_number(i: &[u8]) -> IResult<&[u8], MailboxDatum<'_>>
 ///
 /// Any other word, or a part that is missing, is `Error`. It takes memory only behind `LIST` or `LSUB`, for the
 /// attributes, and for texts that are not UTF-8.
-#[tactic(auto, using(imap_grammar::proofs::Agreement::answered), unfolding(crate::specs::MailboxData::list_or_lsub))]
+#[tactic(auto, using(imap_grammar::proofs::Agreement::answered), unfolding(crate::specs::MailboxData::list_or_lsub, crate::specs::MailboxData::list, crate::specs::MailboxData::lsub))]
 #[inline(always)]
 pub fn list_or_lsub(alloc: Global, i: &[u8]) -> IResult<&[u8], MailboxDatum<'_>>
     ensures steps { Steps rules.list_or_lsub datum_value i.now result }
     ensures answer { Answers rules.list_or_lsub datum_value i.now result }
     ensures memory { FailsOnlyIf (BeginsWord "LIST " i.now ⊎ BeginsWord "LSUB " i.now) result }
 {
-    first!(list(alloc, i));
-    lsub(alloc, i)
+    first!(listed(alloc, b"LIST ", i));
+    listed(alloc, b"LSUB ", i)
 }
 
-#[tactic(auto, unfolding(crate::specs::MailboxData::datum_of_s))]
+// A word in any case, and numbers behind it.
+#[inline(always)]
+fn found<'a>(alloc: Global, text: &[u8], i: &'a [u8]) -> IResult<&'a [u8], Vec<u32>>
+    ensures steps { Steps (tag_by same_letter text.now ▹ counts.found_numbers) (λ x. x.items) i.now
+        result }
+    ensures memory { FailsOnlyIf (BeginsText text.now i.now) result }
+{
+    let (rest, _) = word(text, i)?;
+    found_numbers(alloc, rest)
+}
+
+#[tactic(auto, unfolding(crate::specs::MailboxData::datum_of_s, crate::specs::MailboxData::search, crate::specs::MailboxData::sort))]
 #[inline(always)]
 fn datum_of_s(alloc: Global, i: &[u8]) -> IResult<&[u8], MailboxDatum<'_>>
     ensures steps { Steps rules.datum_of_s datum_value i.now result }
@@ -138,19 +101,21 @@ fn datum_of_s(alloc: Global, i: &[u8]) -> IResult<&[u8], MailboxDatum<'_>>
         ⊎ BeginsWord "SORT" i.now) result }
 {
     first!(status(alloc, i));
-    first!(search(alloc, i));
-    sort(alloc, i)
+    first!(found(alloc, b"SEARCH", i), numbers => MailboxDatum::Search(numbers));
+    first!(found(alloc, b"SORT", i), numbers => MailboxDatum::Sort(numbers));
+    Err(Err::Error)
 }
 
-#[tactic(auto, using(imap_grammar::proofs::Memory::never_memory), unfolding(crate::specs::MailboxData::datum_of_x))]
+#[tactic(auto, using(imap_grammar::proofs::Memory::never_memory), unfolding(crate::specs::MailboxData::datum_of_x, crate::specs::MailboxData::labels, crate::specs::MailboxData::msgid, crate::specs::MailboxData::thrid))]
 #[inline(always)]
 fn datum_of_x(alloc: Global, i: &[u8]) -> IResult<&[u8], MailboxDatum<'_>>
     ensures steps { Steps rules.datum_of_x datum_value i.now result }
     ensures memory { FailsOnlyIf (BeginsWord "X-GM-LABELS " i.now) result }
 {
-    first!(labels(alloc, i));
-    first!(msgid(i));
-    thrid(i)
+    first!(gmail_label_list(alloc, i), labels => MailboxDatum::GmailLabels(labels));
+    first!(gmail_msgid(i), number => MailboxDatum::GmailMsgId(number));
+    first!(gmail_thrid(i), number => MailboxDatum::GmailThrId(number));
+    Err(Err::Error)
 }
 
 // Of the data those are tried, in order, that may start with the first byte.

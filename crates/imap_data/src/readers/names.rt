@@ -95,19 +95,12 @@ fn name_attributes(alloc: Global, i: &[u8]) -> IResult<&[u8], Vec<NameAttribute<
     parenthesized_list(alloc, name_attribute, i)
 }
 
-fn some_delimiter(alloc: Global, i: &[u8]) -> IResult<&[u8], Option<CowStr<'_>>>
-    ensures { Steps names.some_delimiter (option_map text_of) i.now result }
-{
-    let (rest, text) = quoted_utf8(alloc, i)?;
-    Ok((rest, Some(text)))
-}
-
 // The hierarchy delimiter, `None` for NIL.
 #[tactic(auto, unfolding(crate::specs::Names::delimiter))]
 fn delimiter(alloc: Global, i: &[u8]) -> IResult<&[u8], Option<CowStr<'_>>>
     ensures { Steps names.delimiter (option_map text_of) i.now result }
 {
-    first!(some_delimiter(alloc, i));
+    first!(quoted_utf8(alloc, i), text => Some(text));
     let (rest, _) = nil(i)?;
     Ok((rest, None))
 }

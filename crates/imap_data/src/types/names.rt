@@ -1,13 +1,13 @@
 //! Attributes of mailbox names, and the data of LIST.
 
-ghost use Rattle.std.specs.Prelude.{◌≡◌, IfOk, IsOk, map};
+ghost use Rattle.std.specs.Prelude.{◌≡◌, IfOk, IsOk};
 ghost use Rattle.std.specs.Option.{option_map};
 ghost use Rattle.imap_grammar.specs.Text.{text_of};
-ghost use Rattle.imap_data.specs.Names.{attribute_value, list_value, IsLentAttribute};
+ghost use Rattle.imap_data.specs.Names.{NameAttributeValue, attribute_value, list_value, IsLentAttribute};
 ghost use Rattle.imap_data.specs.Owned.{owned_attribute, owned_list, IsOwnedAttribute};
 
-use imap_items::copies::copied_text;
-use imap_items::owned::{owned_optional_text, owned_text};
+use imap_items::copies::{TryClone, copied_text, each_copied};
+use imap_items::owned::{IntoOwned, each_owned, owned_optional_text, owned_text};
 use std::alloc::{AllocError, Global};
 use std::borrow::CowStr;
 
@@ -98,17 +98,30 @@ impl<'a> NameAttribute<'a> {
     }
 }
 
-fn copied_attributes<'a>(
-    attributes: &Vec<NameAttribute<'a>>,
-) -> Result<Vec<NameAttribute<'a>>, AllocError>
-    ensures { IfOk result (λ v.
-        map attribute_value v.items ≡ map attribute_value attributes.now.items) }
-{
-    let mut copy = Vec::with_capacity(*attributes.allocator(), attributes.len())?;
-    for attribute in attributes {
-        copy.push(attribute.clone()?)?;
+impl<'a> TryClone for NameAttribute<'a> {
+    ghost meaning = { NameAttributeValue };
+
+    ghost said = { attribute_value };
+
+    fn try_clone(&self) -> Result<NameAttribute<'a>, AllocError> {
+        self.clone()
     }
-    Ok(copy)
+}
+
+impl<'a> IntoOwned for NameAttribute<'a> {
+    type Owned = NameAttribute<'static>;
+
+    ghost meaning = { NameAttributeValue };
+
+    ghost said = { attribute_value };
+
+    ghost owned = { owned_attribute };
+
+    ghost owned_said = { attribute_value };
+
+    fn into_owned(self, alloc: Global) -> Result<NameAttribute<'static>, AllocError> {
+        self.into_owned(alloc)
+    }
 }
 
 fn copied_delimiter<'a>(delimiter: &Option<CowStr<'a>>) -> Result<Option<CowStr<'a>>, AllocError>
@@ -120,28 +133,13 @@ fn copied_delimiter<'a>(delimiter: &Option<CowStr<'a>>) -> Result<Option<CowStr<
     })
 }
 
-fn owned_attributes(
-    alloc: Global,
-    attributes: Vec<NameAttribute<'_>>,
-) -> Result<Vec<NameAttribute<'static>>, AllocError>
-    ensures { IfOk result (λ v.
-        map attribute_value v.items
-        ≡ map owned_attribute (map attribute_value attributes.entry.items)) }
-{
-    let mut owned = Vec::with_capacity(alloc, attributes.len())?;
-    for attribute in attributes {
-        owned.push(attribute.into_owned(alloc)?)?;
-    }
-    Ok(owned)
-}
-
 impl<'a> MailboxListData<'a> {
     /// A copy. It takes memory for the attributes and for owned texts; `Err`: memory ran out.
     pub fn clone(&self) -> Result<Self, AllocError>
         ensures { IfOk result (λ c. list_value c ≡ list_value self.now) }
     {
         Ok(MailboxListData {
-            name_attributes: copied_attributes(&self.name_attributes)?,
+            name_attributes: each_copied(&self.name_attributes)?,
             delimiter: copied_delimiter(&self.delimiter)?,
             name: copied_text(&self.name)?,
         })
@@ -153,7 +151,7 @@ impl<'a> MailboxListData<'a> {
         ensures { IfOk result (λ l. list_value l ≡ owned_list (list_value self.entry)) }
     {
         Ok(MailboxListData {
-            name_attributes: owned_attributes(alloc, self.name_attributes)?,
+            name_attributes: each_owned(alloc, self.name_attributes)?,
             delimiter: owned_optional_text(alloc, self.delimiter)?,
             name: owned_text(alloc, self.name)?,
         })

@@ -1,12 +1,12 @@
 //! Access control lists.
 
-ghost use Rattle.std.specs.Prelude.{◌≡◌, [], map, IfOk, IsOk};
+ghost use Rattle.std.specs.Prelude.{◌≡◌, [], IfOk, IsOk};
 ghost use Rattle.imap_grammar.specs.Text.{text_of, IsOwned};
-ghost use Rattle.imap_extensions.specs.Acls.{acl_entry_value, acl_value, list_rights_value, my_rights_value};
+ghost use Rattle.imap_extensions.specs.Acls.{AclEntryValue, acl_entry_value, acl_value, list_rights_value, my_rights_value};
 ghost use Rattle.imap_extensions.specs.Owned.{owned_acl_entry, owned_acl, owned_list_rights, owned_my_rights};
 
 use imap_items::AclRight;
-use imap_items::owned::owned_text;
+use imap_items::owned::{IntoOwned, each_owned, owned_text};
 use std::alloc::{AllocError, Global};
 use std::borrow::CowStr;
 
@@ -68,20 +68,20 @@ impl<'a> AclEntry<'a> {
     }
 }
 
-fn owned_entries(
-    alloc: Global,
-    entries: Vec<AclEntry<'_>>,
-) -> Result<Vec<AclEntry<'static>>, AllocError>
-    ensures same { IfOk result (λ v.
-        map acl_entry_value v.items
-        ≡ map owned_acl_entry (map acl_entry_value entries.entry.items)) }
-    ensures memory { entries.entry.items ≡ [] → IsOk result }
-{
-    let mut owned = Vec::with_capacity(alloc, entries.len())?;
-    for entry in entries {
-        owned.push(entry.into_owned(alloc)?)?;
+impl<'a> IntoOwned for AclEntry<'a> {
+    type Owned = AclEntry<'static>;
+
+    ghost meaning = { AclEntryValue };
+
+    ghost said = { acl_entry_value };
+
+    ghost owned = { owned_acl_entry };
+
+    ghost owned_said = { acl_entry_value };
+
+    fn into_owned(self, alloc: Global) -> Result<AclEntry<'static>, AllocError> {
+        self.into_owned(alloc)
     }
-    Ok(owned)
 }
 
 impl<'a> Acl<'a> {
@@ -93,7 +93,7 @@ impl<'a> Acl<'a> {
     {
         Ok(Acl {
             mailbox: owned_text(alloc, self.mailbox)?,
-            acls: owned_entries(alloc, self.acls)?,
+            acls: each_owned(alloc, self.acls)?,
         })
     }
 }

@@ -3,8 +3,9 @@
 ghost use Rattle.std.specs.Prelude.{◌≡◌, [], IfOk, IsOk, map};
 ghost use Rattle.std.specs.Option.{option_map};
 ghost use Rattle.std.specs.String.{string_bytes};
-ghost use Rattle.imap_extensions.specs.Annotations.{metadata_value};
+ghost use Rattle.imap_extensions.specs.Annotations.{MetadataValue, metadata_value};
 
+use imap_items::copies::{TryClone, each_copied};
 use std::alloc::AllocError;
 
 /// An annotation: its entry and its value, if it has one (RFC 5464, section 5).
@@ -37,15 +38,21 @@ fn copied_value(value: &Option<String>) -> Result<Option<String>, AllocError>
     })
 }
 
+impl TryClone for Metadata {
+    ghost meaning = { MetadataValue };
+
+    ghost said = { metadata_value };
+
+    fn try_clone(&self) -> Result<Metadata, AllocError> {
+        self.clone()
+    }
+}
+
 /// The same annotations. It takes memory for the list, unless that is empty, and for the texts; `Err`: memory ran out.
 pub fn copied_annotations(annotations: &Vec<Metadata>) -> Result<Vec<Metadata>, AllocError>
     ensures same { IfOk result (λ v.
         map metadata_value v.items ≡ map metadata_value annotations.now.items) }
     ensures memory { annotations.now.items ≡ [] → IsOk result }
 {
-    let mut copy = Vec::with_capacity(*annotations.allocator(), annotations.len())?;
-    for annotation in annotations {
-        copy.push(annotation.clone()?)?;
-    }
-    Ok(copy)
+    each_copied(annotations)
 }

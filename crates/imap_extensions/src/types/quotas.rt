@@ -1,13 +1,13 @@
 //! Quotas.
 
-ghost use Rattle.std.specs.Prelude.{◌≡◌, [], map, IfOk, IsOk};
+ghost use Rattle.std.specs.Prelude.{◌≡◌, [], IfOk, IsOk};
 ghost use Rattle.imap_grammar.specs.Text.{text_of, IsOwned};
 ghost use Rattle.imap_items.specs.Copies.{IsLent};
-ghost use Rattle.imap_extensions.specs.Quotas.{quota_resource_name_value, quota_resource_value, quota_value, quota_root_value, IsLentName};
+ghost use Rattle.imap_extensions.specs.Quotas.{QuotaResourceValue, quota_resource_name_value, quota_resource_value, quota_value, quota_root_value, IsLentName};
 ghost use Rattle.imap_extensions.specs.Owned.{owned_quota_resource_name, owned_quota_resource, owned_quota, owned_quota_root, IsOwnedName};
 
-use imap_items::copies::{copied_text, copied_texts};
-use imap_items::owned::{owned_text, owned_texts};
+use imap_items::copies::{TryClone, copied_text, copied_texts, each_copied};
+use imap_items::owned::{IntoOwned, each_owned, owned_text, owned_texts};
 use std::alloc::{AllocError, Global};
 use std::borrow::CowStr;
 
@@ -111,34 +111,30 @@ impl<'a> QuotaResource<'a> {
     }
 }
 
-fn copied_resources<'a>(
-    resources: &Vec<QuotaResource<'a>>,
-) -> Result<Vec<QuotaResource<'a>>, AllocError>
-    ensures same { IfOk result (λ v.
-        map quota_resource_value v.items ≡ map quota_resource_value resources.now.items) }
-    ensures memory { resources.now.items ≡ [] → IsOk result }
-{
-    let mut copies = Vec::with_capacity(*resources.allocator(), resources.len())?;
-    for resource in resources {
-        copies.push(resource.clone()?)?;
+impl<'a> TryClone for QuotaResource<'a> {
+    ghost meaning = { QuotaResourceValue };
+
+    ghost said = { quota_resource_value };
+
+    fn try_clone(&self) -> Result<QuotaResource<'a>, AllocError> {
+        self.clone()
     }
-    Ok(copies)
 }
 
-fn owned_resources(
-    alloc: Global,
-    resources: Vec<QuotaResource<'_>>,
-) -> Result<Vec<QuotaResource<'static>>, AllocError>
-    ensures same { IfOk result (λ v.
-        map quota_resource_value v.items
-        ≡ map owned_quota_resource (map quota_resource_value resources.entry.items)) }
-    ensures memory { resources.entry.items ≡ [] → IsOk result }
-{
-    let mut owned = Vec::with_capacity(alloc, resources.len())?;
-    for resource in resources {
-        owned.push(resource.into_owned(alloc)?)?;
+impl<'a> IntoOwned for QuotaResource<'a> {
+    type Owned = QuotaResource<'static>;
+
+    ghost meaning = { QuotaResourceValue };
+
+    ghost said = { quota_resource_value };
+
+    ghost owned = { owned_quota_resource };
+
+    ghost owned_said = { quota_resource_value };
+
+    fn into_owned(self, alloc: Global) -> Result<QuotaResource<'static>, AllocError> {
+        self.into_owned(alloc)
     }
-    Ok(owned)
 }
 
 impl<'a> Quota<'a> {
@@ -150,7 +146,7 @@ impl<'a> Quota<'a> {
     {
         Ok(Quota {
             root_name: copied_text(&self.root_name)?,
-            resources: copied_resources(&self.resources)?,
+            resources: each_copied(&self.resources)?,
         })
     }
 
@@ -164,7 +160,7 @@ impl<'a> Quota<'a> {
     {
         Ok(Quota {
             root_name: owned_text(alloc, self.root_name)?,
-            resources: owned_resources(alloc, self.resources)?,
+            resources: each_owned(alloc, self.resources)?,
         })
     }
 }

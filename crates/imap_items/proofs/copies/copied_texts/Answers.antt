@@ -1,6 +1,5 @@
-use Rattle.std.proofs.Common.{arith}
-use Rattle.std.proofs.lemmas.Grind.{common_steps}
+use Rattle.std.proofs.Common.{rules}
 use Rattle.imap_items.proofs.copies.copied_texts.Goals as goal
 
-pub loop-text-preserved : goal.loop-text-preserved
-loop-text-preserved c = grind (arith, common_steps)
+pub returns-clause-same : goal.returns-clause-same
+returns-clause-same c = search rules depth 2

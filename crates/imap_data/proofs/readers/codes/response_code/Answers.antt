@@ -1,9 +1,15 @@
-use Rattle.std.proofs.Common.{rules}
+use Rattle.std.proofs.Common.{rules, refl}
 use Rattle.imap_grammar.specs.Tags.{tag}
 use Rattle.imap_grammar.proofs.Memory.{part_failed}
+use Rattle.imap_data.specs.Codes.{response_code}
 use Rattle.imap_data.proofs.Codes.{ordered_code}
 use Rattle.imap_data.proofs.ListCodes.{list_code_failed}
 use Rattle.imap_data.proofs.readers.codes.response_code.Goals as goal
+
+pub returns-clause-steps : goal.returns-clause-steps
+unfolding response_code
+returns-clause-steps c =
+    rw (c.in_ok-rest.ensures.steps, c.in_ok-rest-2.ensures.steps, c.in_ok-rest-3.ensures.steps) refl
 
 pub returns-clause-ordered : goal.returns-clause-ordered
 returns-clause-ordered c = ordered_code _ _ _ c.in_ok-rest-2.ensures.steps
