@@ -55,40 +55,46 @@ impl<S: Drop, B: Drop, Y: Drop> Parts<S, B, Y> {
                 section,
                 index,
                 contents,
-            } => others.push_reserved(Parts::BodySection {
-                section: copied_section(alloc, section)?,
-                index: *index,
-                contents: mapped_optional_text(d, contents)?,
-            }),
+            } => {
+                let section = copied_section(alloc, section)?;
+                let contents = made!(mapped_optional_text(d, contents), section);
+                others.push_reserved(Parts::BodySection {
+                    section,
+                    index: *index,
+                    contents,
+                });
+            }
             Parts::BodyStructure(body) => return push_body(e, body, others),
-            Parts::Envelope(envelope) => others.push_reserved(Parts::Envelope(mapped_envelope(
-                alloc, d, envelope,
-            )?)),
-            Parts::Flags(flags) => others.push_reserved(Parts::Flags(mapped_texts(
-                alloc, c, flags,
-            )?)),
-            Parts::InternalDate(date) => others.push_reserved(Parts::InternalDate(c.change(date)?)),
+            Parts::Envelope(envelope) => others.push_reserved(Parts::Envelope(made!(mapped_envelope(
+                alloc, d, envelope
+            )))),
+            Parts::Flags(flags) => others.push_reserved(Parts::Flags(made!(mapped_texts(
+                alloc, c, flags
+            )))),
+            Parts::InternalDate(date) => {
+                others.push_reserved(Parts::InternalDate(made!(c.change(date))))
+            }
             Parts::ModSeq(n) => others.push_reserved(Parts::ModSeq(*n)),
-            Parts::Rfc822(message) => others.push_reserved(Parts::Rfc822(mapped_optional_text(
-                d, message,
-            )?)),
-            Parts::Rfc822Header(header) => others.push_reserved(Parts::Rfc822Header(
-                mapped_optional_text(d, header)?,
-            )),
+            Parts::Rfc822(message) => others.push_reserved(Parts::Rfc822(made!(mapped_optional_text(
+                d, message
+            )))),
+            Parts::Rfc822Header(header) => others.push_reserved(Parts::Rfc822Header(made!(
+                mapped_optional_text(d, header)
+            ))),
             Parts::Rfc822Size(n) => others.push_reserved(Parts::Rfc822Size(*n)),
-            Parts::Rfc822Text(text) => others.push_reserved(Parts::Rfc822Text(mapped_optional_text(
-                d, text,
-            )?)),
+            Parts::Rfc822Text(text) => others.push_reserved(Parts::Rfc822Text(made!(
+                mapped_optional_text(d, text)
+            ))),
             Parts::Uid(n) => others.push_reserved(Parts::Uid(*n)),
-            Parts::GmailLabels(labels) => others.push_reserved(Parts::GmailLabels(mapped_texts(
-                alloc, c, labels,
-            )?)),
+            Parts::GmailLabels(labels) => others.push_reserved(Parts::GmailLabels(made!(
+                mapped_texts(alloc, c, labels)
+            ))),
             Parts::GmailMsgId(n) => others.push_reserved(Parts::GmailMsgId(*n)),
             Parts::GmailThrId(n) => others.push_reserved(Parts::GmailThrId(*n)),
-            Parts::EmailId(id) => others.push_reserved(Parts::EmailId(c.change(id)?)),
-            Parts::ThreadId(id) => others.push_reserved(Parts::ThreadId(mapped_optional_text(
-                c, id,
-            )?)),
+            Parts::EmailId(id) => others.push_reserved(Parts::EmailId(made!(c.change(id)))),
+            Parts::ThreadId(id) => others.push_reserved(Parts::ThreadId(made!(mapped_optional_text(
+                c, id
+            )))),
             Parts::Unknown => others.push_reserved(Parts::Unknown),
         }
         Ok(())
@@ -110,6 +116,23 @@ impl<S: Drop, B: Drop, Y: Drop> Parts<S, B, Y> {
         self.push_mapped(alloc, c, d, e, &mut mapped)?;
         // One was just put there; the error only gives the function a value.
         mapped.pop().ok_or(AllocError)
+    }
+
+    /// The same, and this attribute is let go of.
+    pub(crate) fn into_mapped<C: Change<S>, D: Change<B>, E: BodyChange<Y>>(
+        self,
+        alloc: Global,
+        c: &C,
+        d: &D,
+        e: &E,
+    ) -> Result<Parts<C::To, D::To, E::To>, AllocError>
+        ensures { IfOk result (λ x.
+            attribute_seen C.after D.after E.after x
+            ≡ attribute_seen (C.before c.now) (D.before d.now) (E.before e.now) self) }
+    {
+        let mapped = self.try_map(alloc, c, d, e);
+        drop(self); // By a call, as `imap_shapes` drops what it owns.
+        mapped
     }
 }
 

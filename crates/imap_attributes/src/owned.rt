@@ -14,9 +14,7 @@ impl<'a> AttributeValue<'a> {
         ensures { IfOk result (λ x. attribute_value x ≡ attribute_owned self.entry) }
     {
         let owning = Owning::new(alloc);
-        let owned = self.try_map(alloc, &owning, &owning, &owning);
-        drop(self); // By a call, as `imap_shapes` drops what it owns.
-        owned
+        self.into_mapped(alloc, &owning, &owning, &owning)
     }
 }
 

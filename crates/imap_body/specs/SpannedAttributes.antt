@@ -1,10 +1,12 @@
 -- Attributes that are kept as positions of a message: what they name in one, and how they stand in it.
-use Rattle.std.specs.Prelude.{◌≡◌, ℕ, ◌+◌, ◌-◌, ◌≤◌, List, [], ◌∷◌, take, drop, map, codes, Ok, Err}
+use Rattle.std.specs.Prelude.{◌≡◌, ℕ, ◌+◌, ◌-◌, ◌≤◌, List, [], ◌∷◌, take, drop, map, codes, Result, Ok, Err, IsOkAnd, IsErrAnd}
+use Rattle.std.specs.declared.alloc.AllocError.{AllocError}
 use Rattle.std.specs.declared.alloc.Global.{Global}
 use Rattle.std.specs.declared.vec.Vec.{Vec}
 use Rattle.imap_grammar.specs.Text.{Bytes, Text, as_text}
 use Rattle.imap_grammar.specs.declared.at.span.Span.{Span}
-use Rattle.imap_grammar.specs.Answer.{Stops}
+use Rattle.imap_grammar.specs.Answer.{Returned, Stops}
+use Rattle.imap_grammar.specs.declared.answer.Err.TheVariants.{Failure}
 use Rattle.imap_grammar.specs.Positions.{Reached, named_in}
 use Rattle.imap_grammar.specs.Step.{Step}
 use Rattle.imap_grammar.specs.Rule.{meaning}
@@ -92,6 +94,18 @@ KeepsAt {S} {B} text bytes keeps m p (Ok x) s =
     × (s ≡ Ok (drop x.0 m, map (attribute_said text bytes m) read))
     × TurnsAt text bytes m p x.0 read
 KeepsAt text bytes keeps m p (Err e) s = Stops e s
+
+-- ---- from positions to slices
+
+-- what was reached in m from its start, with the rest as a slice
+abbrev pub IsSliced : {A : Type 0} → Bytes → Reached A → Returned A → Type 0
+IsSliced m (Ok x) result = IsOkAnd result (λ y. (y.0.now ≡ drop x.0 m) × (y.1 ≡ x.1))
+IsSliced m (Err e) result = IsErrAnd result (λ d. d ≡ e)
+
+-- what was made where q was reached, with the rest as a slice; or want of memory
+abbrev pub IsMadeAt : {A : Type 0} → Bytes → ℕ → Result A AllocError → Returned A → Type 0
+IsMadeAt m q (Ok x) result = IsOkAnd result (λ y. (y.0.now ≡ drop q m) × (y.1 ≡ x))
+IsMadeAt m q (Err e) result = IsErrAnd result (λ d. d ≡ Failure)
 
 -- ---- the positions themselves, whatever message they are of: a span is seen as a text of its two numbers
 

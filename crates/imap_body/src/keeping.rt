@@ -191,7 +191,7 @@ impl<'a> KeepAttribute for Named<'a> {
             ≡ map (attribute_said (λ n. text_of) (λ n. bytes_of) self.now.message.now)
             (read ++ attribute.entry ∷ [])) }
     {
-        attribute.push_value(self.message, kept)
+        attribute.push_parts(self.message, kept)
     }
 }
 

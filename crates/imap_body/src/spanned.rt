@@ -4,19 +4,21 @@
 ghost use Rattle.std.specs.Prelude.{◌≡◌, ◌≤◌, ◌+◌, ◌++◌, ◌∷◌, [], length, drop, map, All, IfOk, OnOk};
 ghost use Rattle.imap_grammar.specs.Memory.{BeginsWord, FailsOnlyIf};
 ghost use Rattle.imap_grammar.specs.Positions.{AnswersAt, Ahead, StepsAt};
-ghost use Rattle.imap_attributes.specs.AttributeValues.{attribute_value, kept_value};
+ghost use Rattle.imap_grammar.specs.Text.{Text};
+ghost use Rattle.imap_attributes.specs.AttributeValues.{attribute_seen, attribute_value};
+ghost use Rattle.imap_shapes.specs.BodyValues.{body_seen, boxed_seen};
 ghost use Rattle.imap_body.specs.SpannedAttributes.{span_of, attribute_in, attribute_said, EndsAt, InFront, InTurn, WithinItsSpan};
 ghost use Rattle.imap_body.specs.Attributes as rules;
 
 use crate::at::attributes::attribute;
 use crate::keeping::{KeepAttribute, kept_list};
-use imap_attributes::{AttributeKept, AttributeValue};
+use imap_attributes::{AttributeKept, AttributeParts, AttributeValue};
 use imap_bytes::at::Reached;
 use imap_envelopes::Positions;
 use imap_shapes::made;
+use imap_shapes::shapes::bodies::BodyStructure;
 use imap_shapes::spans::{Span, SpannedText};
 use std::alloc::{AllocError, Global};
-use std::borrow::{CowSlice, CowStr};
 
 /// An attribute of a message as positions and numbers. `S` and `B` are what is kept of its texts and byte strings; by
 /// default their positions.
@@ -48,30 +50,29 @@ impl SpannedAttribute {
     }
 }
 
-impl<'a> SpannedAttribute<CowStr<'a>, CowSlice<'a, u8>> {
-    /// Puts the attribute, which was read in m, after the others: what was kept of its strings is what they are. It
-    /// takes memory where the list has no room; `Err`: memory ran out.
-    pub(crate) fn push_value(
+impl<S: Drop, B: Drop> SpannedAttribute<S, B> {
+    /// Puts the attribute, which was read in m, after the others, its body structure out of its box. It takes memory
+    /// where the list has no room; `Err`: memory ran out.
+    // Generic in what was kept of its strings: a proof over values that borrow takes ten times as long.
+    pub(crate) fn push_parts(
         self,
         m: &[u8],
-        values: &mut Vec<AttributeValue<'a>>,
+        others: &mut Vec<AttributeParts<S, B, BodyStructure<S, B>>>,
     ) -> Result<(), AllocError>
-        ensures { OnOk result
-            (map attribute_value values.new.items
-            ≡ map attribute_value values.old.items ++ kept_value self.entry.parts ∷ []) }
+        ensures { (f : S → Text) (h : B → Text) →
+            OnOk result
+            (map (attribute_seen f h (body_seen f h)) others.new.items
+            ≡ map (attribute_seen f h (body_seen f h)) others.old.items
+            ++ attribute_seen f h (λ b. boxed_seen f h b) self.parts ∷ []) }
     {
-        make_first_room(values, m, self.span.end)?;
-        self.parts.push_unboxed(values)
+        make_first_room(others, m, self.span.end)?;
+        self.parts.push_unboxed(others)
     }
 }
 
 // Room in an empty list, where its first attribute ends at `end`: for one where no other follows, else for two. A
 // value is large, and most lists have one or two.
-fn make_first_room(
-    values: &mut Vec<AttributeValue<'_>>,
-    m: &[u8],
-    end: usize,
-) -> Result<(), AllocError>
+fn make_first_room<T>(values: &mut Vec<T>, m: &[u8], end: usize) -> Result<(), AllocError>
     ensures { values.new.items ≡ values.old.items }
 {
     if !values.is_empty() {

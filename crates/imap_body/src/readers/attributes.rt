@@ -6,16 +6,41 @@ ghost use Rattle.imap_grammar.specs.Memory.{BeginsWord, FailsOnlyIf};
 ghost use Rattle.imap_grammar.specs.Positions.{named_in};
 ghost use Rattle.imap_grammar.specs.declared.answer.Err.TheVariants.{Failure};
 ghost use Rattle.imap_attributes.specs.AttributeValues.{attribute_value, parts_in};
+ghost use Rattle.imap_body.specs.SpannedAttributes.{IsSliced, IsMadeAt};
 ghost use Rattle.imap_body.specs.Attributes as rules;
 
 use crate::at;
 use crate::keeping::kept_list;
 use imap_attributes::{AttributeSpans, AttributeValue};
 use imap_bytes::IResult;
+use imap_bytes::at::Reached;
 use imap_bytes::at::span::rest;
 use imap_envelopes::{Named, Positions};
 use imap_shapes::made;
-use std::alloc::Global;
+use std::alloc::{AllocError, Global};
+
+// What was reached in i from its start, with the rest as a slice. Over any type: a proof over attributes, which borrow,
+// takes ten times as long.
+fn sliced<T: Drop>(i: &[u8], reached: Reached<T>) -> IResult<&[u8], T>
+    requires { IfOk reached (λ x. x.0 ≤ length i.now) }
+    ensures { IsSliced i.now reached result }
+{
+    match reached {
+        Ok((q, value)) => Ok((rest(i, q), value)),
+        Err(error) => Err(error),
+    }
+}
+
+// What was made at q, with the rest as a slice.
+fn made_at<T: Drop>(i: &[u8], q: usize, made: Result<T, AllocError>) -> IResult<&[u8], T>
+    requires { q ≤ length i.now }
+    ensures { IsMadeAt i.now q made result }
+{
+    match made {
+        Ok(value) => Ok((rest(i, q), value)),
+        Err(error) => Err(error.into()),
+    }
+}
 
 // The attribute that these positions in i name, and what follows q.
 fn named<'a>(
@@ -31,7 +56,7 @@ fn named<'a>(
 {
     let value = spans.value(alloc, i);
     drop(spans);
-    Ok((rest(i, q), value?))
+    made_at(i, q, value)
 }
 
 /// A section of a message's body, maybe from an index on, and its contents (RFC 3501, section 7.4.2:
@@ -72,6 +97,5 @@ pub fn attribute_list(alloc: Global, i: &[u8]) -> IResult<&[u8], Vec<AttributeVa
     ensures answer { Answers rules.attribute_list (λ x. map attribute_value x.items) i.now result }
     ensures memory { FailsOnlyIf (BeginsWord "(" i.now) result }
 {
-    let (q, values) = made!(kept_list(&Named { alloc, message: i }, alloc, i, 0));
-    Ok((rest(i, q), values))
+    sliced(i, kept_list(&Named { alloc, message: i }, alloc, i, 0))
 }
