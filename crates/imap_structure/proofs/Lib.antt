@@ -5,3 +5,4 @@ pub mod FieldTexts
 pub mod ExtensionTexts
 pub mod BodyTexts
 pub mod FirstBytes
+pub mod Choosing

@@ -225,7 +225,6 @@ fn bracketed_body<K: Keep>(
 
 // What stands in the parentheses of a body, where the bodies inside have this level.
 #[cycle(body)]
-#[tactic(auto, using(crate::proofs::FirstBytes::type_other))]
 fn body_type<K: Keep>(
     keep: &K,
     alloc: Global,

@@ -186,7 +186,6 @@ fn string_extension<K: Keep>(keep: &K, m: &[u8], p: usize) -> Reached<BodyExtens
 ///
 /// It takes memory for lists, and, where values are kept of its strings, for texts that are not UTF-8.
 #[cycle(extension)]
-#[tactic(auto, using(crate::proofs::FirstBytes::extension_none, crate::proofs::FirstBytes::extension_is_string, crate::proofs::FirstBytes::extension_is_list, crate::proofs::FirstBytes::extension_is_number, crate::proofs::FirstBytes::extension_other))]
 pub fn extension<K: Keep>(
     keep: &K,
     alloc: Global,

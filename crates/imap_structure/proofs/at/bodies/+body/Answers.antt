@@ -3,12 +3,14 @@ use Rattle.std.specs.Prelude.{slice_get}
 use Rattle.std.proofs.Math.Nat.{le_trans}
 use Rattle.std.proofs.lemmas.Result.{err_from_is_err_and}
 use Rattle.imap_grammar.proofs.Agreement.{stops, stops_with}
-use Rattle.imap_structure.specs.Bodies.{body, bracketed_body, body_type_msg, body_type_mpart, some_bodies}
+use Rattle.imap_grammar.specs.Rule.{◌or◌}
+use Rattle.imap_structure.specs.Bodies.{body, bracketed_body, quoted_type, body_type_text, body_type_basic, body_type_msg, body_type_mpart, some_bodies}
 use Rattle.imap_shapes.specs.BodyValues.{body_seen}
 use Rattle.imap_envelopes.proofs.Keeping.{kept_rests}
 use Rattle.imap_structure.proofs.Reading.{message_rests, multipart_rests, message_reads, multipart_reads, boxed_rests, unboxed_rests}
-use Rattle.imap_structure.proofs.FirstBytes.{type_none, type_is_quoted, type_is_literal, type_is_mpart}
+use Rattle.imap_structure.proofs.FirstBytes.{type_none, type_is_quoted, type_is_literal, type_is_mpart, type_other}
 use Rattle.imap_structure.proofs.Levels.{body_below, body_takes}
+use Rattle.imap_structure.proofs.Choosing.{put_first, put_second}
 use Rattle.imap_envelopes.proofs.Gathering.{first, next, all, halted, onward}
 use Rattle.imap_grammar.specs.Positions.{named_in}
 use Rattle.imap_shapes.proofs.Places.{rests_more, alone, together}
@@ -219,3 +221,28 @@ pub body_type-returns-in-None-clause-puts : goal.body_type-returns-in-None-claus
 body_type-returns-in-None-clause-puts g t c =
     let here : slice_get (drop c.args.p c.args.m.now) 0 ≡ None = search rules in
     type_none c.args.level (drop c.args.p c.args.m.now) here
+
+pub body_type-returns-in-Some-clause-puts : goal.body_type-returns-in-Some-clause-puts
+body_type-returns-in-Some-clause-puts g t c = type_other c.args.level (drop c.args.p c.args.m.now) (search rules) (search rules)
+
+pub quoted_type-returns-in_default-2-clause-puts : goal.quoted_type-returns-in_default-2-clause-puts
+unfolding quoted_type
+quoted_type-returns-in_default-2-clause-puts g t c =
+    put_first body_type_text (body_type_msg (body c.args.level) or body_type_basic) _ c.args.m.now c.args.p _ _ _ (search rules) c.body_type_text.ensures.puts
+
+pub quoted_type-returns-in_default-first-2-clause-puts : goal.quoted_type-returns-in_default-first-2-clause-puts
+unfolding quoted_type
+quoted_type-returns-in_default-first-2-clause-puts g t c =
+    let inner = body c.args.level in
+    let text = c.in-Err-Error-first in
+    let put = put_first (body_type_msg inner) body_type_basic _ c.args.m.now c.args.p _ _ _ (search rules) c.body_type_msg.ensures.puts in
+    put_second body_type_text (body_type_msg inner or body_type_basic) _ c.args.m.now c.args.p _ _ _ (rw text.field-0-is at text.ensures.puts) (rw text.ensures.leaves at put)
+
+pub quoted_type-returns-clause-puts : goal.quoted_type-returns-clause-puts
+unfolding quoted_type
+quoted_type-returns-clause-puts g t c =
+    let inner = body c.args.level in
+    let text = c.in-Err-Error-first in
+    let message = c.in-Err-Error-first-first in
+    let put = put_second (body_type_msg inner) body_type_basic _ c.args.m.now c.args.p _ _ _ (rw message.field-0-is at message.ensures.puts) c.body_type_basic.ensures.puts in
+    put_second body_type_text (body_type_msg inner or body_type_basic) _ c.args.m.now c.args.p _ _ _ (rw text.field-0-is at text.ensures.puts) (rw (message.ensures.leaves, text.ensures.leaves) at put)

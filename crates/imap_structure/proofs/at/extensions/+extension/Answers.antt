@@ -1,13 +1,15 @@
-use Rattle.std.proofs.Common.{refl, sym, subst, drop, arith, ◌<◌, ◌∙◌}
+use Rattle.std.proofs.Common.{refl, sym, subst, drop, arith, rules, ◌<◌, ◌∙◌}
 use Rattle.std.proofs.Math.Nat.{le_trans}
 use Rattle.std.proofs.lemmas.Result.{err_from_is_err_and}
 use Rattle.imap_grammar.specs.Positions.{named_in, GivesAt}
 use Rattle.imap_envelopes.specs.Envelopes.{spaced}
 use Rattle.imap_structure.specs.Extensions.{extension_over, some_extensions, extension_list}
 use Rattle.imap_shapes.specs.ExtensionValues.{extension_seen}
+use Rattle.imap_grammar.proofs.Agreement.{exactly_gives_at}
 use Rattle.imap_grammar.proofs.Joins.{tried_some, tried_none, tried_fault}
 use Rattle.imap_structure.proofs.Seeing.{list_rests}
 use Rattle.imap_structure.proofs.Levels.{list_below}
+use Rattle.imap_structure.proofs.FirstBytes.{extension_none, extension_is_string, extension_is_list, extension_is_number, extension_other}
 use Rattle.imap_envelopes.proofs.Gathering.{first, next, all, halted, onward}
 use Rattle.imap_shapes.proofs.Places.{rests_more, alone, together}
 use Rattle.imap_structure.proofs.at.extensions.+extension.Goals as goal
@@ -67,3 +69,22 @@ some_extensions-returns-in_err-after-clause-steps g t c =
     let p = err_from_is_err_and c.from_residual-in_err-after.result c.from_residual-in_err-after.ensures.1 in
     let q = tried_fault _ _ (sym c.tried.ensures ∙ c.in_err-after.was) in
     rw (p.1, p.2) (halted _ (spaced (extension_over (extension_list c.args.level))) _ _ c.in_err-after.field-0.0 c.extensions.invariant.gathered q.1 (rw q.0 at c.spaced_extension.ensures.steps))
+
+pub extension-returns-in-None-clause-steps : goal.extension-returns-in-None-clause-steps
+extension-returns-in-None-clause-steps g t c = extension_none c.args.level (drop c.args.p c.args.m.now) (search rules)
+
+pub extension-returns-in-Some-eq34-clause-steps : goal.extension-returns-in-Some-eq34-clause-steps
+extension-returns-in-Some-eq34-clause-steps g t c =
+    rw (extension_is_string c.args.level (drop c.args.p c.args.m.now) (search rules)) c.string_extension.ensures.steps
+
+pub extension-returns-in-Some-eq40-clause-steps : goal.extension-returns-in-Some-eq40-clause-steps
+extension-returns-in-Some-eq40-clause-steps g t c =
+    rw (extension_is_list c.args.level (drop c.args.p c.args.m.now) (search rules)) c.extension_list.ensures.steps
+
+pub extension-returns-in-Some-clause-steps : goal.extension-returns-in-Some-clause-steps
+extension-returns-in-Some-clause-steps g t c =
+    rw (extension_is_number c.args.level (drop c.args.p c.args.m.now) (search rules) (search rules)) (exactly_gives_at _ _ _ _ c.number_extension.ensures.steps)
+
+pub extension-returns-in-Some-2-clause-steps : goal.extension-returns-in-Some-2-clause-steps
+extension-returns-in-Some-2-clause-steps g t c =
+    extension_other c.args.level (drop c.args.p c.args.m.now) (search rules) (search rules) (search rules)

@@ -1,4 +1,6 @@
 use Rattle.std.proofs.Common.{refl, ap, ◌≡◌}
+use Rattle.std.proofs.lemmas.Result.{err_from_is_err_and}
+use Rattle.imap_grammar.proofs.Agreement.{stops_with}
 use Rattle.imap_shapes.specs.FieldValues.{ParamsValue}
 use Rattle.imap_shapes.specs.ExtensionValues.{ext_mpart_seen}
 use Rattle.imap_structure.specs.Extensions.{SharedValue, ext_mpart_of, body_ext_mpart, shared_fields_seen}
@@ -19,3 +21,15 @@ returns-clause-rests g c =
 pub returns-clause-steps : goal.returns-clause-steps
 unfolding body_ext_mpart ext_mpart_seen shared_fields_seen
 returns-clause-steps g c = rw (c.in_ok-p.ensures.steps, c.in_ok-p-2.ensures.steps) refl
+
+pub returns-in_err-p-clause-steps : goal.returns-in_err-p-clause-steps
+unfolding body_ext_mpart
+returns-in_err-p-clause-steps g c =
+    let r = err_from_is_err_and c.from_residual.result c.from_residual.ensures.1 in
+    rw (r.1, r.2) (stops_with _ _ _ c.in_err-p.ensures.steps (λ d h. rw h refl))
+
+pub returns-in_err-p-2-clause-steps : goal.returns-in_err-p-2-clause-steps
+unfolding body_ext_mpart
+returns-in_err-p-2-clause-steps g c =
+    let r = err_from_is_err_and c.from_residual-in_err-p-2.result c.from_residual-in_err-p-2.ensures.1 in
+    rw (r.1, r.2) (stops_with _ _ _ c.in_err-p-2.ensures.steps (λ d h. rw (c.in_ok-p.ensures.steps, h) refl))
