@@ -1,5 +1,5 @@
 -- What the responses are that are not read back.
-use Rattle.std.proofs.Common.{◌≡◌, ◌≤◌, ◌^◌, true, false, not, nat_lt, [], ◌∷◌, ◌++◌, length, Option, None, Some, refl, sym, ap, inl, inr}
+use Rattle.std.proofs.Common.{◌≡◌, ◌≤◌, ◌^◌, true, not, nat_lt, [], ◌∷◌, ◌++◌, length, Option, None, Some, refl, sym, ap, inl, inr}
 use Rattle.std.specs.List.{list_any}
 use Rattle.std.proofs.lemmas.Bool.{false≢true, or_cases, ltb-false, eqb-true, not-true}
 use Rattle.imap_grammar.specs.Pieces.{Raw, Lit, Pieces}

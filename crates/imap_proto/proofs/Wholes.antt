@@ -1,17 +1,20 @@
 -- What stands in all the pieces of a stream.
-use Rattle.std.proofs.Common.{◌≡◌, ℕ, List, [], ◌∷◌, ◌++◌, map, refl, sym, ap, subst, ◌∙◌, append_assoc, length, drop, get_or, ◌<◌, ◌≤◌, ◌+◌}
+use Rattle.std.proofs.Common.{◌≡◌, ℕ, List, [], ◌∷◌, ◌++◌, map, Option, None, Some, Result, Ok, Err, refl, sym, ap, subst, ◌∙◌, append_assoc, length, drop, get_or, ◌<◌, ◌≤◌, ◌+◌}
 use Rattle.std.proofs.lemmas.List.{append-nil, map-append, drop_more, at_drop_all}
 use Rattle.std.specs.Borrow.{Bor}
 use Rattle.imap_grammar.specs.Rule.{meaning}
 use Rattle.imap_grammar.specs.Text.{Bytes}
 use Rattle.imap_proto.specs.declared.response.Response.{Response}
+use Rattle.std.specs.Prelude.{IfOk, IfErr, OnErr}
+use Rattle.imap_proto.specs.declared.stream.FeedError.{FeedError}
+use Rattle.imap_proto.specs.declared.stream.FeedError.TheVariants.{Denied as Refused, OutOfMemory}
 use Rattle.imap_proto.specs.declared.stream.End.{End}
 use Rattle.imap_proto.specs.declared.stream.End.TheVariants.{Waits, Denied}
 use Rattle.imap_proto.specs.Responses.{ResponseValue, response_value}
 use Rattle.imap_proto.specs.Owned.{owned_response}
 use Rattle.imap_proto.specs.Lines.{response}
 use Rattle.imap_proto.specs.Streams.{EndsAs, Splits, joined}
-use Rattle.imap_proto.specs.Feeds.{TakesAll, OneWhole}
+use Rattle.imap_proto.specs.Feeds.{Gave, RefusesAs, Puts, TakesAll, OneWhole}
 use Rattle.imap_proto.proofs.Streams.{stable, nothing_waits, one_split, splits_go_on}
 
 -- ---- the responses that a feed has
@@ -28,6 +31,25 @@ takes_one held mid left before with_it after r v end y is pushed t = (
       ∙ append_assoc (map response_value before) (response_value r ∷ []) (map owned_response t.0) ∙ ap (λ x. map response_value before ++ (x ∷ map owned_response t.0)) is,
   record { responses = (mid, y, t.2.responses); ends = t.2.ends },
 )
+
+-- what was put behind the others was given
+pub put_one : (held left : Bytes) (before after : List Response) (given : Result (Option Response) FeedError) (end : Option End) → IfOk given (λ r. Gave held r left) → Puts before given end after → end ≡ None
+    → (r : Response) × (v : ResponseValue) × (meaning response).yields held v left × (response_value r ≡ owned_response v) × (after ≡ before ++ r ∷ [])
+put_one held left before after (Ok (Some r)) end g p is = (r, g.0, g.1, g.2, p.1)
+put_one held left before after (Ok None) end g p is = let other = sym is ∙ p.0 in absurd cc
+put_one held left before after (Err Refused) end g p is = let other = sym is ∙ p.0 in absurd cc
+put_one held left before after (Err OutOfMemory) end g p is = absurd p
+
+-- or all are taken
+pub put_none : (held left : Bytes) (before after : List Response) (given : Result (Option Response) FeedError) (end : Option End) (why : End) → IfOk given (λ r. Gave held r left) → IfErr given (RefusesAs held) → OnErr given (left ≡ held) → Puts before given end after → end ≡ Some why → TakesAll held before left after why
+put_none held left before after (Ok (Some r)) end why g d k p is = let other = sym is ∙ p.0 in absurd cc
+put_none held left before after (Ok None) end why g d k p is =
+    let same : why ≡ Waits = cc in
+    rw (same, g.1, p.1) (takes_none held before Waits g.0)
+put_none held left before after (Err Refused) end why g d k p is =
+    let same : why ≡ Denied = cc in
+    rw (same, k, p.1) (takes_none held before Denied d)
+put_none held left before after (Err OutOfMemory) end why g d k p is = absurd p
 
 -- ---- pieces in turn
 

@@ -1,6 +1,7 @@
 -- Feeds: what a call gives of the bytes that are held, and what stands in all the pieces of a stream.
-use Rattle.std.specs.Prelude.{◌≡◌, ◌⊎◌, ℕ, ◌<◌, List, [], ◌∷◌, ◌++◌, length, map, Option, None, Some, Result, Ok, Err}
+use Rattle.std.specs.Prelude.{◌≡◌, ◌⊎◌, ℕ, ◌<◌, ◌≤◌, ◌-◌, List, [], ◌∷◌, ◌++◌, length, drop, map, Option, None, Some, Result, Ok, Err}
 use Rattle.imap_grammar.specs.declared.answer.Err.{Err as Fault}
+use Rattle.imap_grammar.specs.declared.answer.Err.TheVariants.{Incomplete, Error, Failure}
 use Rattle.imap_grammar.specs.Answer.{Stops}
 use Rattle.imap_grammar.specs.Meaning.{Denies}
 use Rattle.imap_grammar.specs.Memory.{StartsWith}
@@ -9,6 +10,7 @@ use Rattle.imap_grammar.specs.Step.{step}
 use Rattle.imap_grammar.specs.Text.{Bytes}
 use Rattle.imap_proto.specs.declared.response.Response.{Response}
 use Rattle.imap_proto.specs.declared.stream.End.{End}
+use Rattle.imap_proto.specs.declared.stream.End.TheVariants as ends
 use Rattle.imap_proto.specs.declared.stream.FeedError.{FeedError}
 use Rattle.imap_proto.specs.declared.stream.FeedError.TheVariants.{Denied, OutOfMemory}
 use Rattle.imap_proto.specs.declared.stream.Whole.{Whole}
@@ -32,6 +34,26 @@ IsOwnedFront m (Ok x) =
     × (x.0 ≡ length rest)
     × (response_value x.1 ≡ owned_response v)
 IsOwnedFront m (Err e) = Stops e (step response m)
+
+-- of an answer at the front of m, whatever it gives: bytes of m are behind that, or the grammar stops so
+abbrev pub IsFront : {R : Type 0} → Bytes → Result (ℕ × R) Fault → Type 0
+IsFront m (Ok x) = x.0 ≤ length m
+IsFront m (Err e) = Stops e (step response m)
+
+-- what a feed that held this answers then, and what it holds
+abbrev pub Settles : {R : Type 0} → Bytes → Result (ℕ × R) Fault → Result (Option R) FeedError → Bytes → Type 0
+Settles held (Ok x) answer left =
+    (answer ≡ Ok (Some x.1)) × (left ≡ drop (length held - x.0) held)
+Settles held (Err (Incomplete n)) answer left = (answer ≡ Ok None) × (left ≡ held)
+Settles held (Err Error) answer left = (answer ≡ Err Denied) × (left ≡ held)
+Settles held (Err Failure) answer left = (answer ≡ Err OutOfMemory) × (left ≡ held)
+
+-- what was given is put behind the others; or it is told why none was
+abbrev pub Puts : {R : Type 0} → List R → Result (Option R) FeedError → Option End → List R → Type 0
+Puts before (Ok (Some r)) end after = (end ≡ None) × (after ≡ before ++ r ∷ [])
+Puts before (Ok None) end after = (end ≡ Some ends.Waits) × (after ≡ before)
+Puts before (Err Denied) end after = (end ≡ Some ends.Denied) × (after ≡ before)
+Puts before (Err OutOfMemory) end after = ⊥
 
 -- What a feed gave of what it held, and what it holds then: the response at the front, with all its texts owned, and
 -- what is behind it; or none, where what it holds waits.

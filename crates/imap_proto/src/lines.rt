@@ -74,15 +74,23 @@ fn tagged(alloc: Global, i: &[u8]) -> IResult<&[u8], Response<'_>>
     let (rest, status) = status(rest)?;
     let (rest, outcome) = made!(spaced_outcome(alloc, rest));
     let (rest, _) = made!(tag(b"\r\n", rest), outcome);
-    let tag = RequestId(String::from_str(alloc, tag_text)?);
-    Ok((
-        rest,
-        Response::Done {
-            tag,
-            status,
-            outcome,
-        },
-    ))
+    match String::from_str(alloc, tag_text) {
+        Ok(text) => {
+            let tag = RequestId(text);
+            Ok((
+                rest,
+                Response::Done {
+                    tag,
+                    status,
+                    outcome,
+                },
+            ))
+        }
+        Err(error) => {
+            drop(outcome); // By a call, for the reason that `made!` gives.
+            Err(error.into())
+        }
+    }
 }
 
 /// A response: a continuation, a tagged line, or `* `, a datum and the end of its line. Of the alternatives those are

@@ -2,11 +2,12 @@
 //!
 //! However the bytes are cut into pieces, the same responses come of them: `laws::streams`.
 
-ghost use Rattle.std.specs.Prelude.{◌≡◌, ◌≤◌, ◌<◌, ◌+◌, ◌++◌, [], List, ℕ, length, map, drop, IfOk, IfErr, IfSome, OnOk, OnErr};
+ghost use Rattle.std.specs.Prelude.{◌≡◌, ◌≤◌, ◌<◌, ◌+◌, ◌++◌, [], List, ℕ, length, map, drop, IfOk, IfErr, IfSome, OnOk, OnErr, MatchResult, Ok as Found, Err as Refused};
+ghost use Rattle.imap_grammar.specs.declared.answer.Err.TheVariants.{Failure};
 ghost use Rattle.imap_grammar.specs.Memory.{FailsOnlyIf};
 ghost use Rattle.imap_proto.specs.declared.stream.FeedError.TheVariants.{OutOfMemory};
 ghost use Rattle.imap_proto.specs.Streams.{Fed, joined};
-ghost use Rattle.imap_proto.specs.Feeds.{Gave, HasGivenMore, IsFedMore, IsOwnedFront, WaitsFor, RefusesAs, FeedMayWant, TakesAll, IsWhole};
+ghost use Rattle.imap_proto.specs.Feeds.{Gave, HasGivenMore, IsFedMore, IsOwnedFront, IsFront, Settles, Puts, WaitsFor, RefusesAs, FeedMayWant, TakesAll, IsWhole};
 
 use crate::response::Response;
 use imap_bytes::at::Reached;
@@ -92,6 +93,17 @@ fn compacted(bytes: &mut Vec<u8>, start: usize) -> usize
     0
 }
 
+// How many bytes are behind what is owned, and this.
+//
+// It is generic in what it hands on, as `settle` and `put` are: what is proved over a type parameter is proved once, and
+// each step over a response is dear.
+#[inline(always)]
+fn reached<R: Drop>(left: usize, owned: Result<R, AllocError>) -> Reached<R>
+    ensures { MatchResult owned (λ r. result ≡ Found (left, r)) (λ _. result ≡ Refused Failure) }
+{
+    Ok((left, owned?))
+}
+
 // The response at the front with all its texts owned, and how many bytes are behind it.
 fn owned_front(alloc: Global, held: &[u8]) -> Reached<Response<'static>>
     ensures front { IsOwnedFront held.now result }
@@ -99,7 +111,7 @@ fn owned_front(alloc: Global, held: &[u8]) -> Reached<Response<'static>>
     ensures failure { FailsOnlyIf (FeedMayWant held.now) result }
 {
     match Response::parse(alloc, held) {
-        Ok((rest, response)) => Ok((rest.len(), response.into_owned(alloc)?)),
+        Ok((rest, response)) => reached(rest.len(), response.into_owned(alloc)),
         Err(error) => Err(error),
     }
 }
@@ -154,10 +166,21 @@ impl Feed {
         if self.wanted > 0 {
             return Ok(None);
         }
-        match owned_front(self.alloc, self.held()) {
+        let front = owned_front(self.alloc, self.held());
+        self.settle(front)
+    }
+
+    // Moves on behind what stands in front, or waits for what is lacking.
+    #[inline(always)]
+    fn settle<R: Drop>(&mut self, front: Reached<R>) -> Result<Option<R>, FeedError>
+        requires { IsFront self.old front }
+        ensures { Settles self.old front result self.new }
+    {
+        match front {
             Ok((left, response)) => {
                 let start = self.bytes.len() - left;
                 self.start = compacted(&mut self.bytes, start);
+                self.wanted = 0;
                 Ok(Some(response))
             }
             Err(Err::Incomplete(Needed::Size(n))) => {
@@ -186,16 +209,32 @@ pub struct Whole<R = Response<'static>> {
     pub end: End,
 }
 
+// Puts a response behind the others, or tells why none was given.
+#[inline(always)]
+fn put<R: Drop>(
+    responses: &mut Vec<R>,
+    given: Result<Option<R>, FeedError>,
+) -> Result<Option<End>, AllocError>
+    ensures { IfOk result (λ end. Puts responses.old.items given end responses.new.items) }
+{
+    match given {
+        Ok(Some(response)) => {
+            responses.push(response)?;
+            Ok(None)
+        }
+        Ok(None) => Ok(Some(End::Waits)),
+        Err(FeedError::Denied) => Ok(Some(End::Denied)),
+        Err(FeedError::OutOfMemory) => Err(AllocError),
+    }
+}
+
 // Takes the responses that a feed has, puts them behind the others, and tells why it gives no more.
 fn take_all(feed: &mut Feed, responses: &mut Vec<Response<'static>>) -> Result<End, AllocError>
     ensures { IfOk result (TakesAll feed.old responses.old.items feed.new responses.new.items) }
 {
     'responses: loop {
-        match feed.next() {
-            Ok(Some(response)) => responses.push(response)?,
-            Ok(None) => return Ok(End::Waits),
-            Err(FeedError::Denied) => return Ok(End::Denied),
-            Err(FeedError::OutOfMemory) => return Err(AllocError),
+        if let Some(end) = put(responses, feed.next())? {
+            return Ok(end);
         }
     }
 }
