@@ -36,18 +36,47 @@ pub fn told<T: Debug + Drop>(
 /// What stands behind a value that is no reader's answer.
 pub const NOTHING: &[u8] = b"";
 
-/// Whether a reader's answer is told so.
-pub fn says<T: Debug + Drop>(alloc: Global, answer: IResult<&[u8], T>, want: &str) -> bool {
-    match told(alloc, answer) {
+/// Whether this is the text.
+pub fn is_text(text: Result<String, AllocError>, want: &str) -> bool {
+    match text {
         Ok(text) => text.as_str() == want,
         Err(_) => false,
     }
 }
 
+/// Whether a reader's answer is told so.
+pub fn says<T: Debug + Drop>(alloc: Global, answer: IResult<&[u8], T>, want: &str) -> bool {
+    is_text(told(alloc, answer), want)
+}
+
+/// The debug text of a value, if it was made.
+pub fn told_value<T: Debug + Drop>(
+    alloc: Global,
+    value: Result<T, AllocError>,
+) -> Result<String, AllocError> {
+    told(alloc, Ok((NOTHING, value?)))
+}
+
+/// A reader's answer, with what was made of the value that it read.
+pub fn with_value<T>(rest: &[u8], value: Result<T, AllocError>) -> IResult<&[u8], T> {
+    Ok((rest, value?))
+}
+
+/// A reader's answer without the value.
+pub fn without_value<T: Drop>(answer: IResult<&[u8], T>) -> IResult<&[u8], ()> {
+    let (rest, _) = answer?;
+    Ok((rest, ()))
+}
+
+/// Whether a value is told so.
+pub fn tells<T: Debug + Drop>(alloc: Global, value: T, want: &str) -> bool {
+    says(alloc, Ok((NOTHING, value)), want)
+}
+
 /// Whether there is a value, and it is told so.
 pub fn shows<T: Debug + Drop, E: Drop>(alloc: Global, value: Result<T, E>, want: &str) -> bool {
     match value {
-        Ok(value) => says(alloc, Ok((NOTHING, value)), want),
+        Ok(value) => tells(alloc, value, want),
         Err(_) => false,
     }
 }
@@ -73,16 +102,33 @@ pub fn assert_says<T: Debug + Drop>(
     assert_row(rt, says(alloc, answer, want), want);
 }
 
+/// The readers of a topic: an enum names them, since a function that is passed by name is proved several times.
+pub trait Reads {
+    /// Whether this reader's answer is told so.
+    fn reads(&self, alloc: Global, input: &[u8], want: &str) -> bool;
+}
+
+/// Asserts that the reader answers each input of the table as its row says.
+pub fn assert_reads<R: Reads>(rt: &impl Abort, alloc: Global, reader: &R, rows: Rows) {
+    for (input, want) in rows {
+        assert_row(rt, reader.reads(alloc, input, want), want);
+    }
+}
+
+/// The same of a table whose rows name their reader.
+pub fn assert_each_reads<R: Reads>(rt: &impl Abort, alloc: Global, rows: &[(R, &[u8], &str)]) {
+    for (reader, input, want) in rows {
+        assert_row(rt, reader.reads(alloc, input, want), want);
+    }
+}
+
 /// Whether a reader at a position reached this one, and told the value so.
 pub fn says_at<T: Debug + Drop>(alloc: Global, answer: Reached<T>, want: &str) -> bool {
     let text = match answer {
         Ok((reached, value)) => format!(in alloc; "{value:?} up to {reached}"),
         Err(error) => format!(in alloc; "{error:?}"),
     };
-    match text {
-        Ok(text) => text.as_str() == want,
-        Err(_) => false,
-    }
+    is_text(text, want)
 }
 
 /// Whether the answer of a reader of byte strings is told so, the string as text.
@@ -96,17 +142,19 @@ pub fn says_bytes(alloc: Global, answer: IResult<&[u8], &[u8]>, want: &str) -> b
     }
 }
 
+/// What `Response::parse` answers. Few functions name a response, since each is proved over all its kinds.
+pub fn told_line(alloc: Global, line: &[u8]) -> Result<String, AllocError> {
+    told(alloc, Response::parse(alloc, line))
+}
+
 /// Whether `Response::parse` answers so.
 pub fn parses(alloc: Global, line: &[u8], want: &str) -> bool {
-    says(alloc, Response::parse(alloc, line), want)
+    is_text(told_line(alloc, line), want)
 }
 
 // Whether this is the text of a value.
 fn displays<T: Display>(alloc: Global, value: &T, want: &str) -> bool {
-    match format!(in alloc; "{value}") {
-        Ok(text) => text.as_str() == want,
-        Err(_) => false,
-    }
+    is_text(format!(in alloc; "{value}"), want)
 }
 
 // Asserts that `Response::parse` answers each line of the table as its row says, and that the line may be cut anywhere.

@@ -1,7 +1,7 @@
 //! Body structures, their fields and extension data, as they are read and with all texts owned.
 
-use crate::answers::{Rows, assert_says};
-use crate::owned::{Lending, owned};
+use crate::answers::{Rows, assert_row, says, with_value};
+use crate::owned::{Lending, says_owned};
 use imap_body::readers::{body_extension, body_fields, body_structure};
 use imap_proto::imap_core::IResult;
 use imap_proto::rfc3501::body_structure::{
@@ -152,6 +152,9 @@ static SINGLE_PARTS: Rows = &[
         b"(\"message\" \"rfc822\" NIL NIL NIL \"7BIT\" 9)",
         r#"Basic { common: BodyContentCommon { ty: ContentType { ty: "message", subtype: "rfc822", params: None }, disposition: None, language: None, location: None }, other: BodyContentSinglePart { id: None, md5: None, description: None, transfer_encoding: SevenBit, octets: 9 }, extension: None }"#,
     ),
+];
+
+static DECODED_PARTS: Rows = &[
     (
         b"(\"\xff\" {1}\r\n\xff (\"\xff\" \"\xff\") {1}\r\n\xff {1}\r\n\xff \"\xff\" 0010 {1}\r\n\xff (\"\xff\" NIL) {1}\r\n\xff {1}\r\n\xff ({1}\r\n\xff 0))",
         r#"Basic { common: BodyContentCommon { ty: ContentType { ty: "�", subtype: "�", params: Some([("�", "�")]) }, disposition: Some(ContentDisposition { ty: "�", params: None }), language: Some(["�"]), location: Some("�") }, other: BodyContentSinglePart { id: Some("�"), md5: Some("�"), description: Some("�"), transfer_encoding: Other("�"), octets: 10 }, extension: Some(List([Str(Some("�")), Num(0)])) }"#,
@@ -164,6 +167,9 @@ static SINGLE_PARTS: Rows = &[
         b"(\"Text\" {1}\r\n\xff NIL NIL NIL NIL 0 004294967295)",
         r#"Text { common: BodyContentCommon { ty: ContentType { ty: "TEXT", subtype: "�", params: None }, disposition: None, language: None, location: None }, other: BodyContentSinglePart { id: None, md5: None, description: None, transfer_encoding: SevenBit, octets: 0 }, lines: 4294967295, extension: None }"#,
     ),
+];
+
+static NO_PARTS: Rows = &[
     (b"()", "Error"),
     (b"\"A\"", "Error"),
     (b"(\"A\" \"B\" NIL NIL NIL NIL x)", "Error"),
@@ -173,7 +179,7 @@ static SINGLE_PARTS: Rows = &[
     (b"(\"A\" \"B\" NIL {2}\r\n", "Incomplete(Size(2))"),
 ];
 
-static MESSAGES_AND_MULTIPARTS: Rows = &[
+static MESSAGES: Rows = &[
     (
         b"(\"Message\" \"rfc822\" NIL NIL NIL \"7BIT\" 9 (\"d\" NIL NIL NIL NIL NIL NIL NIL NIL NIL) (\"A\" \"B\" NIL NIL NIL NIL 1) 2 \"m\" NIL NIL NIL 3)",
         r#"Message { common: BodyContentCommon { ty: ContentType { ty: "MESSAGE", subtype: "RFC822", params: None }, disposition: None, language: None, location: None }, other: BodyContentSinglePart { id: None, md5: Some("m"), description: None, transfer_encoding: SevenBit, octets: 9 }, envelope: Envelope { date: Some([100]), subject: None, from: None, sender: None, reply_to: None, to: None, cc: None, bcc: None, in_reply_to: None, message_id: None }, body: Basic { common: BodyContentCommon { ty: ContentType { ty: "A", subtype: "B", params: None }, disposition: None, language: None, location: None }, other: BodyContentSinglePart { id: None, md5: None, description: None, transfer_encoding: SevenBit, octets: 1 }, extension: None }, lines: 2, extension: Some(Num(3)) }"#,
@@ -182,6 +188,13 @@ static MESSAGES_AND_MULTIPARTS: Rows = &[
         b"(\"MESSAGE\" \"RFC822\" (\"p\" \"q\" ) \"i\" \"d\" \"8bit\" 9 (NIL NIL NIL NIL NIL NIL NIL NIL NIL NIL) (\"A\" \"B\" NIL NIL NIL NIL 1) 2 \"m\" (\"attachment\" (\"f\" \"g\")) (\"en\" \t) \"l\")",
         r#"Message { common: BodyContentCommon { ty: ContentType { ty: "MESSAGE", subtype: "RFC822", params: Some([("p", "q")]) }, disposition: Some(ContentDisposition { ty: "attachment", params: Some([("f", "g")]) }), language: Some(["en"]), location: Some("l") }, other: BodyContentSinglePart { id: Some("i"), md5: Some("m"), description: Some("d"), transfer_encoding: EightBit, octets: 9 }, envelope: Envelope { date: None, subject: None, from: None, sender: None, reply_to: None, to: None, cc: None, bcc: None, in_reply_to: None, message_id: None }, body: Basic { common: BodyContentCommon { ty: ContentType { ty: "A", subtype: "B", params: None }, disposition: None, language: None, location: None }, other: BodyContentSinglePart { id: None, md5: None, description: None, transfer_encoding: SevenBit, octets: 1 }, extension: None }, lines: 2, extension: None }"#,
     ),
+    (
+        b"(\"MESSAGE\" \"RFC822\" NIL NIL NIL NIL 9 (NIL NIL NIL NIL NIL NIL NIL NIL NIL NIL) (\"A\" \"B\" NIL NIL NIL NIL 1) 004294967295)",
+        r#"Message { common: BodyContentCommon { ty: ContentType { ty: "MESSAGE", subtype: "RFC822", params: None }, disposition: None, language: None, location: None }, other: BodyContentSinglePart { id: None, md5: None, description: None, transfer_encoding: SevenBit, octets: 9 }, envelope: Envelope { date: None, subject: None, from: None, sender: None, reply_to: None, to: None, cc: None, bcc: None, in_reply_to: None, message_id: None }, body: Basic { common: BodyContentCommon { ty: ContentType { ty: "A", subtype: "B", params: None }, disposition: None, language: None, location: None }, other: BodyContentSinglePart { id: None, md5: None, description: None, transfer_encoding: SevenBit, octets: 1 }, extension: None }, lines: 4294967295, extension: None }"#,
+    ),
+];
+
+static MULTIPARTS: Rows = &[
     (
         b"((\"TEXT\" \"PLAIN\" NIL NIL NIL \"7BIT\" 5 1)(\"IMAGE\" \"PNG\" NIL NIL NIL \"BASE64\" 9) \"MIXED\")",
         r#"Multipart { common: BodyContentCommon { ty: ContentType { ty: "MULTIPART", subtype: "MIXED", params: None }, disposition: None, language: None, location: None }, bodies: [Text { common: BodyContentCommon { ty: ContentType { ty: "TEXT", subtype: "PLAIN", params: None }, disposition: None, language: None, location: None }, other: BodyContentSinglePart { id: None, md5: None, description: None, transfer_encoding: SevenBit, octets: 5 }, lines: 1, extension: None }, Basic { common: BodyContentCommon { ty: ContentType { ty: "IMAGE", subtype: "PNG", params: None }, disposition: None, language: None, location: None }, other: BodyContentSinglePart { id: None, md5: None, description: None, transfer_encoding: Base64, octets: 9 }, extension: None }], extension: None }"#,
@@ -193,10 +206,6 @@ static MESSAGES_AND_MULTIPARTS: Rows = &[
     (
         b"((\"A\" \"B\" NIL NIL NIL NIL 1) \"M\" (\"d\" NIL) \"en\" 7)",
         r#"Multipart { common: BodyContentCommon { ty: ContentType { ty: "MULTIPART", subtype: "M", params: None }, disposition: Some(ContentDisposition { ty: "d", params: None }), language: Some(["en"]), location: None }, bodies: [Basic { common: BodyContentCommon { ty: ContentType { ty: "A", subtype: "B", params: None }, disposition: None, language: None, location: None }, other: BodyContentSinglePart { id: None, md5: None, description: None, transfer_encoding: SevenBit, octets: 1 }, extension: None }], extension: Some(Num(7)) }"#,
-    ),
-    (
-        b"(\"MESSAGE\" \"RFC822\" NIL NIL NIL NIL 9 (NIL NIL NIL NIL NIL NIL NIL NIL NIL NIL) (\"A\" \"B\" NIL NIL NIL NIL 1) 004294967295)",
-        r#"Message { common: BodyContentCommon { ty: ContentType { ty: "MESSAGE", subtype: "RFC822", params: None }, disposition: None, language: None, location: None }, other: BodyContentSinglePart { id: None, md5: None, description: None, transfer_encoding: SevenBit, octets: 9 }, envelope: Envelope { date: None, subject: None, from: None, sender: None, reply_to: None, to: None, cc: None, bcc: None, in_reply_to: None, message_id: None }, body: Basic { common: BodyContentCommon { ty: ContentType { ty: "A", subtype: "B", params: None }, disposition: None, language: None, location: None }, other: BodyContentSinglePart { id: None, md5: None, description: None, transfer_encoding: SevenBit, octets: 1 }, extension: None }, lines: 4294967295, extension: None }"#,
     ),
     (
         b"((\"A\" \"B\" NIL NIL NIL NIL 1) {1}\r\n\xff)",
@@ -213,38 +222,65 @@ static MESSAGES_AND_MULTIPARTS: Rows = &[
     ),
 ];
 
+// Whether fields are read so, and told so with all texts owned.
+fn are_fields(alloc: Global, input: &[u8], want: &str) -> bool {
+    says(alloc, fields(alloc, input), want) && says_owned(alloc, body_fields(alloc, input), want)
+}
+
 #[test]
 fn fields_of_bodies(rt: HostRuntime) {
     let alloc = rt.alloc();
     for (input, want) in FIELDS {
-        assert_says(&rt, alloc, fields(alloc, input), want);
-        assert_says(&rt, alloc, owned(alloc, body_fields(alloc, input)), want);
+        assert_row(&rt, are_fields(alloc, input, want), want);
     }
+}
+
+// The same of extension data.
+fn is_extension(alloc: Global, input: &[u8], want: &str) -> bool {
+    says(alloc, body_extension(alloc, input), want)
+        && says_owned(alloc, body_extension(alloc, input), want)
 }
 
 #[test]
 fn extensions_of_bodies(rt: HostRuntime) {
     let alloc = rt.alloc();
     for (input, want) in EXTENSIONS {
-        assert_says(&rt, alloc, body_extension(alloc, input), want);
-        assert_says(&rt, alloc, owned(alloc, body_extension(alloc, input)), want);
+        assert_row(&rt, is_extension(alloc, input, want), want);
     }
 }
 
+// Matched, and not taken apart by `?`: each step between is proved over all kinds of bodies.
 fn owned_body(alloc: Global, i: &[u8]) -> IResult<&[u8], BodyStructure<'static>> {
-    let (i, value) = body_structure(alloc, i)?;
-    Ok((i, value.into_owned(alloc)?))
+    match body_structure(alloc, i) {
+        Ok((rest, body)) => with_value(rest, body.into_owned(alloc)),
+        Err(error) => Err(error),
+    }
+}
+
+// The same of a body.
+fn is_body(alloc: Global, input: &[u8], want: &str) -> bool {
+    says(alloc, body_structure(alloc, input), want) && says(alloc, owned_body(alloc, input), want)
 }
 
 fn assert_bodies(rt: &impl Abort, alloc: Global, rows: Rows) {
     for (input, want) in rows {
-        assert_says(rt, alloc, body_structure(alloc, input), want);
-        assert_says(rt, alloc, owned_body(alloc, input), want);
+        assert_row(rt, is_body(alloc, input, want), want);
     }
 }
 
 #[test]
-fn bodies(rt: HostRuntime) {
+fn single_parts(rt: HostRuntime) {
     assert_bodies(&rt, rt.alloc(), SINGLE_PARTS);
-    assert_bodies(&rt, rt.alloc(), MESSAGES_AND_MULTIPARTS);
+    assert_bodies(&rt, rt.alloc(), NO_PARTS);
+}
+
+#[test]
+fn decoded_parts(rt: HostRuntime) {
+    assert_bodies(&rt, rt.alloc(), DECODED_PARTS);
+}
+
+#[test]
+fn messages_and_multiparts(rt: HostRuntime) {
+    assert_bodies(&rt, rt.alloc(), MESSAGES);
+    assert_bodies(&rt, rt.alloc(), MULTIPARTS);
 }

@@ -8,7 +8,7 @@ ghost use Rattle.imap_proto.specs.Responses.{Capabilities, Expunge, MailboxData}
 ghost use Rattle.imap_proto.specs.LineTexts.{has_bracket, canonical_bytes};
 ghost use Rattle.imap_vectors.specs.CanonicalRows as value;
 
-use crate::answers::parses;
+use crate::answers::{assert_row, parses};
 use std::alloc::{AllocError, Global};
 use std::test::*;
 
@@ -221,8 +221,7 @@ const BRACKETED: &[u8] = b"* OK [BADCHARSET ({5}\r\nabcdex";
 
 // Whether both texts, and the canonical one with more behind it, answer so.
 fn reads_back(alloc: Global, row: &Row) -> Result<bool, AllocError> {
-    let mut followed = Vec::new(alloc);
-    followed.extend_from_slice(row.canonical)?;
+    let mut followed = Vec::from_slice(alloc, row.canonical)?;
     followed.extend_from_slice(b"xy")?;
     let says_followed = format!(in alloc; "{} then \"xy\"", row.says)?;
     Ok(
@@ -232,23 +231,28 @@ fn reads_back(alloc: Global, row: &Row) -> Result<bool, AllocError> {
     )
 }
 
+// Whether that was made, and holds.
+fn is_canonical(alloc: Global, row: &Row) -> bool {
+    matches!(reads_back(alloc, row), Ok(true))
+}
+
 #[test]
 fn canonical_texts(rt: HostRuntime) {
     let alloc = rt.alloc();
+    for row in ROWS {
+        assert_row(&rt, is_canonical(alloc, row), row.says);
+    }
+}
+
+// The texts that are promised, and a line that has none.
+#[test]
+fn canonical_texts_by_definition(rt: HostRuntime) {
     texts_by_definition();
     texts_of_status_lines();
     texts_of_mailboxes();
     texts_of_extensions();
     texts_of_attributes();
-    for row in ROWS {
-        assert!(rt; matches!(reads_back(alloc, row), Ok(true)), "{}", row.says);
-    }
-    assert!(rt;
-        parses(
-            alloc,
-            BRACKETED,
-            r#"Data { status: Ok, outcome: Outcome { code: None, information: Some("[BADCHARSET ({5}") } } then "abcdex""#,
-        ),
-        "bracket",
-    );
+    let want =
+        r#"Data { status: Ok, outcome: Outcome { code: None, information: Some("[BADCHARSET ({5}") } } then "abcdex""#;
+    assert_row(&rt, parses(rt.alloc(), BRACKETED, want), want);
 }

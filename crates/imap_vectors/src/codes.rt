@@ -95,6 +95,9 @@ static WITH_NUMBERS: Rows = &[
         b"+ [highestmodseq 6]\r\n",
         "Continue(Outcome { code: Some(HighestModSeq(6)), information: None })",
     ),
+];
+
+static WITH_ZEROS_IN_FRONT: Rows = &[
     (
         b"* OK [UIDNEXT 04294967295] Predicted next UID\r\n",
         r#"Data { status: Ok, outcome: Outcome { code: Some(UidNext(4294967295)), information: Some("Predicted next UID") } }"#,
@@ -143,10 +146,6 @@ static WITH_LISTS: Rows = &[
         r#"Data { status: Ok, outcome: Outcome { code: Some(PermanentFlags(["\\Seen", "\\*"])), information: Some("l") } }"#,
     ),
     (
-        b"* OK [APPENDUID 38505 4:2]\r\n",
-        "Data { status: Ok, outcome: Outcome { code: Some(AppendUid(38505, [UidRange(2..=4)])), information: None } }",
-    ),
-    (
         b"+ [badcharset (b a)]\r\n",
         r#"Continue(Outcome { code: Some(BadCharset(Some(["b", "a"]))), information: None })"#,
     ),
@@ -157,6 +156,21 @@ static WITH_LISTS: Rows = &[
     (
         b"+ [permanentflags (b \\a)]\r\n",
         r#"Continue(Outcome { code: Some(PermanentFlags(["b", "\\a"])), information: None })"#,
+    ),
+    (
+        b"* NO [BADCHARSET (UTF-8 {1}\r\n\xff a]\xff \t )] x\r\n",
+        r#"Data { status: No, outcome: Outcome { code: Some(BadCharset(Some(["UTF-8", "�", "a]�"]))), information: Some("x") } }"#,
+    ),
+    (
+        b"* OK [PERMANENTFLAGS ()] No permanent flags permitted\r\n",
+        r#"Data { status: Ok, outcome: Outcome { code: Some(PermanentFlags([])), information: Some("No permanent flags permitted") } }"#,
+    ),
+];
+
+static WITH_SETS: Rows = &[
+    (
+        b"* OK [APPENDUID 38505 4:2]\r\n",
+        "Data { status: Ok, outcome: Outcome { code: Some(AppendUid(38505, [UidRange(2..=4)])), information: None } }",
     ),
     (
         b"+ [appenduid 1 9,7]\r\n",
@@ -181,14 +195,6 @@ static WITH_LISTS: Rows = &[
     (
         b"* OK [COPYUID 04294967295 3 4:2,9] Done\r\n",
         r#"Data { status: Ok, outcome: Outcome { code: Some(CopyUid(4294967295, [Uid(3)], [UidRange(2..=4), Uid(9)])), information: Some("Done") } }"#,
-    ),
-    (
-        b"* NO [BADCHARSET (UTF-8 {1}\r\n\xff a]\xff \t )] x\r\n",
-        r#"Data { status: No, outcome: Outcome { code: Some(BadCharset(Some(["UTF-8", "�", "a]�"]))), information: Some("x") } }"#,
-    ),
-    (
-        b"* OK [PERMANENTFLAGS ()] No permanent flags permitted\r\n",
-        r#"Data { status: Ok, outcome: Outcome { code: Some(PermanentFlags([])), information: Some("No permanent flags permitted") } }"#,
     ),
 ];
 
@@ -248,11 +254,13 @@ static CAPABILITIES: Rows = &[
 ];
 
 /// The tables of these lines.
-pub fn lines() -> [Rows; 5] {
+pub fn lines() -> [Rows; 7] {
     [
         WITHOUT_DATA,
         WITH_NUMBERS,
+        WITH_ZEROS_IN_FRONT,
         WITH_LISTS,
+        WITH_SETS,
         TEXT_IN_BRACKETS,
         CAPABILITIES,
     ]

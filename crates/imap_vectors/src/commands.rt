@@ -1,10 +1,11 @@
 //! Commands.
 
-use crate::answers::assert_texts;
+use crate::answers::{assert_row, assert_texts};
 use imap_proto::builders::command::{
     AttrMacro, Attribute, BuildError, Command, CommandBuilder, State,
 };
 use std::alloc::{AllocError, Global};
+use std::process::Abort;
 use std::test::*;
 
 // Whether a command was made, of this text and with this next state.
@@ -15,6 +16,16 @@ fn is<E: Drop>(command: Result<Command, E>, args: &str, next_state: Option<State
         }
         Err(_) => false,
     }
+}
+
+// Asserts that a command was made so.
+fn assert_is<E: Drop>(
+    rt: &impl Abort,
+    command: Result<Command, E>,
+    args: &str,
+    next_state: Option<State>,
+) {
+    assert_row(rt, is(command, args, next_state), args);
 }
 
 fn changed(alloc: Global) -> Result<Command, AllocError> {
@@ -65,21 +76,20 @@ fn every_word(alloc: Global) -> Result<Command, AllocError> {
 fn fetches(rt: HostRuntime) {
     let alloc = rt.alloc();
     let want = "FETCH 1,3:5 (UID FLAGS) (CHANGEDSINCE 7)";
-    assert!(rt; is(changed(alloc), want, None));
+    assert_is(&rt, changed(alloc), want, None);
     let want = "UID FETCH 5:* FAST (CHANGEDSINCE 1) (CHANGEDSINCE 2)";
-    assert!(rt; is(changed_twice(alloc), want, None));
-    assert!(rt; is(ranges(alloc), "FETCH 5:3,2,9:* (RFC822.SIZE)", None));
-    assert!(rt; is(grouped(alloc, 0, AttrMacro::All), "FETCH 0 ALL", None));
-    assert!(rt;
-        is(
-            grouped(alloc, u32::MAX, AttrMacro::Full),
-            "FETCH 4294967295 FULL",
-            None
-        )
+    assert_is(&rt, changed_twice(alloc), want, None);
+    assert_is(&rt, ranges(alloc), "FETCH 5:3,2,9:* (RFC822.SIZE)", None);
+    assert_is(&rt, grouped(alloc, 0, AttrMacro::All), "FETCH 0 ALL", None);
+    assert_is(
+        &rt,
+        grouped(alloc, u32::MAX, AttrMacro::Full),
+        "FETCH 4294967295 FULL",
+        None,
     );
     let want =
         "FETCH 1 (BODY ENVELOPE FLAGS INTERNALDATE MODSEQ RFC822 RFC822.SIZE RFC822.TEXT UID X-GM-LABELS X-GM-MSGID X-GM-THRID)";
-    assert!(rt; is(every_word(alloc), want, None));
+    assert_is(&rt, every_word(alloc), want, None);
 }
 
 fn selected(alloc: Global, mailbox: &str) -> Result<Command, BuildError> {
@@ -100,53 +110,60 @@ fn mailboxes(rt: HostRuntime) {
     let alloc = rt.alloc();
     let found = Some(State::Selected);
     let want = r#"SELECT "a\"b" (CONDSTORE)"#;
-    assert!(rt; is(selected_with_mod_sequences(alloc, "a\"b"), want, found));
-    assert!(rt; is(selected(alloc, "\\é"), r#"SELECT "\\é""#, found));
-    assert!(rt; is(examined(alloc, ""), r#"EXAMINE """#, found));
-    assert!(rt; is(CommandBuilder::list(alloc, "", "*"), r#"LIST "" "*""#, None));
-    assert!(rt;
-        is(
-            CommandBuilder::list(alloc, "%", "a%"),
-            r#"LIST "%" "a%""#,
-            None
-        )
+    assert_is(&rt, selected_with_mod_sequences(alloc, "a\"b"), want, found);
+    assert_is(&rt, selected(alloc, "\\é"), r#"SELECT "\\é""#, found);
+    assert_is(&rt, examined(alloc, ""), r#"EXAMINE """#, found);
+    assert_is(
+        &rt,
+        CommandBuilder::list(alloc, "", "*"),
+        r#"LIST "" "*""#,
+        None,
     );
-    assert!(rt; is(CommandBuilder::check(alloc), "CHECK", None));
+    assert_is(
+        &rt,
+        CommandBuilder::list(alloc, "%", "a%"),
+        r#"LIST "%" "a%""#,
+        None,
+    );
+    assert_is(&rt, CommandBuilder::check(alloc), "CHECK", None);
 }
 
 #[test]
 fn sessions(rt: HostRuntime) {
     let alloc = rt.alloc();
     let found = Some(State::Authenticated);
-    assert!(rt; is(CommandBuilder::close(alloc), "CLOSE", found));
-    assert!(rt;
-        is(
-            CommandBuilder::login(alloc, "u", "p"),
-            r#"LOGIN "u" "p""#,
-            found
-        )
+    assert_is(&rt, CommandBuilder::close(alloc), "CLOSE", found);
+    assert_is(
+        &rt,
+        CommandBuilder::login(alloc, "u", "p"),
+        r#"LOGIN "u" "p""#,
+        found,
     );
 }
 
 // Whether a command was refused so.
-fn is_refused(answer: Result<Command, BuildError>, refusal: BuildError) -> bool {
+fn is_refused(answer: Result<Command, BuildError>, refusal: &BuildError) -> bool {
     match answer {
         Ok(_) => false,
-        Err(error) => error == refusal,
+        Err(error) => error == *refusal,
     }
+}
+
+fn assert_refused(rt: &impl Abort, answer: Result<Command, BuildError>, refusal: BuildError) {
+    assert!(rt; is_refused(answer, &refusal), "{refusal}");
 }
 
 #[test]
 fn refused_arguments(rt: HostRuntime) {
     let alloc = rt.alloc();
     let login = CommandBuilder::login(alloc, "a", "b\n");
-    assert!(rt; is_refused(login, BuildError::LineFeed));
+    assert_refused(&rt, login, BuildError::LineFeed);
     let login = CommandBuilder::login(alloc, "\0\n", "x");
-    assert!(rt; is_refused(login, BuildError::Nul));
+    assert_refused(&rt, login, BuildError::Nul);
     let list = CommandBuilder::list(alloc, "a\r\n", "b");
-    assert!(rt; is_refused(list, BuildError::CarriageReturn));
-    assert!(rt; is_refused(selected(alloc, "\n\r"), BuildError::LineFeed));
-    assert!(rt; is_refused(examined(alloc, "a\0"), BuildError::Nul));
+    assert_refused(&rt, list, BuildError::CarriageReturn);
+    assert_refused(&rt, selected(alloc, "\n\r"), BuildError::LineFeed);
+    assert_refused(&rt, examined(alloc, "a\0"), BuildError::Nul);
 }
 
 static REFUSALS: &[(BuildError, &str)] = &[

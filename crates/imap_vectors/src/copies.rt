@@ -15,6 +15,7 @@ use std::alloc::{AllocError, Global};
 use std::borrow::CowStr;
 use std::collections::HashSet;
 use std::hash::Hash;
+use std::process::Abort;
 use std::test::*;
 
 // Whether a copy was made, and equals the value.
@@ -74,9 +75,17 @@ fn data_of_mailboxes(rt: HostRuntime) {
 fn annotations(rt: HostRuntime) {
     let alloc = rt.alloc();
     let line = b"METADATA \"\xff\" (/shared/comment NIL /private/comment \"a\")\r";
-    assert!(rt; is_copied(metadata_solicited(alloc, line)));
+    assert_row(
+        &rt,
+        is_copied(metadata_solicited(alloc, line)),
+        "metadata_solicited",
+    );
     let line = b"METADATA \"x\" /shared/comment\r";
-    assert!(rt; is_copied(metadata_unsolicited(alloc, line)));
+    assert_row(
+        &rt,
+        is_copied(metadata_unsolicited(alloc, line)),
+        "metadata_unsolicited",
+    );
 }
 
 #[test]
@@ -85,10 +94,10 @@ fn quotas(rt: HostRuntime) -> Result<(), Fail> {
     let line = b"QUOTA a\xff (STORAGE 1 2 MESSAGE 3 4 \"x\xff\" 5 6 y 7 8)\r";
     let (_, limits) = quota(alloc, line)?;
     let copy = limits.clone();
-    assert!(rt; equals(limits, copy));
+    assert_row(&rt, equals(limits, copy), "limits");
     let (_, root) = quota_root(alloc, b"QUOTAROOT b\xff a \xffc\r")?;
     let copy = root.clone();
-    assert!(rt; equals(root, copy));
+    assert_row(&rt, equals(root, copy), "root");
     Ok(())
 }
 
@@ -100,10 +109,10 @@ fn parts_of_lists(rt: HostRuntime) {
         name: CowStr::Borrowed("x"),
     };
     let copy = names.clone();
-    assert!(rt; equals(names, copy));
+    assert_row(&rt, equals(names, copy), "names");
     let sent = NameAttribute::Sent;
     let copy = sent.clone();
-    assert!(rt; equals(sent, copy));
+    assert_row(&rt, equals(sent, copy), "sent");
 }
 
 #[test]
@@ -113,29 +122,27 @@ fn parts_of_annotations_and_quotas(rt: HostRuntime) -> Result<(), Fail> {
         value: None,
     };
     let copy = annotation.clone();
-    assert!(rt; equals(annotation, copy));
+    assert_row(&rt, equals(annotation, copy), "annotation");
     let resource = QuotaResource {
         name: QuotaResourceName::Message,
         usage: 1,
         limit: 2,
     };
     let copy = resource.clone();
-    assert!(rt; equals(resource, copy));
+    assert_row(&rt, equals(resource, copy), "resource");
     let name = QuotaResourceName::Atom(CowStr::Borrowed("x"));
     let copy = name.clone();
-    assert!(rt; equals(name, copy));
+    assert_row(&rt, equals(name, copy), "name");
     Ok(())
 }
 
 #[test]
 fn members_of_sets(rt: HostRuntime) {
-    assert!(rt;
-        equals(
-            UidSetMember::from(1..=8),
-            UidSetMember::UidRange(1..=8).clone()
-        )
-    );
-    assert!(rt; UidSetMember::from(5) == UidSetMember::Uid(5));
+    let range = UidSetMember::UidRange(1..=8);
+    let copy: Result<_, AllocError> = range.clone();
+    assert_row(&rt, equals(UidSetMember::from(1..=8), copy), "range");
+    let single = Ok(UidSetMember::Uid(5));
+    assert_row(&rt, equals(UidSetMember::from(5), single), "single");
 }
 
 // Whether a set of the first value has the second.
@@ -180,8 +187,8 @@ fn equality_and_hashes(rt: HostRuntime) -> Result<(), Fail> {
     let (_, lent) = quota(alloc, LENT)?;
     let copy = lent.clone();
     let owned = value_of(quota(alloc, b"QUOTA \"\xff\" (STORAGE 1 2)\r"));
-    assert!(rt; are_alike(alloc, lent, copy, owned));
-    assert!(rt; is_owned_alike(alloc)?);
+    assert_row(&rt, are_alike(alloc, lent, copy, owned), "decoded");
+    assert_row(&rt, matches!(is_owned_alike(alloc), Ok(true)), "made owned");
     Ok(())
 }
 
@@ -202,19 +209,23 @@ fn equal_identities(rt: HostRuntime) {
     assert!(rt; are_same(in_order, turned));
 }
 
-fn is_right(letter: char, right: AclRight) -> bool {
-    AclRight::from(letter) == right
+fn assert_letter(rt: &impl Abort, letter: char) {
+    assert!(rt; char::from(AclRight::from(letter)) == letter, "{letter}");
+}
+
+fn assert_right(rt: &impl Abort, letter: char, right: AclRight) {
+    assert!(rt; AclRight::from(letter) == right, "{letter}");
 }
 
 #[test]
 fn letters_of_rights(rt: HostRuntime) {
     for letter in "lrswipkxteancdz\u{e9}".chars() {
-        assert!(rt; char::from(AclRight::from(letter)) == letter, "{letter}");
+        assert_letter(&rt, letter);
     }
-    assert!(rt; is_right('l', AclRight::Lookup));
-    assert!(rt; is_right('d', AclRight::OldDelete));
-    assert!(rt; is_right('z', AclRight::Custom('z')));
-    assert!(rt; is_right(char::from(AclRight::Custom('l')), AclRight::Lookup));
+    assert_right(&rt, 'l', AclRight::Lookup);
+    assert_right(&rt, 'd', AclRight::OldDelete);
+    assert_right(&rt, 'z', AclRight::Custom('z'));
+    assert_right(&rt, char::from(AclRight::Custom('l')), AclRight::Lookup);
 }
 
 // Whether the tag and the outcome of a tagged line are these.
@@ -229,11 +240,19 @@ fn has_these_parts(response: &Response<'_>) -> bool {
     }
 }
 
+// Whether the line is read with this tag and this outcome.
+fn is_read_so(alloc: Global, line: &[u8]) -> bool {
+    match Response::parse(alloc, line) {
+        Ok((_, response)) => {
+            let has_these_parts = has_these_parts(&response);
+            drop(response);
+            has_these_parts
+        }
+        Err(_) => false,
+    }
+}
+
 #[test]
-fn parts_of_status_lines(rt: HostRuntime) -> Result<(), Fail> {
-    let (_, response) = Response::parse(rt.alloc(), b"a1 OK\r\n")?;
-    let has_these_parts = has_these_parts(&response);
-    drop(response);
-    assert!(rt; has_these_parts);
-    Ok(())
+fn parts_of_status_lines(rt: HostRuntime) {
+    assert_row(&rt, is_read_so(rt.alloc(), b"a1 OK\r\n"), "tag and outcome");
 }

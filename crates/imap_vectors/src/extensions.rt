@@ -92,18 +92,10 @@ static IDENTITIES: Rows = &[
     (b"* ID ()\r\n", "Error"),
 ];
 
-static RIGHTS: Rows = &[
+static LISTS_OF_RIGHTS: Rows = &[
     (
         b"* LISTRIGHTS INBOX smith la r swi\r\n",
         r#"ListRights(ListRights { mailbox: "INBOX", identifier: "smith", required: [Lookup, Administer], optional: [Read, Seen, Write, Insert] })"#,
-    ),
-    (
-        b"* ACL INBOX Fred lrz\r\n",
-        r#"Acl(Acl { mailbox: "INBOX", acls: [AclEntry { identifier: "Fred", rights: [Lookup, Read, Custom('z')] }] })"#,
-    ),
-    (
-        b"* ACL INBOX\r\n",
-        r#"Acl(Acl { mailbox: "INBOX", acls: [] })"#,
     ),
     (
         b"* MYRIGHTS INBOX rwz\r\n",
@@ -112,10 +104,6 @@ static RIGHTS: Rows = &[
     (
         b"* MYRIGHTS x lrswipkxteancd\r\n",
         r#"MyRights(MyRights { mailbox: "x", rights: [Lookup, Read, Seen, Write, Insert, Post, CreateMailbox, DeleteMailbox, DeleteMessage, Expunge, Administer, Annotation, OldCreate, OldDelete] })"#,
-    ),
-    (
-        b"* acl \tinbox\t b \twr a\tl\r\n",
-        r#"Acl(Acl { mailbox: "INBOX", acls: [AclEntry { identifier: "b", rights: [Write, Read] }, AclEntry { identifier: "a", rights: [Lookup] }] })"#,
     ),
     (
         b"* listrights\t inbox \tb\t wl \tr\t as\r\n",
@@ -130,15 +118,6 @@ static RIGHTS: Rows = &[
         r#"ListRights(ListRights { mailbox: "x", identifier: "smith", required: [Lookup], optional: [Read, Seen] })"#,
     ),
     (
-        b"* ACL\t \"x\"fred \tl\t y\t\tr\r\n",
-        r#"Acl(Acl { mailbox: "x", acls: [AclEntry { identifier: "fred", rights: [Lookup] }, AclEntry { identifier: "y", rights: [Read] }] })"#,
-    ),
-    (b"* ACL x \t\r\n", r#"Acl(Acl { mailbox: "x", acls: [] })"#),
-    (
-        b"* ACL {5}\r\nInbox {2}\r\na\xff {2}\r\nlr b] \"\" \"c\" LL]\xff\r\n",
-        r#"Acl(Acl { mailbox: "INBOX", acls: [AclEntry { identifier: "a�", rights: [Lookup, Read] }, AclEntry { identifier: "b]", rights: [] }, AclEntry { identifier: "c", rights: [Custom('L'), Custom('L'), Custom(']'), Custom('�')] }] })"#,
-    ),
-    (
         b"* LISTRIGHTS \"a]\" \"b\xff\" zLL] \"\" {3}\r\nlr\xff lz\r\n",
         r#"ListRights(ListRights { mailbox: "a]", identifier: "b�", required: [Custom('z'), Custom('L'), Custom('L'), Custom(']')], optional: [Lookup, Read, Custom('�'), Lookup, Custom('z')] })"#,
     ),
@@ -150,16 +129,40 @@ static RIGHTS: Rows = &[
         b"* MYRIGHTS \"\" \"\"\r\n",
         r#"MyRights(MyRights { mailbox: "", rights: [] })"#,
     ),
-    (b"* ACL", "Incomplete(Unknown)"),
     (b"* MYRIGHTS", "Incomplete(Unknown)"),
     (b"* MYRIGHTS x", "Incomplete(Unknown)"),
     (b"* LISTRIGHTS x smith la r", "Incomplete(Unknown)"),
+];
+
+static RIGHTS: Rows = &[
+    (
+        b"* ACL INBOX Fred lrz\r\n",
+        r#"Acl(Acl { mailbox: "INBOX", acls: [AclEntry { identifier: "Fred", rights: [Lookup, Read, Custom('z')] }] })"#,
+    ),
+    (
+        b"* ACL INBOX\r\n",
+        r#"Acl(Acl { mailbox: "INBOX", acls: [] })"#,
+    ),
+    (
+        b"* acl \tinbox\t b \twr a\tl\r\n",
+        r#"Acl(Acl { mailbox: "INBOX", acls: [AclEntry { identifier: "b", rights: [Write, Read] }, AclEntry { identifier: "a", rights: [Lookup] }] })"#,
+    ),
+    (
+        b"* ACL\t \"x\"fred \tl\t y\t\tr\r\n",
+        r#"Acl(Acl { mailbox: "x", acls: [AclEntry { identifier: "fred", rights: [Lookup] }, AclEntry { identifier: "y", rights: [Read] }] })"#,
+    ),
+    (b"* ACL x \t\r\n", r#"Acl(Acl { mailbox: "x", acls: [] })"#),
+    (
+        b"* ACL {5}\r\nInbox {2}\r\na\xff {2}\r\nlr b] \"\" \"c\" LL]\xff\r\n",
+        r#"Acl(Acl { mailbox: "INBOX", acls: [AclEntry { identifier: "a�", rights: [Lookup, Read] }, AclEntry { identifier: "b]", rights: [] }, AclEntry { identifier: "c", rights: [Custom('L'), Custom('L'), Custom(']'), Custom('�')] }] })"#,
+    ),
+    (b"* ACL", "Incomplete(Unknown)"),
     (b"* ACL\r\n", "Error"),
 ];
 
 /// The tables of these lines.
-pub fn lines() -> [Rows; 4] {
-    [VANISHED, QUOTAS, IDENTITIES, RIGHTS]
+pub fn lines() -> [Rows; 5] {
+    [VANISHED, QUOTAS, IDENTITIES, RIGHTS, LISTS_OF_RIGHTS]
 }
 
 #[test]

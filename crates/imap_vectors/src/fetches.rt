@@ -1,8 +1,9 @@
 //! Lines that tell of a message, and the readers of attributes by themselves.
 
-use crate::answers::{Rows, assert_lines, assert_says};
+use crate::answers::{Reads, Rows, assert_lines, assert_reads, says};
 use imap_body::readers::{attribute, attribute_list};
 use imap_proto::rfc3501::body::msg_att_body_section;
+use std::alloc::Global;
 use std::test::*;
 
 static FLAGS_AND_NUMBERS: Rows = &[
@@ -239,26 +240,34 @@ static LISTS: Rows = &[
     (b"(UID 7", "Incomplete(Unknown)"),
 ];
 
+/// A reader of attributes.
+enum Reader {
+    Section,
+    Attribute,
+    List,
+}
+
+impl Reads for Reader {
+    fn reads(&self, alloc: Global, input: &[u8], want: &str) -> bool {
+        match self {
+            Reader::Section => says(alloc, msg_att_body_section(alloc, input), want),
+            Reader::Attribute => says(alloc, attribute(alloc, input), want),
+            Reader::List => says(alloc, attribute_list(alloc, input), want),
+        }
+    }
+}
+
 #[test]
 fn sections_of_bodies(rt: HostRuntime) {
-    let alloc = rt.alloc();
-    for (input, want) in SECTIONS {
-        assert_says(&rt, alloc, msg_att_body_section(alloc, input), want);
-    }
+    assert_reads(&rt, rt.alloc(), &Reader::Section, SECTIONS);
 }
 
 #[test]
 fn single_attributes(rt: HostRuntime) {
-    let alloc = rt.alloc();
-    for (input, want) in SINGLE {
-        assert_says(&rt, alloc, attribute(alloc, input), want);
-    }
+    assert_reads(&rt, rt.alloc(), &Reader::Attribute, SINGLE);
 }
 
 #[test]
 fn lists_of_attributes(rt: HostRuntime) {
-    let alloc = rt.alloc();
-    for (input, want) in LISTS {
-        assert_says(&rt, alloc, attribute_list(alloc, input), want);
-    }
+    assert_reads(&rt, rt.alloc(), &Reader::List, LISTS);
 }

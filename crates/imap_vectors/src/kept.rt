@@ -208,22 +208,6 @@ static PLACES: &[Places] = &[
         others: r#"[InternalDate("���"), Flags(["�����", "�"]), GmailLabels(["�����", "���"]), GmailMsgId(2), EmailId("��"), ThreadId(Some("�")), Unknown]"#,
     },
     Places {
-        message: b"(BODYSTRUCTURE (\"text\" \"plain\" (\"p\" \"q\") \"i\" \"d\" \"XY\" 5 1 \"m\" (\"a\" (\"f\" \"g\")) \"en\" \"l\" (\"e\" 7 NIL)))",
-        start: 0,
-        spans: "[Span { start: 1, end: 99 }] up to 100",
-        values: r#"[BodyStructure(Text { common: BodyContentCommon { ty: ContentType { ty: "TEXT", subtype: "plain", params: Some([("p", "q")]) }, disposition: Some(ContentDisposition { ty: "a", params: Some([("f", "g")]) }), language: Some(["en"]), location: Some("l") }, other: BodyContentSinglePart { id: Some("i"), md5: Some("m"), description: Some("d"), transfer_encoding: Other("XY"), octets: 5 }, lines: 1, extension: Some(List([Str(Some("e")), Num(7), Str(None)])) })]"#,
-        other: &[b'z'; 100],
-        others: r#"[BodyStructure(Text { common: BodyContentCommon { ty: ContentType { ty: "TEXT", subtype: "zzzzz", params: Some([("z", "z")]) }, disposition: Some(ContentDisposition { ty: "z", params: Some([("z", "z")]) }), language: Some(["zz"]), location: Some("z") }, other: BodyContentSinglePart { id: Some("z"), md5: Some("z"), description: Some("z"), transfer_encoding: Other("zz"), octets: 5 }, lines: 1, extension: Some(List([Str(Some("z")), Num(7), Str(None)])) })]"#,
-    },
-    Places {
-        message: b"FETCH (bodystructure ((\"message\" \"rfc822\" NIL NIL NIL NIL 9 (\"d\" NIL NIL NIL NIL NIL NIL NIL NIL NIL) (\"A\" \"B\" NIL NIL NIL \"base64\" 1) 2) \"M\"))\r\n",
-        start: 6,
-        spans: "[Span { start: 7, end: 142 }] up to 143",
-        values: r#"[BodyStructure(Multipart { common: BodyContentCommon { ty: ContentType { ty: "MULTIPART", subtype: "M", params: None }, disposition: None, language: None, location: None }, bodies: [Message { common: BodyContentCommon { ty: ContentType { ty: "MESSAGE", subtype: "RFC822", params: None }, disposition: None, language: None, location: None }, other: BodyContentSinglePart { id: None, md5: None, description: None, transfer_encoding: SevenBit, octets: 9 }, envelope: Envelope { date: Some([100]), subject: None, from: None, sender: None, reply_to: None, to: None, cc: None, bcc: None, in_reply_to: None, message_id: None }, body: Basic { common: BodyContentCommon { ty: ContentType { ty: "A", subtype: "B", params: None }, disposition: None, language: None, location: None }, other: BodyContentSinglePart { id: None, md5: None, description: None, transfer_encoding: Base64, octets: 1 }, extension: None }, lines: 2, extension: None }], extension: None })]"#,
-        other: &[b'y'; 145],
-        others: r#"[BodyStructure(Multipart { common: BodyContentCommon { ty: ContentType { ty: "MULTIPART", subtype: "y", params: None }, disposition: None, language: None, location: None }, bodies: [Message { common: BodyContentCommon { ty: ContentType { ty: "MESSAGE", subtype: "RFC822", params: None }, disposition: None, language: None, location: None }, other: BodyContentSinglePart { id: None, md5: None, description: None, transfer_encoding: SevenBit, octets: 9 }, envelope: Envelope { date: Some([121]), subject: None, from: None, sender: None, reply_to: None, to: None, cc: None, bcc: None, in_reply_to: None, message_id: None }, body: Basic { common: BodyContentCommon { ty: ContentType { ty: "y", subtype: "y", params: None }, disposition: None, language: None, location: None }, other: BodyContentSinglePart { id: None, md5: None, description: None, transfer_encoding: Base64, octets: 1 }, extension: None }, lines: 2, extension: None }], extension: None })]"#,
-    },
-    Places {
         message: b"(FLAGS (\\Seen \\Seen) UID 1)",
         start: 0,
         spans: "[Span { start: 1, end: 20 }, Span { start: 21, end: 26 }] up to 27",
@@ -238,6 +222,25 @@ static PLACES: &[Places] = &[
         values: "[Envelope(Envelope { date: None, subject: None, from: Some([Address { name: None, adl: None, mailbox: Some([97]), host: Some([104]) }]), sender: Some([Address { name: None, adl: None, mailbox: Some([97]), host: Some([104]) }]), reply_to: None, to: None, cc: None, bcc: None, in_reply_to: None, message_id: None })]",
         other: b"(ENVELOPE (NIL NIL ((NIL NIL \"a\" \"h\")) ((NIL NIL \"b\" \"i\")) NIL NIL NIL NIL NIL NIL))",
         others: "[Envelope(Envelope { date: None, subject: None, from: Some([Address { name: None, adl: None, mailbox: Some([97]), host: Some([104]) }]), sender: Some([Address { name: None, adl: None, mailbox: Some([98]), host: Some([105]) }]), reply_to: None, to: None, cc: None, bcc: None, in_reply_to: None, message_id: None })]",
+    },
+];
+
+static PLACES_OF_BODIES: &[Places] = &[
+    Places {
+        message: b"(BODYSTRUCTURE (\"text\" \"plain\" (\"p\" \"q\") \"i\" \"d\" \"XY\" 5 1 \"m\" (\"a\" (\"f\" \"g\")) \"en\" \"l\" (\"e\" 7 NIL)))",
+        start: 0,
+        spans: "[Span { start: 1, end: 99 }] up to 100",
+        values: r#"[BodyStructure(Text { common: BodyContentCommon { ty: ContentType { ty: "TEXT", subtype: "plain", params: Some([("p", "q")]) }, disposition: Some(ContentDisposition { ty: "a", params: Some([("f", "g")]) }), language: Some(["en"]), location: Some("l") }, other: BodyContentSinglePart { id: Some("i"), md5: Some("m"), description: Some("d"), transfer_encoding: Other("XY"), octets: 5 }, lines: 1, extension: Some(List([Str(Some("e")), Num(7), Str(None)])) })]"#,
+        other: &[b'z'; 100],
+        others: r#"[BodyStructure(Text { common: BodyContentCommon { ty: ContentType { ty: "TEXT", subtype: "zzzzz", params: Some([("z", "z")]) }, disposition: Some(ContentDisposition { ty: "z", params: Some([("z", "z")]) }), language: Some(["zz"]), location: Some("z") }, other: BodyContentSinglePart { id: Some("z"), md5: Some("z"), description: Some("z"), transfer_encoding: Other("zz"), octets: 5 }, lines: 1, extension: Some(List([Str(Some("z")), Num(7), Str(None)])) })]"#,
+    },
+    Places {
+        message: b"FETCH (bodystructure ((\"message\" \"rfc822\" NIL NIL NIL NIL 9 (\"d\" NIL NIL NIL NIL NIL NIL NIL NIL NIL) (\"A\" \"B\" NIL NIL NIL \"base64\" 1) 2) \"M\"))\r\n",
+        start: 6,
+        spans: "[Span { start: 7, end: 142 }] up to 143",
+        values: r#"[BodyStructure(Multipart { common: BodyContentCommon { ty: ContentType { ty: "MULTIPART", subtype: "M", params: None }, disposition: None, language: None, location: None }, bodies: [Message { common: BodyContentCommon { ty: ContentType { ty: "MESSAGE", subtype: "RFC822", params: None }, disposition: None, language: None, location: None }, other: BodyContentSinglePart { id: None, md5: None, description: None, transfer_encoding: SevenBit, octets: 9 }, envelope: Envelope { date: Some([100]), subject: None, from: None, sender: None, reply_to: None, to: None, cc: None, bcc: None, in_reply_to: None, message_id: None }, body: Basic { common: BodyContentCommon { ty: ContentType { ty: "A", subtype: "B", params: None }, disposition: None, language: None, location: None }, other: BodyContentSinglePart { id: None, md5: None, description: None, transfer_encoding: Base64, octets: 1 }, extension: None }, lines: 2, extension: None }], extension: None })]"#,
+        other: &[b'y'; 145],
+        others: r#"[BodyStructure(Multipart { common: BodyContentCommon { ty: ContentType { ty: "MULTIPART", subtype: "y", params: None }, disposition: None, language: None, location: None }, bodies: [Message { common: BodyContentCommon { ty: ContentType { ty: "MESSAGE", subtype: "RFC822", params: None }, disposition: None, language: None, location: None }, other: BodyContentSinglePart { id: None, md5: None, description: None, transfer_encoding: SevenBit, octets: 9 }, envelope: Envelope { date: Some([121]), subject: None, from: None, sender: None, reply_to: None, to: None, cc: None, bcc: None, in_reply_to: None, message_id: None }, body: Basic { common: BodyContentCommon { ty: ContentType { ty: "y", subtype: "y", params: None }, disposition: None, language: None, location: None }, other: BodyContentSinglePart { id: None, md5: None, description: None, transfer_encoding: Base64, octets: 1 }, extension: None }, lines: 2, extension: None }], extension: None })]"#,
     },
     Places {
         message: b"(BODYSTRUCTURE (\"TEXT\" \"TEXT\" (\"a\" \"a\") NIL NIL \"7BIT\" 1 2))",
@@ -291,13 +294,27 @@ fn assert_placed(
     assert_row(rt, shows(alloc, others, want.others), want.others);
 }
 
-#[test]
-fn positions(rt: HostRuntime) -> Result<(), Fail> {
-    for want in PLACES {
-        assert!(rt; want.start <= want.message.len());
-        let (reached, attributes) = attribute_list_at(rt.alloc(), want.message, want.start)?;
-        assert_placed(&rt, rt.alloc(), want, reached, &attributes);
-        drop(attributes);
+fn assert_place(rt: &impl Abort, alloc: Global, want: &Places) {
+    assert!(rt; want.start <= want.message.len());
+    match attribute_list_at(alloc, want.message, want.start) {
+        Ok((reached, attributes)) => {
+            assert_placed(rt, alloc, want, reached, &attributes);
+            drop(attributes);
+        }
+        Err(_) => assert_row(rt, false, want.spans),
     }
-    Ok(())
+}
+
+#[test]
+fn positions(rt: HostRuntime) {
+    for want in PLACES {
+        assert_place(&rt, rt.alloc(), want);
+    }
+}
+
+#[test]
+fn positions_of_bodies(rt: HostRuntime) {
+    for want in PLACES_OF_BODIES {
+        assert_place(&rt, rt.alloc(), want);
+    }
 }

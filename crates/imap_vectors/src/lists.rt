@@ -7,7 +7,7 @@ ghost use Rattle.imap_grammar.specs.Rule.{gives};
 ghost use Rattle.imap_grammar.specs.Lists.{delimited, list_of, nonempty_list_of};
 ghost use Rattle.imap_bytes.specs.Numbers as rules;
 
-use crate::answers::{Rows, WAITS, assert_says};
+use crate::answers::{Reads, Rows, WAITS, assert_reads, says};
 use imap_proto::imap_core::{
     IResult, literal, number, opt_opt, paren_delimited, parenthesized_list,
     parenthesized_nonempty_list,
@@ -90,38 +90,50 @@ static NONEMPTY_LISTS: Rows = &[
     (b"(1 \t", WAITS),
 ];
 
+static LISTS_OF_LITERALS: Rows = &[
+    (b"({3}\r\nab", "Incomplete(Size(1))"),
+    (b"({1}\r\n) {2}\r\n", "Incomplete(Size(2))"),
+];
+
+/// A reader over a reader that it is passed.
+enum Reader {
+    Numbers,
+    NumbersByClosure,
+    SomeNumbers,
+    Literals,
+    Delimited,
+    DelimitedByClosure,
+    MaybeNumber,
+}
+
+impl Reads for Reader {
+    fn reads(&self, alloc: Global, input: &[u8], want: &str) -> bool {
+        match self {
+            Reader::Numbers => says(alloc, numbers(alloc, input), want),
+            Reader::NumbersByClosure => says(alloc, numbers_by_closure(alloc, input), want),
+            Reader::SomeNumbers => says(alloc, some_numbers(alloc, input), want),
+            Reader::Literals => says(alloc, literals(alloc, input), want),
+            Reader::Delimited => says(alloc, delimited_number(input), want),
+            Reader::DelimitedByClosure => says(alloc, delimited_by_closure(input), want),
+            Reader::MaybeNumber => says(alloc, maybe_number(input), want),
+        }
+    }
+}
+
 #[test]
 fn lists(rt: HostRuntime) {
-    let alloc = rt.alloc();
-    for (input, want) in LISTS {
-        assert_says(&rt, alloc, numbers(alloc, input), want);
-        assert_says(&rt, alloc, numbers_by_closure(alloc, input), want);
-    }
+    assert_reads(&rt, rt.alloc(), &Reader::Numbers, LISTS);
+    assert_reads(&rt, rt.alloc(), &Reader::NumbersByClosure, LISTS);
 }
 
 #[test]
 fn nonempty_lists(rt: HostRuntime) {
-    let alloc = rt.alloc();
-    for (input, want) in NONEMPTY_LISTS {
-        assert_says(&rt, alloc, some_numbers(alloc, input), want);
-    }
+    assert_reads(&rt, rt.alloc(), &Reader::SomeNumbers, NONEMPTY_LISTS);
 }
 
 #[test]
 fn lists_of_literals(rt: HostRuntime) {
-    let alloc = rt.alloc();
-    assert_says(
-        &rt,
-        alloc,
-        literals(alloc, b"({3}\r\nab"),
-        "Incomplete(Size(1))",
-    );
-    assert_says(
-        &rt,
-        alloc,
-        literals(alloc, b"({1}\r\n) {2}\r\n"),
-        "Incomplete(Size(2))",
-    );
+    assert_reads(&rt, rt.alloc(), &Reader::Literals, LISTS_OF_LITERALS);
 }
 
 static DELIMITED: Rows = &[
@@ -140,17 +152,11 @@ static MAYBE_NUMBERS: Rows = &[
 
 #[test]
 fn brackets(rt: HostRuntime) {
-    let alloc = rt.alloc();
-    for (input, want) in DELIMITED {
-        assert_says(&rt, alloc, delimited_number(input), want);
-        assert_says(&rt, alloc, delimited_by_closure(input), want);
-    }
+    assert_reads(&rt, rt.alloc(), &Reader::Delimited, DELIMITED);
+    assert_reads(&rt, rt.alloc(), &Reader::DelimitedByClosure, DELIMITED);
 }
 
 #[test]
 fn choices(rt: HostRuntime) {
-    let alloc = rt.alloc();
-    for (input, want) in MAYBE_NUMBERS {
-        assert_says(&rt, alloc, maybe_number(input), want);
-    }
+    assert_reads(&rt, rt.alloc(), &Reader::MaybeNumber, MAYBE_NUMBERS);
 }

@@ -163,6 +163,9 @@ static ANNOTATIONS: Rows = &[
         b"* METADATA \"x\" (/shared/comment/a] \" \xff\xc3\xa9A \" \"/shared/comment \xff\" \"b\")\r\n",
         r#"MailboxData(MetadataSolicited { mailbox: "x", values: [Metadata { entry: "/shared/comment/a]", value: Some(" �éA ") }, Metadata { entry: "/shared/comment �", value: Some("b") }] })"#,
     ),
+];
+
+static NO_ANNOTATIONS: Rows = &[
     (b"* METADATA x /shared/comment\r\n", "Error"),
     (
         b"* METADATA \"x\" (\"/private/comment/a *\" NIL)\r\n",
@@ -197,8 +200,8 @@ static ANNOTATIONS: Rows = &[
 ];
 
 /// The tables of these lines.
-pub fn lines() -> [Rows; 5] {
-    [NUMBERS, NAMES, STATES, FLAGS, ANNOTATIONS]
+pub fn lines() -> [Rows; 6] {
+    [NUMBERS, NAMES, STATES, FLAGS, ANNOTATIONS, NO_ANNOTATIONS]
 }
 
 #[test]

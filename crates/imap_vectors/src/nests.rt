@@ -1,12 +1,11 @@
 //! Bodies and extension lists inside one another, up to the deepest that are read and one further: by the readers,
 //! and in lines.
 
-use crate::answers::{says, told};
+use crate::answers::told_line;
 use crate::kept::is_kept;
-use crate::owned::owned_answer;
-use crate::streams::may_be_cut;
+use crate::owned::parses_owned;
+use crate::streams::{behind_response, may_be_cut};
 use imap_body::readers::{body_extension, body_structure};
-use imap_proto::Response;
 use imap_proto::imap_core::{Err, IResult};
 use imap_proto::rfc3501::body_structure::{MAX_BODY_DEPTH, MAX_EXTENSION_DEPTH};
 use std::alloc::{AllocError, Global};
@@ -154,11 +153,11 @@ const CUT: usize = 1000;
 // Whether the parsing of a line ends so, what is kept of the line and what is made owned are told as what is parsed,
 // and a short line may be cut anywhere.
 fn line_ends(alloc: Global, line: &[u8], want: Ending) -> Result<bool, AllocError> {
-    let parsed = told(alloc, Response::parse(alloc, line))?;
+    let parsed = told_line(alloc, line)?;
     Ok(
-        ending_of(Response::parse(alloc, line)) == want
+        ending_of(behind_response(alloc, line)) == want
             && is_kept(alloc, line, parsed.as_str())
-            && says(alloc, owned_answer(alloc, line), parsed.as_str())
+            && parses_owned(alloc, line, parsed.as_str())
             && (line.len() > CUT || may_be_cut(alloc, line)),
     )
 }

@@ -1,6 +1,8 @@
 //! Whole lines, and parts of body structures made by hand, with all texts owned.
 
-use crate::answers::{Rows, assert_row, assert_says, shows, value_of, with_mark_if_any};
+use crate::answers::{
+    Rows, assert_row, says, shows, tells, value_of, with_mark_if_any, with_value,
+};
 use crate::{codes, extensions, fetches, mailboxes, statuses};
 use imap_body::{
     BodyContentCommon, BodyContentSinglePart, BodyExt1Part, BodyExtMPart, BodyExtension,
@@ -26,7 +28,12 @@ pub trait Lending {
 /// A reader's answer, with all texts of the value owned.
 pub fn owned<T: Lending>(alloc: Global, answer: IResult<&[u8], T>) -> IResult<&[u8], T::Owned> {
     let (rest, value) = answer?;
-    Ok((rest, value.made_owned(alloc)?))
+    with_value(rest, value.made_owned(alloc))
+}
+
+/// Whether a reader's answer is told so, with all texts of the value owned.
+pub fn says_owned<T: Lending>(alloc: Global, answer: IResult<&[u8], T>, want: &str) -> bool {
+    says(alloc, owned(alloc, answer), want)
 }
 
 impl Lending for Response<'_> {
@@ -54,11 +61,12 @@ const TYPE: ContentType<'static> = ContentType {
 fn parts_of_bodies(rt: HostRuntime) {
     let alloc = rt.alloc();
     let encoding = ContentEncoding::Other(NAME);
-    assert!(rt; shows(alloc, encoding.into_owned(alloc), r#"Other("a")"#));
+    let want = r#"Other("a")"#;
+    assert_row(&rt, shows(alloc, encoding.into_owned(alloc), want), want);
     let want = r#"ContentDisposition { ty: "d", params: None }"#;
-    assert!(rt; shows(alloc, DISPOSITION.into_owned(alloc), want));
+    assert_row(&rt, shows(alloc, DISPOSITION.into_owned(alloc), want), want);
     let want = r#"ContentType { ty: "t", subtype: "s", params: None }"#;
-    assert!(rt; shows(alloc, TYPE.into_owned(alloc), want));
+    assert_row(&rt, shows(alloc, TYPE.into_owned(alloc), want), want);
 }
 
 #[test]
@@ -72,7 +80,7 @@ fn common_content(rt: HostRuntime) {
     };
     let want =
         r#"BodyContentCommon { ty: ContentType { ty: "t", subtype: "s", params: None }, disposition: Some(ContentDisposition { ty: "d", params: None }), language: None, location: Some("a") }"#;
-    assert!(rt; shows(alloc, common.into_owned(alloc), want));
+    assert_row(&rt, shows(alloc, common.into_owned(alloc), want), want);
 }
 
 #[test]
@@ -87,10 +95,25 @@ fn content_of_a_part(rt: HostRuntime) {
     };
     let want =
         r#"BodyContentSinglePart { id: Some("a"), md5: None, description: Some("e"), transfer_encoding: Binary, octets: 7 }"#;
-    assert!(rt; shows(alloc, other.into_owned(alloc), want));
+    assert_row(&rt, shows(alloc, other.into_owned(alloc), want), want);
 }
 
 // Extension data has no debug text of its own: it is told field by field, texts with their mark where they stand alone.
+fn tells_single(alloc: Global, data: &BodyExt1Part<'_>, want: &str) -> bool {
+    let (md5, location) = (
+        with_mark_if_any(&data.md5),
+        with_mark_if_any(&data.location),
+    );
+    let fields = (
+        md5,
+        &data.disposition,
+        &data.language,
+        location,
+        &data.extension,
+    );
+    tells(alloc, fields, want)
+}
+
 #[test]
 fn extension_data(rt: HostRuntime) -> Result<(), Fail> {
     let alloc = rt.alloc();
@@ -104,17 +127,23 @@ fn extension_data(rt: HostRuntime) -> Result<(), Fail> {
     };
     let want =
         r#"(Some(Owned("a")), Some(ContentDisposition { ty: "d", params: None }), Some(["en"]), Some(Owned("l")), Some(Str(Some("a"))))"#;
-    let BodyExt1Part {
-        md5,
-        disposition,
-        language,
-        location,
-        extension,
-    } = single.into_owned(alloc)?;
-    let (md5, location) = (with_mark_if_any(&md5), with_mark_if_any(&location));
-    let fields = (md5, disposition, language, location, extension);
-    assert!(rt; shows(alloc, Ok::<_, AllocError>(fields), want));
+    let data = single.into_owned(alloc)?;
+    assert_row(&rt, tells_single(alloc, &data, want), want);
+    drop(data);
     Ok(())
+}
+
+// The same of a multipart.
+fn tells_multipart(alloc: Global, data: &BodyExtMPart<'_>, want: &str) -> bool {
+    let location = with_mark_if_any(&data.location);
+    let fields = (
+        &data.param,
+        &data.disposition,
+        &data.language,
+        location,
+        &data.extension,
+    );
+    tells(alloc, fields, want)
 }
 
 #[test]
@@ -130,28 +159,21 @@ fn extension_data_of_a_multipart(rt: HostRuntime) -> Result<(), Fail> {
     };
     let want =
         r#"(Some([("a", "b")]), Some(ContentDisposition { ty: "d", params: None }), None, Some(Owned("l")), Some(Num(7)))"#;
-    let BodyExtMPart {
-        param,
-        disposition,
-        language,
-        location,
-        extension,
-    } = multipart.into_owned(alloc)?;
-    let location = with_mark_if_any(&location);
-    let fields = (param, disposition, language, location, extension);
-    assert!(rt; shows(alloc, Ok::<_, AllocError>(fields), want));
+    let data = multipart.into_owned(alloc)?;
+    assert_row(&rt, tells_multipart(alloc, &data, want), want);
+    drop(data);
     Ok(())
 }
 
-/// The answer of `Response::parse` to a line, its response made owned.
-pub fn owned_answer(alloc: Global, line: &[u8]) -> IResult<&[u8], Response<'static>> {
-    owned(alloc, Response::parse(alloc, line))
+/// Whether the answer of `Response::parse` to a line is told so, its response made owned.
+pub fn parses_owned(alloc: Global, line: &[u8], want: &str) -> bool {
+    says_owned(alloc, Response::parse(alloc, line), want)
 }
 
 // The response at the front of a copy of these bytes, made owned: the copy is gone when it is answered.
 fn response_alone(alloc: Global, line: &[u8]) -> Result<Response<'static>, Err> {
     let copy = Vec::from_slice(alloc, line)?;
-    value_of(owned_answer(alloc, copy.as_slice()))
+    value_of(owned(alloc, Response::parse(alloc, &copy)))
 }
 
 // Whether two values are equal, or neither is there. Over any type, since a response that is dropped in place is proved
@@ -175,7 +197,7 @@ fn equals_owned(alloc: Global, line: &'static [u8]) -> bool {
 // Asserts of each line of the table that its response made owned is told as its row says, and equals the borrowed one.
 fn assert_rows(rt: &impl Abort, alloc: Global, rows: Rows) {
     for (line, want) in rows {
-        assert_says(rt, alloc, owned_answer(alloc, line), want);
+        assert_row(rt, parses_owned(alloc, line, want), want);
         assert_row(rt, equals_owned(alloc, *line), want);
     }
 }
@@ -214,10 +236,14 @@ static READ: Rows = &[
     ),
 ];
 
+fn is_told_alone(alloc: Global, line: &[u8], want: &str) -> bool {
+    shows(alloc, response_alone(alloc, line), want)
+}
+
 #[test]
 fn bytes_that_are_gone(rt: HostRuntime) {
     let alloc = rt.alloc();
     for (line, want) in READ {
-        assert_row(&rt, shows(alloc, response_alone(alloc, line), want), want);
+        assert_row(&rt, is_told_alone(alloc, line, want), want);
     }
 }

@@ -2,7 +2,7 @@
 
 use crate::answers::assert_says;
 use imap_body::readers::body_structure;
-use imap_proto::bodystructure::{BodyStructParser, PartsError};
+use imap_proto::bodystructure::BodyStructParser;
 use imap_proto::imap_core::{Err, IResult};
 use imap_proto::rfc3501::body_structure::BodyStructure;
 use std::alloc::Global;
@@ -37,15 +37,11 @@ fn is_sought(body: &BodyStructure<'_>, sought: Sought) -> bool {
     }
 }
 
-// The path of the first body that is sought.
-fn searched(
-    alloc: Global,
-    root: &BodyStructure<'_>,
-    sought: Sought,
-) -> Result<Option<Vec<u32>>, PartsError> {
+// The path of the first body that is sought, if memory was left.
+fn searched(alloc: Global, root: &BodyStructure<'_>, sought: Sought) -> Option<Option<Vec<u32>>> {
     match BodyStructParser::new(alloc, root) {
-        Ok(parser) => Ok(parser.search(|body| is_sought(body, sought))?),
-        Err(error) => Err(error),
+        Ok(parser) => parser.search(|body| is_sought(body, sought)).ok(),
+        Err(_) => None,
     }
 }
 
@@ -98,12 +94,13 @@ static SEARCHES: &[(&[u8], Sought, &str)] = &[
 
 // The path of the first body that is sought in the body at the front.
 fn searched_in(alloc: Global, i: &[u8], sought: Sought) -> IResult<&[u8], Option<Vec<u32>>> {
-    let (i, root) = body_structure(alloc, i)?;
-    let path = searched(alloc, &root, sought);
-    drop(root);
-    match path {
-        Ok(path) => Ok((i, path)),
-        Err(_) => Err(Err::Failure),
+    match body_structure(alloc, i) {
+        Ok((rest, root)) => {
+            let path = searched(alloc, &root, sought);
+            drop(root);
+            Ok((rest, path.ok_or(Err::Failure)?))
+        }
+        Err(error) => Err(error),
     }
 }
 

@@ -1,9 +1,10 @@
 //! Sections of bodies: which part of a message is meant.
 
-use crate::answers::{Rows, WAITS, assert_says};
+use crate::answers::{Reads, Rows, WAITS, assert_reads, says};
 use imap_proto::rfc3501::body::{
     MessageSection, SectionPath, section, section_msgtext, section_part,
 };
+use std::alloc::Global;
 use std::test::*;
 
 static SECTIONS: Rows = &[
@@ -40,6 +41,8 @@ static TEXTS: Rows = &[
     (b"HEADER.FIELDS (DATE", WAITS),
 ];
 
+static NO_TEXT: Rows = &[(b"MIME]", "Error")];
+
 static TEXTS_OF_PARTS: Rows = &[
     (b"mime]", r#"Mime then "]""#),
     (b"MIM", WAITS),
@@ -55,49 +58,44 @@ static PATHS: Rows = &[
     (b"]", "Error"),
 ];
 
-#[test]
-fn sections(rt: HostRuntime) {
-    let alloc = rt.alloc();
-    for (input, want) in SECTIONS {
-        assert_says(&rt, alloc, section(alloc, input), want);
+/// A reader of sections.
+enum Reader {
+    Section,
+    Part,
+    Text,
+    MessageSection,
+    Path,
+}
+
+impl Reads for Reader {
+    fn reads(&self, alloc: Global, input: &[u8], want: &str) -> bool {
+        match self {
+            Reader::Section => says(alloc, section(alloc, input), want),
+            Reader::Part => says(alloc, section_part(alloc, input), want),
+            Reader::Text => says(alloc, section_msgtext(input), want),
+            Reader::MessageSection => says(alloc, MessageSection::parse(input), want),
+            Reader::Path => says(alloc, SectionPath::parse(alloc, input), want),
+        }
     }
 }
 
 #[test]
-fn parts(rt: HostRuntime) {
-    let alloc = rt.alloc();
-    for (input, want) in PARTS {
-        assert_says(&rt, alloc, section_part(alloc, input), want);
-    }
+fn sections(rt: HostRuntime) {
+    assert_reads(&rt, rt.alloc(), &Reader::Section, SECTIONS);
+}
+
+#[test]
+fn parts_and_paths(rt: HostRuntime) {
+    assert_reads(&rt, rt.alloc(), &Reader::Part, PARTS);
+    assert_reads(&rt, rt.alloc(), &Reader::Path, PATHS);
 }
 
 // `MIME` is of parts alone.
 #[test]
 fn texts(rt: HostRuntime) {
-    for (input, want) in TEXTS {
-        assert_says(&rt, rt.alloc(), section_msgtext(input), want);
-    }
-    assert_says(&rt, rt.alloc(), section_msgtext(b"MIME]"), "Error");
-}
-
-#[test]
-fn sections_of_messages(rt: HostRuntime) {
-    for (input, want) in TEXTS {
-        assert_says(&rt, rt.alloc(), MessageSection::parse(input), want);
-    }
-}
-
-#[test]
-fn sections_of_parts(rt: HostRuntime) {
-    for (input, want) in TEXTS_OF_PARTS {
-        assert_says(&rt, rt.alloc(), MessageSection::parse(input), want);
-    }
-}
-
-#[test]
-fn paths(rt: HostRuntime) {
     let alloc = rt.alloc();
-    for (input, want) in PATHS {
-        assert_says(&rt, alloc, SectionPath::parse(alloc, input), want);
-    }
+    assert_reads(&rt, alloc, &Reader::Text, TEXTS);
+    assert_reads(&rt, alloc, &Reader::Text, NO_TEXT);
+    assert_reads(&rt, alloc, &Reader::MessageSection, TEXTS);
+    assert_reads(&rt, alloc, &Reader::MessageSection, TEXTS_OF_PARTS);
 }

@@ -1,8 +1,8 @@
 //! Streams: responses in bytes that come in pieces, whether a line may be cut, and hostile lines.
 
-ghost use Rattle.std.specs.Prelude.{◌<◌};
+ghost use Rattle.std.specs.Prelude.{◌<◌, ◌≤◌, length};
 
-use crate::answers::{NOTHING, parses, says, shows};
+use crate::answers::{WAITS, assert_row, is_text, parses, tells, told_value, without_value};
 use crate::kept::is_kept;
 use crate::nests::push_times;
 use imap_proto::Response;
@@ -11,16 +11,20 @@ use imap_proto::stream::{Feed, read_pieces};
 use std::alloc::{AllocError, Global};
 use std::test::*;
 
+// Whether a line says nothing of its message, parsed and kept, and may be cut.
+fn is_unknown(alloc: Global, line: &[u8]) -> bool {
+    let want = "Fetch(1, [Unknown])";
+    parses(alloc, line, want) && is_kept(alloc, line, want) && may_be_cut(alloc, line)
+}
+
 #[test]
 fn open_brackets(rt: HostRuntime) -> Result<(), Fail> {
     let alloc = rt.alloc();
     let mut line = Vec::from_slice(alloc, b"* 1 FETCH (BODYSTRUCTURE ")?;
     push_times(&mut line, b"(", 10_000)?;
-    assert!(rt; parses(alloc, &line, "Incomplete(Unknown)"));
+    assert_row(&rt, parses(alloc, &line, WAITS), WAITS);
     line.extend_from_slice(b"))\r\n")?;
-    assert!(rt; parses(alloc, &line, "Fetch(1, [Unknown])"));
-    assert!(rt; is_kept(alloc, &line, "Fetch(1, [Unknown])"));
-    assert!(rt; may_be_cut(alloc, &line));
+    assert_row(&rt, is_unknown(alloc, &line), "closed");
     Ok(())
 }
 
@@ -32,12 +36,12 @@ const IN_STREAM: &str =
 
 // What stands in the pieces, as text.
 fn told_of(alloc: Global, pieces: &[&[u8]]) -> Result<String, AllocError> {
-    format!(in alloc; "{:?}", read_pieces(alloc, pieces)?)
+    told_value(alloc, read_pieces(alloc, pieces))
 }
 
 // Whether the pieces are told so.
 fn are_told(alloc: Global, pieces: &[&[u8]], want: &str) -> bool {
-    shows(alloc, read_pieces(alloc, pieces), want)
+    is_text(told_of(alloc, pieces), want)
 }
 
 // The bytes in pieces of this size, the last one maybe shorter.
@@ -81,23 +85,33 @@ fn is_same_in_bytes(alloc: Global, line: &[u8]) -> Result<bool, AllocError> {
     Ok(are_told(alloc, &bytes, whole.as_str()))
 }
 
-// How many bytes were left where there is a value.
-fn left<T: Drop>(answer: IResult<&[u8], T>) -> Option<usize> {
-    match answer {
-        Ok((rest, _)) => Some(rest.len()),
-        Err(_) => None,
-    }
+/// The answer of `Response::parse` without the response.
+pub fn behind_response(alloc: Global, line: &[u8]) -> IResult<&[u8], ()> {
+    without_value(Response::parse(alloc, line))
 }
 
-fn waits<T: Drop>(answer: IResult<&[u8], T>) -> bool {
-    matches!(answer, Err(Err::Incomplete(_)))
+// Whether more bytes are waited for.
+fn waits(alloc: Global, line: &[u8]) -> bool {
+    matches!(behind_response(alloc, line), Err(Err::Incomplete(_)))
+}
+
+// Whether each beginning of the bytes that is shorter than this waits.
+fn do_shorter_wait(alloc: Global, line: &[u8], len: usize) -> bool
+    requires { len ≤ length line.now }
+{
+    for n in 0..len {
+        if !waits(alloc, &line[..n]) {
+            return false;
+        }
+    }
+    true
 }
 
 // Whether each proper beginning of what a response consumed waits; where there is no response, whatever is there.
 fn do_beginnings_wait(alloc: Global, line: &[u8]) -> bool {
-    match left(Response::parse(alloc, line)) {
-        Some(left) if left <= line.len() => {
-            (0..line.len() - left).all(|n| waits(Response::parse(alloc, &line[..n])))
+    match behind_response(alloc, line) {
+        Ok((rest, ())) if rest.len() <= line.len() => {
+            do_shorter_wait(alloc, line, line.len() - rest.len())
         }
         _ => true,
     }
@@ -139,6 +153,11 @@ static STEPS: &[Step] = &[
     Step::Held(b"* X\r\na2 OK\r\n"),
 ];
 
+// Whether the next call is told so.
+fn gives(alloc: Global, feed: &mut Feed, want: &str) -> bool {
+    tells(alloc, feed.next(), want)
+}
+
 fn holds(feed: &Feed, want: &[u8]) -> bool {
     feed.held() == want
 }
@@ -147,7 +166,7 @@ fn holds(feed: &Feed, want: &[u8]) -> bool {
 fn does(alloc: Global, feed: &mut Feed, step: &Step) -> bool {
     match step {
         Step::Feed(bytes) => feed.feed(bytes).is_ok(),
-        Step::Next(want) => says(alloc, Ok((NOTHING, feed.next())), want),
+        Step::Next(want) => gives(alloc, feed, want),
         Step::Held(want) => holds(feed, want),
     }
 }

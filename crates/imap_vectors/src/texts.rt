@@ -1,9 +1,10 @@
 //! Texts that bytes are decoded to, each with its mark, and the texts of faults.
 
 use crate::answers::{
-    Marked, Rows, assert_row, assert_says, assert_texts, says, says_marked, with_mark,
+    Marked, Reads, Rows, assert_reads, assert_row, assert_says, assert_texts, says, says_marked,
+    with_mark,
 };
-use crate::owned::owned_answer;
+use crate::owned::owned;
 use imap_proto::Response;
 use imap_proto::bodystructure::PartsError;
 use imap_proto::imap_core::{
@@ -40,39 +41,32 @@ static ASTRINGS: Rows = &[
     (b"a", "Incomplete(Unknown)"),
 ];
 
-#[test]
-fn decoded_texts(rt: HostRuntime) {
-    let alloc = rt.alloc();
-    for (input, want) in TEXTS {
-        assert_row(&rt, says_marked(alloc, text(alloc, input), want), want);
+/// A reader of texts.
+enum Decoder {
+    Text,
+    Astring,
+    Str,
+    Quoted,
+}
+
+impl Reads for Decoder {
+    fn reads(&self, alloc: Global, input: &[u8], want: &str) -> bool {
+        let answer = match self {
+            Decoder::Text => text(alloc, input),
+            Decoder::Astring => astring_utf8(alloc, input),
+            Decoder::Str => string_utf8(alloc, input),
+            Decoder::Quoted => quoted_utf8(alloc, input),
+        };
+        says_marked(alloc, answer, want)
     }
 }
 
 #[test]
-fn decoded_astrings(rt: HostRuntime) {
-    let alloc = rt.alloc();
-    for (input, want) in ASTRINGS {
-        let answer = astring_utf8(alloc, input);
-        assert_row(&rt, says_marked(alloc, answer, want), want);
-    }
-}
-
-#[test]
-fn decoded_strings(rt: HostRuntime) {
-    let alloc = rt.alloc();
-    for (input, want) in STRINGS {
-        let answer = string_utf8(alloc, input);
-        assert_row(&rt, says_marked(alloc, answer, want), want);
-    }
-}
-
-#[test]
-fn decoded_quoted_strings(rt: HostRuntime) {
-    let alloc = rt.alloc();
-    for (input, want) in QUOTED {
-        let answer = quoted_utf8(alloc, input);
-        assert_row(&rt, says_marked(alloc, answer, want), want);
-    }
+fn decoded(rt: HostRuntime) {
+    assert_reads(&rt, rt.alloc(), &Decoder::Text, TEXTS);
+    assert_reads(&rt, rt.alloc(), &Decoder::Astring, ASTRINGS);
+    assert_reads(&rt, rt.alloc(), &Decoder::Str, STRINGS);
+    assert_reads(&rt, rt.alloc(), &Decoder::Quoted, QUOTED);
 }
 
 #[test]
@@ -236,19 +230,29 @@ fn has_texts<T: Telling + Drop>(alloc: Global, answer: IResult<&[u8], T>, want: 
     }
 }
 
+// Whether the texts of a response are told so.
+fn line_has(alloc: Global, line: &[u8], want: &str) -> bool {
+    has_texts(alloc, Response::parse(alloc, line), want)
+}
+
+// The same of a response that is made owned.
+fn owned_line_has(alloc: Global, line: &[u8], want: &str) -> bool {
+    has_texts(alloc, owned(alloc, Response::parse(alloc, line)), want)
+}
+
 #[test]
 fn lent_and_owned(rt: HostRuntime) {
+    let alloc = rt.alloc();
     for (line, want) in MARKED_LINES {
-        let answer = Response::parse(rt.alloc(), line);
-        assert_row(&rt, has_texts(rt.alloc(), answer, want), want);
+        assert_row(&rt, line_has(alloc, line, want), want);
     }
 }
 
 #[test]
 fn made_owned(rt: HostRuntime) {
+    let alloc = rt.alloc();
     for (line, want) in OWNED_LINES {
-        let answer = owned_answer(rt.alloc(), line);
-        assert_row(&rt, has_texts(rt.alloc(), answer, want), want);
+        assert_row(&rt, owned_line_has(alloc, line, want), want);
     }
 }
 
@@ -272,14 +276,6 @@ static FAULTS_OF_FEEDS: &[(FeedError, &str)] = &[
 #[test]
 fn texts_of_faults(rt: HostRuntime) {
     assert_texts(&rt, rt.alloc(), FAULTS);
-}
-
-#[test]
-fn texts_of_faults_of_parts(rt: HostRuntime) {
     assert_texts(&rt, rt.alloc(), FAULTS_OF_PARTS);
-}
-
-#[test]
-fn texts_of_faults_of_feeds(rt: HostRuntime) {
     assert_texts(&rt, rt.alloc(), FAULTS_OF_FEEDS);
 }
