@@ -83,10 +83,6 @@ abbrev pub attribute_value :
     AttributeValue
 attribute_value x = attribute_seen text_of bytes_of (body_seen text_of bytes_of) x
 
--- the same where its body structure still lies in its box
-abbrev pub kept_value : {Z : Type 0} → AttributeKept (CowStr Z) (CowSlice ℕ Z) → AttributeValue
-kept_value x = attribute_seen text_of bytes_of (λ b. boxed_seen text_of bytes_of b) x
-
 -- with all its texts owned
 abbrev pub attribute_owned :
     {Z : Type 0} → AttributeParts (CowStr Z) (CowSlice ℕ Z) (Structure (CowStr Z) (CowSlice ℕ Z)) →
