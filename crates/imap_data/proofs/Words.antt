@@ -1,11 +1,11 @@
 -- Words that stand in front.
-use Rattle.std.proofs.Common.{◌≡◌, ℕ, List, Ok}
+use Prim.Native.String.{String}
+use Rattle.std.proofs.Common.{ℕ, List}
+use Rattle.std.specs.Prelude.{codes}
+use Rattle.imap_grammar.specs.Memory.{BeginsWord, StartsWith}
 use Rattle.imap_grammar.specs.Rule.{meaning, tag_by}
-use Rattle.imap_grammar.specs.Step.{step}
 use Rattle.imap_grammar.specs.Tags.{same_letter}
-use Rattle.imap_grammar.proofs.Agreement.{reads}
-use Rattle.imap_data.specs.MailboxData.{BeginsText}
 
-pub begins_text : (k m rest v : List ℕ) → step (tag_by same_letter k) m ≡ Ok (rest, v) → BeginsText k m
+pub begins : (k : String) (m : List ℕ) → StartsWith (tag_by same_letter (codes k)) m → BeginsWord k m
 unfolding meaning
-begins_text k m rest v h = let y = reads (tag_by same_letter k) m rest v h in (v, rest, y.0, y.1)
+begins k m h = (h.0, h.1, h.2.0, h.2.1)

@@ -1,10 +1,9 @@
 -- Data of a mailbox (RFC 3501, section 9: mailbox-data; RFC 5256, section 5: sort-data; X-GM-EXT-1).
-use Rattle.std.specs.Prelude.{◌≡◌, ◌⊎◌, List, ◌++◌, IsTrue}
+use Rattle.std.specs.Prelude.{◌⊎◌, List}
 use Rattle.imap_grammar.specs.Text.{Bytes, Text}
-use Rattle.imap_grammar.specs.Meaning.{is_word}
 use Rattle.imap_grammar.specs.Memory.{BeginsWord}
 use Rattle.imap_grammar.specs.Rule.{Rule, gives, ◌⨾◌, ◌▹◌, ◌◃◌, ◌or◌}
-use Rattle.imap_grammar.specs.Tags.{word, sp, same_letter}
+use Rattle.imap_grammar.specs.Tags.{word, sp}
 use Rattle.imap_bytes.specs.Numbers.{number}
 use Rattle.imap_data.specs.declared.types.counts.StatusAttribute.{StatusAttribute}
 use Rattle.imap_items.specs.Flags.{flag_list}
@@ -66,14 +65,6 @@ mailbox_datum =
     or msgid
     or thrid
     or sort
-
--- these bytes stand in front, letters in either case
-abbrev pub BeginsText : Bytes → Bytes → Type 0
-BeginsText k m =
-    (front : Bytes)
-    × (rest : Bytes)
-    × (m ≡ front ++ rest)
-    × IsTrue (is_word same_letter k front)
 
 -- the word of data that hold a list stands in front
 abbrev pub BeginsListDatum : Bytes → Type 0

@@ -2,9 +2,9 @@
 
 ghost use Rattle.std.specs.Prelude.{◌⊎◌};
 ghost use Rattle.imap_grammar.specs.Answer.{Answers, Steps, StepsExactly};
-ghost use Rattle.imap_grammar.specs.Memory.{BeginsWord, FailsOnlyIf, SucceedsFor};
+ghost use Rattle.imap_grammar.specs.Memory.{BeginsWord, FailsOnlyIf, StartsWith, SucceedsFor};
 ghost use Rattle.imap_data.specs.MailboxData as rules;
-ghost use Rattle.imap_data.specs.MailboxData.{BeginsListDatum, BeginsText};
+ghost use Rattle.imap_data.specs.MailboxData.{BeginsListDatum};
 ghost use Rattle.imap_data.specs.DatumValues.{datum_value, IsNumber, Listed};
 ghost use Rattle.imap_data.specs.Counts as counts;
 ghost use Rattle.imap_data.specs.Names as names;
@@ -35,7 +35,7 @@ fn flags(alloc: Global, i: &[u8]) -> IResult<&[u8], MailboxDatum<'_>>
 fn listed<'a>(alloc: Global, text: &[u8], i: &'a [u8]) -> IResult<&'a [u8], MailboxDatum<'a>>
     ensures steps { Steps (gives Listed (tag_by same_letter text.now ▹ names.list_data)) datum_value
         i.now result }
-    ensures memory { FailsOnlyIf (BeginsText text.now i.now) result }
+    ensures memory { FailsOnlyIf (StartsWith (tag_by same_letter text.now) i.now) result }
 {
     let (rest, _) = word(text, i)?;
     let (rest, list) = list_data(alloc, rest)?;
@@ -87,7 +87,7 @@ pub fn list_or_lsub(alloc: Global, i: &[u8]) -> IResult<&[u8], MailboxDatum<'_>>
 fn found<'a>(alloc: Global, text: &[u8], i: &'a [u8]) -> IResult<&'a [u8], Vec<u32>>
     ensures steps { Steps (tag_by same_letter text.now ▹ counts.found_numbers) (λ x. x.items) i.now
         result }
-    ensures memory { FailsOnlyIf (BeginsText text.now i.now) result }
+    ensures memory { FailsOnlyIf (StartsWith (tag_by same_letter text.now) i.now) result }
 {
     let (rest, _) = word(text, i)?;
     found_numbers(alloc, rest)
