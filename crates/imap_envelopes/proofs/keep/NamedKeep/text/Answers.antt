@@ -7,6 +7,7 @@ use Rattle.imap_shapes.specs.Spans.{text_in}
 use Rattle.imap_envelopes.specs.Keeping.{IsKeptOf}
 use Rattle.imap_envelopes.proofs.keep.NamedKeep.text.Goals as goal
 
+-- a text that is kept as what its span names in the message rests on no other bytes
 kept_as_named : {B E : Type 0} (says : B → Text) (m : Bytes) (x : SpannedText) (r : Result B E) → IfOk r (λ y. says y ≡ text_in (named_in m) x) → IfOk r (IsKeptOf text_in (λ n. says) m x)
 kept_as_named says m x (Ok y) is = record { is = is; rests = λ n k same. refl }
 kept_as_named says m x (Err e) is = tt
