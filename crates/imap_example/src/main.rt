@@ -3,22 +3,45 @@
 
 use imap_proto::builders::command::{Command, CommandBuilder};
 use imap_proto::stream::Feed;
-use imap_proto::{MailboxDatum, Response};
+use imap_proto::{AttributeValue, MailboxDatum, Response, ResponseCode};
 use std::io::{self, Read};
 
+// Prints a message's UID and flags, and how many bytes of it were sent.
+fn tell_message(rt: &impl Print, number: u32, attributes: &[AttributeValue<'_>]) -> io::Result<()> {
+    for attribute in attributes {
+        match attribute {
+            AttributeValue::Uid(uid) => println!(rt; "message {number}: UID {uid}")?,
+            AttributeValue::Flags(flags) => println!(rt; "message {number}: {flags:?}")?,
+            AttributeValue::BodySection {
+                contents: Some(bytes),
+                ..
+            } => {
+                println!(rt; "message {number}: {} bytes", bytes.as_slice().len())?;
+            }
+            _ => {}
+        }
+    }
+    Ok(())
+}
+
 // Prints what a response says.
-fn tell(rt: &impl Print, response: Response<'_>) -> io::Result<()> {
+fn tell(rt: &impl Print, response: &Response<'_>) -> io::Result<()> {
     match response {
         Response::MailboxData(MailboxDatum::Exists(n)) => println!(rt; "{n} messages"),
+        Response::Fetch(number, attributes) => tell_message(rt, *number, attributes),
+        Response::Data { outcome, .. } => match outcome.code {
+            Some(ResponseCode::UidValidity(n)) => println!(rt; "UIDVALIDITY is {n}"),
+            _ => Ok(()),
+        },
         Response::Done { status, .. } => println!(rt; "done: {status:?}"),
-        other => println!(rt; "{other:?}"),
+        _ => Ok(()),
     }
 }
 
 // Prints the responses that a feed has.
 fn tell_all(rt: &impl Print, feed: &mut Feed) -> anyhow::Result<()> {
     'responses: while let Some(response) = feed.next()? {
-        tell(rt, response)?;
+        tell(rt, &response)?;
     }
     Ok(())
 }
