@@ -6,7 +6,7 @@ use imap_proto::stream::Feed;
 use imap_proto::{AttributeValue, MailboxDatum, Response, ResponseCode};
 use std::io::{self, Read};
 
-// Prints a message's UID and flags, and how many bytes of it were sent.
+// Prints a message's UID and flags, and how many bytes each section of it has.
 fn tell_message(rt: &impl Print, number: u32, attributes: &[AttributeValue<'_>]) -> io::Result<()> {
     for attribute in attributes {
         match attribute {
@@ -24,7 +24,7 @@ fn tell_message(rt: &impl Print, number: u32, attributes: &[AttributeValue<'_>])
     Ok(())
 }
 
-// Prints what a response says.
+// Prints what a response says, where it is of a kind that this program knows.
 fn tell(rt: &impl Print, response: &Response<'_>) -> io::Result<()> {
     match response {
         Response::MailboxData(MailboxDatum::Exists(n)) => println!(rt; "{n} messages"),
