@@ -428,6 +428,7 @@ ATTRIBUTES = {
     "GmailThrId": gmail,
     "EmailId": lambda v: b"EMAILID (" + in_bytes(v[0]) + b")",
     "ThreadId": lambda v: b"THREADID " + maybe(lambda it: b"(" + in_bytes(it) + b")", v[0]),
+    "SaveDate": lambda v: b"SAVEDATE " + nstring(v[0]),
     "Unknown": lambda v: b"X NIL",
 }
 

@@ -638,6 +638,7 @@ attribute = choice(
     *gmail_items,
     variant("EmailId", "EMAILID ", mapped(shown_text, identifier)),
     variant("ThreadId", "THREADID ", mapped(maybe_text, choice(nil, identifier))),
+    variant("SaveDate", "SAVEDATE ", shown_nstring_utf8),
     unknown,
 )
 fetch = mapped(

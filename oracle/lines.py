@@ -350,6 +350,7 @@ class Lines:
                 lambda: self.spaced(self.word("RFC822.SIZE", "UID"), self.number()),
                 lambda: self.spaced(self.case("EMAILID"), identifier),
                 lambda: self.spaced(self.case("THREADID"), self.pick([self.nil(), identifier])),
+                lambda: self.spaced(self.case("SAVEDATE"), self.nstring()),
                 lambda: self.spaced(self.pick([self.atom(), b"BODY", b"BODYX", b"RFC822.X", b"UIDX"]), value),
             ]
         )()

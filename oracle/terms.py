@@ -238,6 +238,7 @@ ATTRIBUTES = {
     "GmailLabels": texts,
     "EmailId": text,
     "ThreadId": lambda it: maybe(text, it),
+    "SaveDate": lambda it: maybe(text, it),
 }
 
 

@@ -9,7 +9,7 @@ use Rattle.imap_shapes.specs.BodyValues.{body_seen}
 use Rattle.imap_shapes.specs.Spans.{bytes_of}
 use Rattle.imap_shapes.specs.declared.shapes.bodies.BodyStructure.{BodyStructure as Structure}
 use Rattle.imap_shapes.proofs.Changed.{envelope_changed, body_changed}
-use Rattle.imap_attributes.specs.AttributeValues.{BodySection, BodyStructure, Envelope, Flags, Rfc822, Rfc822Header, Rfc822Text, GmailLabels, ThreadId, attribute_seen, attribute_value, attribute_owned}
+use Rattle.imap_attributes.specs.AttributeValues.{BodySection, BodyStructure, Envelope, Flags, Rfc822, Rfc822Header, Rfc822Text, GmailLabels, ThreadId, SaveDate, attribute_seen, attribute_value, attribute_owned}
 use Rattle.imap_sections.specs.SectionValues.{path_value}
 use Rattle.std.specs.Option.{option_map}
 use Rattle.imap_attributes.specs.Changed.{changed_attribute, owned_attribute}
@@ -17,7 +17,7 @@ use Rattle.imap_attributes.specs.declared.attributes.AttributeParts.{AttributePa
 use Rattle.imap_attributes.specs.declared.attributes.AttributeParts.TheVariants as parts
 
 module _ {S B : Type 0} (f : S → Text) (g : B → Text) (h : Text → Text) where
-  attribute_changed : (x : AttributeParts S B (Structure S B)) → attribute_seen (λ s. h (f s)) (λ b. h (g b)) (body_seen (λ s. h (f s)) (λ b. h (g b))) x ≡ changed_attribute h (attribute_seen f g (body_seen f g) x)
+  pub attribute_changed : (x : AttributeParts S B (Structure S B)) → attribute_seen (λ s. h (f s)) (λ b. h (g b)) (body_seen (λ s. h (f s)) (λ b. h (g b))) x ≡ changed_attribute h (attribute_seen f g (body_seen f g) x)
   attribute_changed (parts.BodySection section index contents) = ap (BodySection (option_map path_value section) index) (option_twice g h contents)
   attribute_changed (parts.BodyStructure body) = ap BodyStructure (body_changed f g h body)
   attribute_changed (parts.Envelope envelope) = ap Envelope (envelope_changed g h envelope.value)
@@ -34,6 +34,7 @@ module _ {S B : Type 0} (f : S → Text) (g : B → Text) (h : Text → Text) wh
   attribute_changed (parts.GmailThrId n) = refl
   attribute_changed (parts.EmailId id) = refl
   attribute_changed (parts.ThreadId id) = ap ThreadId (option_twice f h id)
+  attribute_changed (parts.SaveDate date) = ap SaveDate (option_twice f h date)
   attribute_changed parts.Unknown = refl
 
 pub attribute_is_owned : {Z : Type 0} (x : AttributeParts (CowStr Z) (CowSlice ℕ Z) (Structure (CowStr Z) (CowSlice ℕ Z))) → attribute_owned x ≡ owned_attribute (attribute_value x)

@@ -14,7 +14,7 @@ use Rattle.imap_shapes.specs.Lent.{lent_ntext, lent_body}
 use Rattle.imap_shapes.proofs.Equality.{field, envelope_tells}
 use Rattle.imap_sections.specs.SectionValues.{path_value}
 use Rattle.imap_sections.proofs.Equality.{paths_tell}
-use Rattle.imap_attributes.specs.AttributeValues.{AttributeValue, BodySection, BodyStructure, Envelope, Flags, InternalDate, ModSeq, Rfc822, Rfc822Header, Rfc822Size, Rfc822Text, Uid, GmailLabels, GmailMsgId, GmailThrId, EmailId, ThreadId, Unknown, attribute_seen}
+use Rattle.imap_attributes.specs.AttributeValues.{AttributeValue, BodySection, BodyStructure, Envelope, Flags, InternalDate, ModSeq, Rfc822, Rfc822Header, Rfc822Size, Rfc822Text, Uid, GmailLabels, GmailMsgId, GmailThrId, EmailId, ThreadId, SaveDate, Unknown, attribute_seen}
 use Rattle.imap_attributes.specs.Changed.{lent_attribute}
 use Rattle.imap_attributes.specs.declared.attributes.AttributeParts.{AttributeParts}
 use Rattle.imap_attributes.specs.declared.attributes.AttributeParts.TheVariants as parts
@@ -27,7 +27,7 @@ indexes_tell = retold (option_map (λ n. n)) (λ x. x) same (option_tells nat_eq
     same None = refl
     same (Some n) = refl
 
--- Two kinds of attribute are told apart by a number each: so one clause refutes all 272 unlike pairs at once.
+-- Two kinds of attribute are told apart by a number each: so one clause refutes all unlike pairs at once.
 abbrev kind : AttributeValue → ℕ
 kind (BodySection _ _ _) = 0
 kind (BodyStructure _) = 1
@@ -45,7 +45,8 @@ kind (GmailMsgId _) = 12
 kind (GmailThrId _) = 13
 kind (EmailId _) = 14
 kind (ThreadId _) = 15
-kind Unknown = 16
+kind (SaveDate _) = 16
+kind Unknown = 17
 
 module _
     (S B Y : RattleType) (q : partial.Ghosts S.Denot) (d : Dict) (r : partial.Ghosts B.Denot) (e : Dict) (p : partial.Ghosts Y.Denot) (k : Dict)
@@ -65,8 +66,8 @@ module _
   nstrings : Tells (option_eq r.eq) (λ x. lent_ntext (option_map g x))
   nstrings = options_tell r.eq g lent_text u
 
-  ids : Tells (option_eq q.eq) (λ x. lent_ntext (option_map f x))
-  ids = options_tell q.eq f lent_text t
+  ntexts : Tells (option_eq q.eq) (λ x. lent_ntext (option_map f x))
+  ntexts = options_tell q.eq f lent_text t
 
   attribute_same : (x y : Attribute) → eq x y ≡ true → view x ≡ view y
   attribute_same (parts.BodySection x i c) (parts.BodySection y j b) H =
@@ -87,7 +88,8 @@ module _
   attribute_same (parts.GmailMsgId x) (parts.GmailMsgId y) H = ap GmailMsgId (numbers_tell.same x y H)
   attribute_same (parts.GmailThrId x) (parts.GmailThrId y) H = ap GmailThrId (numbers_tell.same x y H)
   attribute_same (parts.EmailId x) (parts.EmailId y) H = ap EmailId (t.same x y H)
-  attribute_same (parts.ThreadId x) (parts.ThreadId y) H = ap ThreadId (ids.same x y H)
+  attribute_same (parts.ThreadId x) (parts.ThreadId y) H = ap ThreadId (ntexts.same x y H)
+  attribute_same (parts.SaveDate x) (parts.SaveDate y) H = ap SaveDate (ntexts.same x y H)
   attribute_same parts.Unknown parts.Unknown H = refl
   attribute_same x y H = absurd (false≢true H)
 
@@ -108,7 +110,8 @@ module _
   attribute_equal (parts.GmailMsgId x) (parts.GmailMsgId y) H = numbers_tell.equal x y cc
   attribute_equal (parts.GmailThrId x) (parts.GmailThrId y) H = numbers_tell.equal x y cc
   attribute_equal (parts.EmailId x) (parts.EmailId y) H = t.equal x y cc
-  attribute_equal (parts.ThreadId x) (parts.ThreadId y) H = ids.equal x y cc
+  attribute_equal (parts.ThreadId x) (parts.ThreadId y) H = ntexts.equal x y cc
+  attribute_equal (parts.SaveDate x) (parts.SaveDate y) H = ntexts.equal x y cc
   attribute_equal parts.Unknown parts.Unknown H = refl
   attribute_equal x y H = absurd (true≢false (ap (λ v. nat_eq (kind (view x)) (kind v)) H))
 

@@ -1,3 +1,4 @@
 pub mod Changed
 pub mod Putting
 pub mod Equality
+pub mod Marks

@@ -33,6 +33,7 @@ pub data AttributeValue : Type 0 where
   GmailThrId : ℕ → AttributeValue
   EmailId : Text → AttributeValue
   ThreadId : Option Text → AttributeValue
+  SaveDate : Option Text → AttributeValue
   Unknown : AttributeValue
 
 -- where f says a text, g a byte string and h a body structure
@@ -56,6 +57,7 @@ attribute_seen f g h (parts.GmailMsgId n) = GmailMsgId n
 attribute_seen f g h (parts.GmailThrId n) = GmailThrId n
 attribute_seen f g h (parts.EmailId id) = EmailId (f id)
 attribute_seen f g h (parts.ThreadId id) = ThreadId (option_map f id)
+attribute_seen f g h (parts.SaveDate date) = SaveDate (option_map f date)
 attribute_seen f g h parts.Unknown = Unknown
 
 -- ---- of spans, and of texts

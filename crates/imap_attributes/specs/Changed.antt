@@ -2,7 +2,7 @@
 use Rattle.std.specs.Prelude.{map}
 use Rattle.imap_grammar.specs.Text.{Text, owned_text, lent_text}
 use Rattle.imap_shapes.specs.Changed.{changed_ntext, changed_envelope, changed_body}
-use Rattle.imap_attributes.specs.AttributeValues.{AttributeValue, BodySection, BodyStructure, Envelope, Flags, InternalDate, ModSeq, Rfc822, Rfc822Header, Rfc822Size, Rfc822Text, Uid, GmailLabels, GmailMsgId, GmailThrId, EmailId, ThreadId, Unknown}
+use Rattle.imap_attributes.specs.AttributeValues.{AttributeValue, BodySection, BodyStructure, Envelope, Flags, InternalDate, ModSeq, Rfc822, Rfc822Header, Rfc822Size, Rfc822Text, Uid, GmailLabels, GmailMsgId, GmailThrId, EmailId, ThreadId, SaveDate, Unknown}
 
 abbrev pub changed_attribute : (Text → Text) → AttributeValue → AttributeValue
 changed_attribute h (BodySection section index contents) =
@@ -22,6 +22,7 @@ changed_attribute h (GmailMsgId n) = GmailMsgId n
 changed_attribute h (GmailThrId n) = GmailThrId n
 changed_attribute h (EmailId id) = EmailId (h id)
 changed_attribute h (ThreadId id) = ThreadId (changed_ntext h id)
+changed_attribute h (SaveDate date) = SaveDate (changed_ntext h date)
 changed_attribute h Unknown = Unknown
 
 -- with all its texts owned

@@ -50,6 +50,8 @@ pub enum AttributeParts<S, B, Y> {
     EmailId(S),
     /// `THREADID` (RFC 8474, section 5.2); `None` is `NIL`.
     ThreadId(Option<S>),
+    /// `SAVEDATE` (RFC 8514, section 4.1), as it stands; `None` is `NIL`.
+    SaveDate(Option<S>),
     /// Any other, and one whose value its rule denies. What stands there is skipped.
     Unknown,
 }

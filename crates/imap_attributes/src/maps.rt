@@ -95,6 +95,9 @@ impl<S: Drop, B: Drop, Y: Drop> Parts<S, B, Y> {
             Parts::ThreadId(id) => others.push_reserved(Parts::ThreadId(made!(mapped_optional_text(
                 c, id
             )))),
+            Parts::SaveDate(date) => others.push_reserved(Parts::SaveDate(made!(
+                mapped_optional_text(c, date)
+            ))),
             Parts::Unknown => others.push_reserved(Parts::Unknown),
         }
         Ok(())
@@ -172,6 +175,7 @@ impl<S: Drop, B: Drop, Y: Drop> Parts<S, B, Box<Y>> {
             Parts::GmailThrId(n) => others.push_reserved(Parts::GmailThrId(n)),
             Parts::EmailId(id) => others.push_reserved(Parts::EmailId(id)),
             Parts::ThreadId(id) => others.push_reserved(Parts::ThreadId(id)),
+            Parts::SaveDate(date) => others.push_reserved(Parts::SaveDate(date)),
             Parts::Unknown => others.push_reserved(Parts::Unknown),
         }
         Ok(())

@@ -1,6 +1,6 @@
 //! The same attributes with all texts owned.
 
-ghost use Rattle.std.specs.Prelude.{◌≡◌, IfOk, map};
+ghost use Rattle.std.specs.Prelude.{◌≡◌, [], IfOk, IsOk, map};
 ghost use Rattle.imap_attributes.specs.AttributeValues.{attribute_value, attribute_owned};
 
 use crate::attributes::AttributeValue;
@@ -18,13 +18,15 @@ impl<'a> AttributeValue<'a> {
     }
 }
 
-/// The same attributes in their order, with all texts owned. It takes memory for the list, and for what the attributes
-/// hold, also for texts that are owned already; `Err`: memory ran out.
+/// The same attributes in their order, with all texts owned. It takes memory for the list unless that is empty, and for
+/// what the attributes hold, also for texts that are owned already; `Err`: memory ran out.
 pub fn owned_attributes(
     alloc: Global,
     attributes: &[AttributeValue<'_>],
 ) -> Result<Vec<AttributeValue<'static>>, AllocError>
-    ensures { IfOk result (λ v. map attribute_value v.items ≡ map attribute_owned attributes.now) }
+    ensures same { IfOk result (λ v.
+        map attribute_value v.items ≡ map attribute_owned attributes.now) }
+    ensures memory { attributes.now ≡ [] → IsOk result }
 {
     let owning = Owning::new(alloc);
     let mut owned = Vec::with_capacity(alloc, attributes.len())?;

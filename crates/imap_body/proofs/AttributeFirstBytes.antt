@@ -1,6 +1,6 @@
 -- Which alternatives answer, by the first byte; what begins alike is read once.
 use Rattle.std.proofs.Common.{◌≡◌, ℕ, List, None, Err, refl, codes, ◌∙◌}
-use Rattle.std.specs.Prelude.{slice_get}
+use Rattle.std.specs.Prelude.{⊤, slice_get}
 use Rattle.imap_grammar.specs.declared.answer.Err.TheVariants.{Incomplete}
 use Rattle.imap_grammar.specs.declared.answer.Needed.TheVariants.{Unknown}
 use Rattle.imap_grammar.specs.Rule.{Rule, gives, ◌▹◌, ◌or◌}
@@ -14,7 +14,7 @@ use Rattle.imap_items.specs.Gmail.{gmail_label_list, gmail_msgid, gmail_thrid}
 use Rattle.imap_envelopes.specs.Envelopes.{byte_string}
 use Rattle.imap_structure.specs.Bodies.{body_structure}
 use Rattle.imap_attributes.specs.AttributeValues.{AttributeValue, BodyStructure, Rfc822, Rfc822Header, Rfc822Size, Rfc822Text}
-use Rattle.imap_body.specs.Attributes.{attribute, section_contents, structure, body_attribute, whole_message, message_header, message_size, message_text, message_part, message_attribute, msg_att_body_section, msg_att_body_structure, msg_att_envelope, msg_att_internal_date, msg_att_flags, msg_att_mod_seq, msg_att_rfc822, msg_att_rfc822_header, msg_att_rfc822_size, msg_att_rfc822_text, msg_att_uid, msg_att_gmail_labels, msg_att_gmail_msgid, msg_att_gmail_thrid, msg_att_email_id, msg_att_thread_id, msg_att_unknown, attribute_of_b, attribute_of_e, attribute_of_f, attribute_of_i, attribute_of_m, attribute_of_r, attribute_of_t, attribute_of_u, attribute_of_x}
+use Rattle.imap_body.specs.Attributes.{attribute, section_contents, structure, body_attribute, whole_message, message_header, message_size, message_text, message_part, message_attribute, msg_att_body_section, msg_att_body_structure, msg_att_envelope, msg_att_internal_date, msg_att_flags, msg_att_mod_seq, msg_att_rfc822, msg_att_rfc822_header, msg_att_rfc822_size, msg_att_rfc822_text, msg_att_uid, msg_att_gmail_labels, msg_att_gmail_msgid, msg_att_gmail_thrid, msg_att_email_id, msg_att_thread_id, msg_att_save_date, msg_att_unknown, attribute_of_b, attribute_of_e, attribute_of_f, attribute_of_i, attribute_of_m, attribute_of_r, attribute_of_s, attribute_of_t, attribute_of_u, attribute_of_x}
 use Rattle.imap_body.proofs.Factoring.{same_or, itself, same_behind, front_once, front_once3, grouped, word_parts}
 
 -- ---- what begins alike
@@ -79,12 +79,22 @@ last_apart a b c d e m =
 
 -- ---- arms
 
+-- Where this is unfolded, the choice is, and each rule of an attribute that is one word and a value.
+unfoldable pub worded_rules : ⊤
+unfolding attribute msg_att_envelope msg_att_internal_date msg_att_flags msg_att_mod_seq msg_att_rfc822 msg_att_rfc822_size msg_att_rfc822_text msg_att_uid msg_att_gmail_labels gmail_label_list msg_att_gmail_msgid gmail_msgid msg_att_gmail_thrid gmail_thrid msg_att_email_id msg_att_thread_id msg_att_save_date
+worded_rules = tt
+
+-- Where this is unfolded, the choice is, and each rule of an attribute as far as its first byte.
+unfoldable pub attribute_rules : ⊤
+unfolding worded_rules msg_att_body_section msg_att_body_structure msg_att_rfc822_header msg_att_unknown atom
+attribute_rules = tt
+
 pub attribute_none : (m : List ℕ) → slice_get m 0 ≡ None → step attribute m ≡ Err (Incomplete Unknown)
 unfolding attribute msg_att_body_section
 attribute_none m is = waits_without attribute m is refl
 
 of_body : AtAny "bB" attribute (msg_att_body_section or msg_att_body_structure or msg_att_unknown)
-unfolding attribute msg_att_body_section msg_att_body_structure msg_att_envelope msg_att_internal_date msg_att_flags msg_att_mod_seq msg_att_rfc822 msg_att_rfc822_header msg_att_rfc822_size msg_att_rfc822_text msg_att_uid msg_att_gmail_labels gmail_label_list msg_att_gmail_msgid gmail_msgid msg_att_gmail_thrid gmail_thrid msg_att_email_id msg_att_thread_id msg_att_unknown atom
+unfolding attribute_rules
 of_body = by_any "bB" attribute (msg_att_body_section or msg_att_body_structure or msg_att_unknown) (λ m. refl)
 
 pub attribute_is_of_b : AtAny "bB" attribute attribute_of_b
@@ -92,7 +102,7 @@ unfolding attribute_of_b
 attribute_is_of_b m h = of_body m h ∙ grouped msg_att_body_section msg_att_body_structure msg_att_unknown m ∙ same_or (msg_att_body_section or msg_att_body_structure) body_attribute msg_att_unknown msg_att_unknown body_once (itself msg_att_unknown) m
 
 pub of_message : AtAny "rR" attribute (msg_att_rfc822 or msg_att_rfc822_header or msg_att_rfc822_size or msg_att_rfc822_text or msg_att_unknown)
-unfolding attribute msg_att_body_section msg_att_body_structure msg_att_envelope msg_att_internal_date msg_att_flags msg_att_mod_seq msg_att_rfc822 msg_att_rfc822_header msg_att_rfc822_size msg_att_rfc822_text msg_att_uid msg_att_gmail_labels gmail_label_list msg_att_gmail_msgid gmail_msgid msg_att_gmail_thrid gmail_thrid msg_att_email_id msg_att_thread_id msg_att_unknown atom
+unfolding attribute_rules
 of_message = by_any "rR" attribute (msg_att_rfc822 or msg_att_rfc822_header or msg_att_rfc822_size or msg_att_rfc822_text or msg_att_unknown) (λ m. refl)
 
 pub attribute_is_of_r : AtAny "rR" attribute attribute_of_r
@@ -100,33 +110,52 @@ unfolding attribute_of_r
 attribute_is_of_r m h = of_message m h ∙ last_apart msg_att_rfc822 msg_att_rfc822_header msg_att_rfc822_size msg_att_rfc822_text msg_att_unknown m ∙ same_or (msg_att_rfc822 or msg_att_rfc822_header or msg_att_rfc822_size or msg_att_rfc822_text) message_attribute msg_att_unknown msg_att_unknown message_once (itself msg_att_unknown) m
 
 pub attribute_is_of_e : AtAny "eE" attribute attribute_of_e
-unfolding attribute msg_att_body_section msg_att_body_structure msg_att_envelope msg_att_internal_date msg_att_flags msg_att_mod_seq msg_att_rfc822 msg_att_rfc822_header msg_att_rfc822_size msg_att_rfc822_text msg_att_uid msg_att_gmail_labels gmail_label_list msg_att_gmail_msgid gmail_msgid msg_att_gmail_thrid gmail_thrid msg_att_email_id msg_att_thread_id msg_att_unknown atom attribute_of_e
+unfolding attribute_rules attribute_of_e
 attribute_is_of_e = by_any "eE" attribute attribute_of_e (λ m. refl)
 
 pub attribute_is_of_f : AtAny "fF" attribute attribute_of_f
-unfolding attribute msg_att_body_section msg_att_body_structure msg_att_envelope msg_att_internal_date msg_att_flags msg_att_mod_seq msg_att_rfc822 msg_att_rfc822_header msg_att_rfc822_size msg_att_rfc822_text msg_att_uid msg_att_gmail_labels gmail_label_list msg_att_gmail_msgid gmail_msgid msg_att_gmail_thrid gmail_thrid msg_att_email_id msg_att_thread_id msg_att_unknown atom attribute_of_f
+unfolding attribute_rules attribute_of_f
 attribute_is_of_f = by_any "fF" attribute attribute_of_f (λ m. refl)
 
 pub attribute_is_of_i : AtAny "iI" attribute attribute_of_i
-unfolding attribute msg_att_body_section msg_att_body_structure msg_att_envelope msg_att_internal_date msg_att_flags msg_att_mod_seq msg_att_rfc822 msg_att_rfc822_header msg_att_rfc822_size msg_att_rfc822_text msg_att_uid msg_att_gmail_labels gmail_label_list msg_att_gmail_msgid gmail_msgid msg_att_gmail_thrid gmail_thrid msg_att_email_id msg_att_thread_id msg_att_unknown atom attribute_of_i
+unfolding attribute_rules attribute_of_i
 attribute_is_of_i = by_any "iI" attribute attribute_of_i (λ m. refl)
 
 pub attribute_is_of_m : AtAny "mM" attribute attribute_of_m
-unfolding attribute msg_att_body_section msg_att_body_structure msg_att_envelope msg_att_internal_date msg_att_flags msg_att_mod_seq msg_att_rfc822 msg_att_rfc822_header msg_att_rfc822_size msg_att_rfc822_text msg_att_uid msg_att_gmail_labels gmail_label_list msg_att_gmail_msgid gmail_msgid msg_att_gmail_thrid gmail_thrid msg_att_email_id msg_att_thread_id msg_att_unknown atom attribute_of_m
+unfolding attribute_rules attribute_of_m
 attribute_is_of_m = by_any "mM" attribute attribute_of_m (λ m. refl)
 
+pub attribute_is_of_s : AtAny "sS" attribute attribute_of_s
+unfolding attribute_rules attribute_of_s
+attribute_is_of_s = by_any "sS" attribute attribute_of_s (λ m. refl)
+
 pub attribute_is_of_t : AtAny "tT" attribute attribute_of_t
-unfolding attribute msg_att_body_section msg_att_body_structure msg_att_envelope msg_att_internal_date msg_att_flags msg_att_mod_seq msg_att_rfc822 msg_att_rfc822_header msg_att_rfc822_size msg_att_rfc822_text msg_att_uid msg_att_gmail_labels gmail_label_list msg_att_gmail_msgid gmail_msgid msg_att_gmail_thrid gmail_thrid msg_att_email_id msg_att_thread_id msg_att_unknown atom attribute_of_t
+unfolding attribute_rules attribute_of_t
 attribute_is_of_t = by_any "tT" attribute attribute_of_t (λ m. refl)
 
 pub attribute_is_of_u : AtAny "uU" attribute attribute_of_u
-unfolding attribute msg_att_body_section msg_att_body_structure msg_att_envelope msg_att_internal_date msg_att_flags msg_att_mod_seq msg_att_rfc822 msg_att_rfc822_header msg_att_rfc822_size msg_att_rfc822_text msg_att_uid msg_att_gmail_labels gmail_label_list msg_att_gmail_msgid gmail_msgid msg_att_gmail_thrid gmail_thrid msg_att_email_id msg_att_thread_id msg_att_unknown atom attribute_of_u
+unfolding attribute_rules attribute_of_u
 attribute_is_of_u = by_any "uU" attribute attribute_of_u (λ m. refl)
 
 pub attribute_is_of_x : AtAny "xX" attribute attribute_of_x
-unfolding attribute msg_att_body_section msg_att_body_structure msg_att_envelope msg_att_internal_date msg_att_flags msg_att_mod_seq msg_att_rfc822 msg_att_rfc822_header msg_att_rfc822_size msg_att_rfc822_text msg_att_uid msg_att_gmail_labels gmail_label_list msg_att_gmail_msgid gmail_msgid msg_att_gmail_thrid gmail_thrid msg_att_email_id msg_att_thread_id msg_att_unknown atom attribute_of_x
+unfolding attribute_rules attribute_of_x
 attribute_is_of_x = by_any "xX" attribute attribute_of_x (λ m. refl)
 
-pub attribute_other : AtOther "bBeEfFiImMrRtTuUxX" attribute msg_att_unknown
-unfolding attribute msg_att_body_section msg_att_body_structure msg_att_envelope msg_att_internal_date msg_att_flags msg_att_mod_seq msg_att_rfc822 msg_att_rfc822_header msg_att_rfc822_size msg_att_rfc822_text msg_att_uid msg_att_gmail_labels gmail_label_list msg_att_gmail_msgid gmail_msgid msg_att_gmail_thrid gmail_thrid msg_att_email_id msg_att_thread_id msg_att_unknown atom
-attribute_other = by_other "bBeEfFiImMrRtTuUxX" attribute msg_att_unknown (λ m. refl)
+pub attribute_other : AtOther "bBeEfFiImMrRsStTuUxX" attribute msg_att_unknown
+unfolding attribute_rules
+attribute_other = by_other "bBeEfFiImMrRsStTuUxX" attribute msg_att_unknown (λ m. refl)
+
+pub ruleset arms = (
+  attribute_none,
+  attribute_is_of_b,
+  attribute_is_of_e,
+  attribute_is_of_f,
+  attribute_is_of_i,
+  attribute_is_of_m,
+  attribute_is_of_r,
+  attribute_is_of_s,
+  attribute_is_of_t,
+  attribute_is_of_u,
+  attribute_is_of_x,
+  attribute_other,
+)

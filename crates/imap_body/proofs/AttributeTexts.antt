@@ -15,12 +15,11 @@ use Rattle.imap_grammar.proofs.Yields.{Yields, right_yields, named_yields}
 use Rattle.imap_grammar.proofs.Reading.{reads-gives, reads-opt, reads-after, reads-before, reads-seq, reads-follow, reads-test, reads-run1, after-on, first, apart-where, apart-alt, apart-gives, denials, denies-after, denies-behind, denies-tag, test-on, tag-on, takes-absent, Begins, begun, ends_item-in, ◌⨾ʳ◌, ◌▹ʳ◌}
 use Rattle.imap_grammar.proofs.ReadingLists.{takes-text, takes-word, reads-nonempty_list_of}
 use Rattle.imap_grammar.proofs.Spelling.{◌⨾ˢ◌, ◌▹ˢ◌, ◌◃ˢ◌, ◌orˢ◌, spells-gives, spells-wider, spells-where, spells-names, spells-nothing, spells-word, spells-tag, spells-utf8, spells-run0, spells-run1, spells-maybe_space, spells-nonempty_list_of}
-use Rattle.imap_bytes.proofs.ReadingTexts.{not_digit, reads-number, reads-number_64, reads-string_utf8, reads-nil_or, nil_or-none}
-use Rattle.imap_bytes.proofs.SpellingTexts.{spells-number, spells-number_64, spells-string_utf8, spells-nil_or, spells-nstring}
+use Rattle.imap_bytes.proofs.ReadingTexts.{not_digit, reads-number, reads-number_64, reads-string_utf8, reads-nstring_utf8, reads-nil_or, nil_or-none}
+use Rattle.imap_bytes.proofs.SpellingTexts.{spells-number, spells-number_64, spells-string_utf8, spells-nstring_utf8, spells-nil_or, spells-nstring}
 use Rattle.imap_bytes.specs.Strings.{atom, string, nstring}
 use Rattle.imap_items.proofs.FlagTexts.{reads_flag_list, flag_list_spells}
 use Rattle.imap_items.proofs.GmailTexts.{keeps_label_list, keeps_msgid, keeps_thrid}
-use Rattle.imap_items.specs.Gmail.{gmail_label_list, gmail_msgid, gmail_thrid}
 use Rattle.imap_envelopes.specs.Envelopes.{byte_string}
 use Rattle.imap_structure.specs.Bodies.{body_structure}
 use Rattle.imap_envelopes.proofs.EnvelopeTexts.{reads_spaced, spaced_spells, reads_byte_string, byte_string_spells, reads_envelope, envelope_spells}
@@ -29,11 +28,12 @@ use Rattle.imap_shapes.specs.BodyValues.{BodyValue}
 use Rattle.imap_shapes.specs.Lent.{lent_ntext, lent_body}
 use Rattle.imap_structure.specs.BodyTexts.{canonical_body, spells_body}
 use Rattle.imap_sections.proofs.SectionTexts.{reads_section, section_spells}
+use Rattle.imap_body.proofs.AttributeFirstBytes.{worded_rules}
 use Rattle.imap_body.proofs.Behind.{Alike, given_behind, alike_behind, alike_through, reads-alike, spells-alike, reads-behind, apart-alike, apart-behind, spells-behind}
 use Rattle.imap_sections.specs.Sections.{section}
-use Rattle.imap_attributes.specs.AttributeValues.{BodyStructure, Envelope, Flags, InternalDate, ModSeq, Rfc822, Rfc822Header, Rfc822Size, Rfc822Text, Uid, GmailLabels, GmailMsgId, GmailThrId, EmailId, ThreadId, Unknown}
+use Rattle.imap_attributes.specs.AttributeValues.{BodyStructure, Envelope, Flags, InternalDate, ModSeq, Rfc822, Rfc822Header, Rfc822Size, Rfc822Text, Uid, GmailLabels, GmailMsgId, GmailThrId, EmailId, ThreadId, SaveDate, Unknown}
 use Rattle.imap_attributes.specs.Changed.{lent_attribute}
-use Rattle.imap_body.specs.Attributes.{origin, section_of, section_contents, msg_att_body_section, msg_att_body_structure, msg_att_envelope, date, msg_att_internal_date, msg_att_flags, msg_att_mod_seq, msg_att_rfc822, msg_att_rfc822_header, msg_att_rfc822_size, msg_att_rfc822_text, msg_att_uid, msg_att_gmail_labels, msg_att_gmail_msgid, msg_att_gmail_thrid, id_bytes, object_id, bracketed_id, msg_att_email_id, msg_att_thread_id, is_inside, is_bare, skipped_brackets, skipped_nstring, skipped_bare, skipped_value, msg_att_unknown, attribute, attribute_list}
+use Rattle.imap_body.specs.Attributes.{origin, section_of, section_contents, msg_att_body_section, msg_att_body_structure, msg_att_envelope, date, msg_att_internal_date, msg_att_flags, msg_att_mod_seq, msg_att_rfc822, msg_att_rfc822_header, msg_att_rfc822_size, msg_att_rfc822_text, msg_att_uid, msg_att_gmail_labels, msg_att_gmail_msgid, msg_att_gmail_thrid, id_bytes, object_id, bracketed_id, msg_att_email_id, msg_att_thread_id, msg_att_save_date, is_inside, is_bare, skipped_brackets, skipped_nstring, skipped_bare, skipped_value, msg_att_unknown, attribute, attribute_list}
 use Rattle.imap_body.specs.AttributeTexts.{canonical_origin, canonical_id, canonical_nid, canonical_attribute, canonical_attributes, spells_origin, spells_id, any_name, any_value, spells_attribute, spells_attributes, AttributeReadsBack}
 
 -- what ends an item ends a number
@@ -144,6 +144,10 @@ reads_thread_id =
     reads-behind ThreadId
     (reads-gives ThreadId (takes-word "THREADID " "THREADID " refl ▹ʳ reads-nil_or {l = lent_ntext} {c = canonical_nid} refl (reads-follow reads_id (λ t g. tt)) (λ x t g. refl) refl (λ x. refl)) (λ x. refl))
 
+reads_save_date : ReadsBack msg_att_save_date lent_attribute canonical_attribute EndsItem
+unfolding msg_att_save_date
+reads_save_date = reads-behind SaveDate (reads-gives SaveDate (takes-word "SAVEDATE " "SAVEDATE " refl ▹ʳ reads-follow reads-nstring_utf8 (λ t g. tt)) (λ x. refl))
+
 -- ---- a header, maybe behind one more space
 
 header_alike : Alike msg_att_rfc822_header (gives Rfc822Header (word "RFC822.HEADER " ▹ maybe_space ▹ byte_string))
@@ -218,7 +222,7 @@ denies_section m d = denies-after _ _ _ (denies-tag _ _ _ d)
 ruleset attribute_forms = (apart-alt, structure_apart, header_apart, unknown_apart, apart-behind, apart-gives, denies_section, denies_structure, denies_header, denies-after, denials)
 
 pub reads_attribute : ReadsBack attribute lent_attribute canonical_attribute EndsItem
-unfolding attribute msg_att_envelope msg_att_internal_date msg_att_flags msg_att_mod_seq msg_att_rfc822 msg_att_rfc822_size msg_att_rfc822_text msg_att_uid msg_att_gmail_labels gmail_label_list msg_att_gmail_msgid gmail_msgid msg_att_gmail_thrid gmail_thrid msg_att_email_id msg_att_thread_id
+unfolding worded_rules
 reads_attribute =
     first reads_body_section (search attribute_forms depth 40)
     (first reads_body_structure (search attribute_forms depth 40)
@@ -236,7 +240,8 @@ reads_attribute =
     (first reads_thrid (search attribute_forms depth 40)
     (first reads_email_id (search attribute_forms depth 40)
     (first reads_thread_id (search attribute_forms depth 40)
-    reads_unknown)))))))))))))))
+    (first reads_save_date (search attribute_forms depth 40)
+    reads_unknown))))))))))))))))
 
 pub reads_attribute_list : ReadsBack attribute_list (map lent_attribute) canonical_attributes Any
 unfolding attribute_list
@@ -318,6 +323,10 @@ thread_id_spells : Spells msg_att_thread_id spells_attribute
 unfolding msg_att_thread_id
 thread_id_spells = spells-behind ThreadId (spells-gives ThreadId (spells-word "THREADID " ▹ˢ spells-nil_or id_spells))
 
+save_date_spells : Spells msg_att_save_date spells_attribute
+unfolding msg_att_save_date
+save_date_spells = spells-behind SaveDate (spells-gives SaveDate (spells-word "SAVEDATE " ▹ˢ spells-nstring_utf8))
+
 labels_spell : Spells msg_att_gmail_labels spells_attribute
 unfolding msg_att_gmail_labels
 labels_spell = spells-gives GmailLabels keeps_label_list.spelled
@@ -335,7 +344,7 @@ unfolding attribute
 attribute_spells =
     body_section_spells orˢ body_structure_spells orˢ msg_envelope_spells orˢ internal_date_spells orˢ flags_spells orˢ mod_seq_spells
     orˢ rfc822_spells orˢ header_spells orˢ rfc822_size_spells orˢ rfc822_text_spells orˢ uid_spells
-    orˢ labels_spell orˢ msgid_spell orˢ thrid_spell orˢ email_id_spells orˢ thread_id_spells orˢ unknown_spells
+    orˢ labels_spell orˢ msgid_spell orˢ thrid_spell orˢ email_id_spells orˢ thread_id_spells orˢ save_date_spells orˢ unknown_spells
 
 pub attribute_list_spells : Spells attribute_list spells_attributes
 unfolding attribute_list
@@ -390,6 +399,9 @@ keeps_email_id = record { spelled = email_id_spells; back = reads_email_id }
 
 pub keeps_thread_id : AttributeReadsBack msg_att_thread_id
 keeps_thread_id = record { spelled = thread_id_spells; back = reads_thread_id }
+
+pub keeps_save_date : AttributeReadsBack msg_att_save_date
+keeps_save_date = record { spelled = save_date_spells; back = reads_save_date }
 
 pub keeps_unknown : AttributeReadsBack msg_att_unknown
 keeps_unknown = record { spelled = unknown_spells; back = reads_unknown }

@@ -7,3 +7,4 @@ pub mod Behind
 pub mod AttributeTexts
 pub mod AttributeNumbers
 pub mod Equality
+pub mod OneText

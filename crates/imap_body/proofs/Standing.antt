@@ -1,16 +1,14 @@
 -- Attributes in a message: what one names, and how those of a list stand one behind another.
-use Rattle.std.proofs.Common.{◌≡◌, ℕ, zero, suc, ◌==◌, ◌+◌, ◌≤◌, List, [], ◌∷◌, ◌++◌, length, take, drop, map, Ok, Err, IfOk, refl, sym, ap, subst, ◌∙◌, arith}
+use Rattle.std.proofs.Common.{◌≡◌, ℕ, zero, suc, ◌+◌, ◌≤◌, List, [], ◌∷◌, ◌++◌, take, drop, map, Ok, Err, IfOk, refl, sym, ap, subst, ◌∙◌, arith}
 use Rattle.std.specs.Prelude.{All}
-use Rattle.std.proofs.lemmas.List.{drop-drop, length-drop}
 use Rattle.std.specs.Global.{Vec}
-use Rattle.imap_grammar.specs.Rule.{meaning, tag_by}
+use Rattle.imap_grammar.specs.Rule.{meaning}
 use Rattle.imap_grammar.specs.Step.{Step, step}
 use Rattle.imap_grammar.specs.Positions.{Reached, GivesAt, between, named_in}
 use Rattle.imap_grammar.specs.Text.{Bytes, Text}
 use Rattle.imap_grammar.specs.declared.at.span.Span.{Span}
 use Rattle.imap_grammar.proofs.Agreement.{agrees}
 use Rattle.imap_grammar.proofs.Positions.{stepped, named_in_front}
-use Rattle.imap_grammar.proofs.ReadingWords.{exact}
 use Rattle.imap_shapes.specs.declared.spans.SpannedText.{SpannedText}
 use Rattle.imap_shapes.specs.Spans.{Lookup, Rests, bytes_in, text_in}
 use Rattle.imap_shapes.proofs.Places.{front_alike}
@@ -47,25 +45,6 @@ ends_there text bytes m k q s steps inside ahead start end =
 -- a place further on allows as much
 ends_later : {S B : Type 0} (text : Lookup → S → Text) (bytes : Lookup → B → Text) (m : Bytes) (p q r : ℕ) (s : SpannedAttribute S B) → StandsAt text bytes m p q s → q ≤ r → StandsAt text bytes m p r s
 ends_later text bytes m p q r s h le = record { start = h.start; ordered = h.ordered; ends = omega (arith, h.ends, le); inside = h.inside; is = h.is }
-
--- ---- a byte in front
-
--- places that leave the same are the same
-same_place : (m : Bytes) (p q : ℕ) → drop p m ≡ drop q m → p ≤ length m → q ≤ length m → p ≡ q
-same_place m p q e le within = omega (arith, ap length e, length-drop p m, length-drop q m)
-
--- a byte was read
-one_further : (m rest : Bytes) (b p : ℕ) → drop p m ≡ b ∷ rest → (rest ≡ drop (p + 1) m) × (p + 1 ≤ length m)
-one_further m rest b p e = (sym (ap (drop 1) e) ∙ drop-drop 1 p m, omega (arith, ap length e, length-drop p m))
-
--- behind a word of one byte is the next place
-pub behind_byte : (b : ℕ) (m v : Bytes) (p q : ℕ) → step (tag_by ◌==◌ (b ∷ [])) (drop p m) ≡ Ok (drop q m, v) → q ≤ length m → q ≡ p + 1
-unfolding meaning
-behind_byte b m v p q reads within =
-    let y = (agrees (tag_by ◌==◌ (b ∷ [])) (drop p m)).yielded v (drop q m) reads in
-    let byte : b ∷ [] ≡ v = exact (b ∷ []) v y.1 in
-    let here = one_further m (drop q m) b p (y.0 ∙ ap (λ w. w ++ drop q m) (sym byte)) in
-    same_place m q (p + 1) here.0 within here.1
 
 -- ---- a list of them
 

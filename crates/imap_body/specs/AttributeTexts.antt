@@ -5,14 +5,14 @@ use Rattle.imap_grammar.specs.Text.{Bytes, Text}
 use Rattle.imap_grammar.specs.Pieces.{Pieces, written, ◌then◌, words, space, number_text, plain, literal_text, ntext, list_text}
 use Rattle.imap_grammar.specs.Rule.{Rule, meaning}
 use Rattle.imap_grammar.specs.ReadBack.{Texts, EndsItem, SpellsAndReadsBack}
-use Rattle.imap_grammar.specs.Spelling.{this, exactly, in_any_case, ◌and◌, all_of, some_of, utf8_of, as_it_is, maybe, nil_or, spells_number, spells_nstring, spells_string_text, spells_some_list}
+use Rattle.imap_grammar.specs.Spelling.{this, exactly, in_any_case, ◌and◌, all_of, some_of, utf8_of, as_it_is, maybe, nil_or, spells_number, spells_nstring, spells_string_text, spells_ntext, spells_some_list}
 use Rattle.imap_items.specs.FlagTexts.{canonical_flag_list, spells_flag_list}
 use Rattle.imap_items.specs.GmailTexts.{canonical_label_list, canonical_msgid, canonical_thrid, spells_label_list, spells_msgid, spells_thrid}
 use Rattle.imap_envelopes.specs.EnvelopeTexts.{canonical_envelope, behind_space, spells_bytes, spells_envelope}
 use Rattle.imap_structure.specs.BodyTexts.{canonical_body, spells_body}
 use Rattle.imap_sections.specs.SectionTexts.{canonical_section, spells_section}
 use Rattle.imap_body.specs.Attributes.{is_inside, is_bare, attribute}
-use Rattle.imap_attributes.specs.AttributeValues.{AttributeValue, BodySection, BodyStructure, Envelope, Flags, InternalDate, ModSeq, Rfc822, Rfc822Header, Rfc822Size, Rfc822Text, Uid, GmailLabels, GmailMsgId, GmailThrId, EmailId, ThreadId, Unknown}
+use Rattle.imap_attributes.specs.AttributeValues.{AttributeValue, BodySection, BodyStructure, Envelope, Flags, InternalDate, ModSeq, Rfc822, Rfc822Header, Rfc822Size, Rfc822Text, Uid, GmailLabels, GmailMsgId, GmailThrId, EmailId, ThreadId, SaveDate, Unknown}
 use Rattle.imap_attributes.specs.Changed.{lent_attribute}
 
 -- ---- canonical text
@@ -53,6 +53,7 @@ canonical_attribute (GmailMsgId n) = canonical_msgid n
 canonical_attribute (GmailThrId n) = canonical_thrid n
 canonical_attribute (EmailId id) = words "EMAILID " then canonical_id id
 canonical_attribute (ThreadId id) = words "THREADID " then canonical_nid id
+canonical_attribute (SaveDate date) = words "SAVEDATE " then ntext date
 canonical_attribute Unknown = words "X NIL"
 
 abbrev pub canonical_attributes : List AttributeValue → Pieces
@@ -100,6 +101,7 @@ spells_attribute (GmailMsgId n) = spells_msgid n
 spells_attribute (GmailThrId n) = spells_thrid n
 spells_attribute (EmailId id) = in_any_case "EMAILID " and spells_id id
 spells_attribute (ThreadId id) = in_any_case "THREADID " and nil_or spells_id id
+spells_attribute (SaveDate date) = in_any_case "SAVEDATE " and spells_ntext date
 spells_attribute Unknown = any_name and exactly " " and any_value
 
 abbrev pub spells_attributes : List AttributeValue → Texts

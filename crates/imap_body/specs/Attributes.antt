@@ -1,6 +1,6 @@
 -- Attributes of a message (RFC 3501, section 9: msg-att, msg-att-dynamic, msg-att-static; RFC 7162, section 7:
 -- fetch-mod-resp, permsg-modsequence; RFC 8474, section 7: fetch-emailid-resp, fetch-threadid-resp, objectid;
--- X-GM-EXT-1).
+-- RFC 8514, section 4.1: SAVEDATE; X-GM-EXT-1).
 use Rattle.std.specs.Prelude.{ℕ, Bool, ◌==◌, ◌&&◌, not, List, Option}
 use Rattle.imap_grammar.specs.Ascii.{space, close_parenthesis}
 use Rattle.imap_grammar.specs.Classes.{is_astring_char}
@@ -10,14 +10,14 @@ use Rattle.imap_grammar.specs.Tags.{tag, word, sp, maybe_space}
 use Rattle.imap_grammar.specs.Lists.{nonempty_list_of}
 use Rattle.imap_bytes.specs.Numbers.{number, number_64}
 use Rattle.imap_bytes.specs.Strings.{nil_or, nstring, atom, in_utf8}
-use Rattle.imap_bytes.specs.Texts.{string_utf8}
+use Rattle.imap_bytes.specs.Texts.{string_utf8, nstring_utf8}
 use Rattle.imap_items.specs.Flags.{flag_list}
 use Rattle.imap_items.specs.Gmail.{gmail_label_list, gmail_msgid, gmail_thrid}
 use Rattle.imap_sections.specs.Sections.{section}
 use Rattle.imap_sections.specs.SectionValues.{PathValue}
 use Rattle.imap_envelopes.specs.Envelopes.{spaced, byte_string, envelope}
 use Rattle.imap_structure.specs.Bodies.{body_structure}
-use Rattle.imap_attributes.specs.AttributeValues.{AttributeValue, BodySection, BodyStructure, Envelope, Flags, InternalDate, ModSeq, Rfc822, Rfc822Header, Rfc822Size, Rfc822Text, Uid, GmailLabels, GmailMsgId, GmailThrId, EmailId, ThreadId, Unknown}
+use Rattle.imap_attributes.specs.AttributeValues.{AttributeValue, BodySection, BodyStructure, Envelope, Flags, InternalDate, ModSeq, Rfc822, Rfc822Header, Rfc822Size, Rfc822Text, Uid, GmailLabels, GmailMsgId, GmailThrId, EmailId, ThreadId, SaveDate, Unknown}
 
 -- ---- bodies
 
@@ -118,6 +118,10 @@ msg_att_email_id = word "EMAILID " ▹ gives EmailId bracketed_id
 unfoldable pub msg_att_thread_id : Rule AttributeValue
 msg_att_thread_id = word "THREADID " ▹ gives ThreadId (nil_or bracketed_id)
 
+-- "SAVEDATE" SP (date-time / nil), where the date may be any string
+unfoldable pub msg_att_save_date : Rule AttributeValue
+msg_att_save_date = word "SAVEDATE " ▹ gives SaveDate nstring_utf8
+
 -- ---- any other attribute
 
 -- any byte but `)`
@@ -170,6 +174,7 @@ attribute =
     or msg_att_gmail_thrid
     or msg_att_email_id
     or msg_att_thread_id
+    or msg_att_save_date
     or msg_att_unknown
 
 -- msg-att = "(" (msg-att-dynamic / msg-att-static) *(SP (msg-att-dynamic / msg-att-static)) ")", where blanks may
@@ -226,6 +231,9 @@ message_attribute = word "RFC822" ▹ (whole_message or message_part)
 
 unfoldable pub attribute_of_r : Rule AttributeValue
 attribute_of_r = message_attribute or msg_att_unknown
+
+unfoldable pub attribute_of_s : Rule AttributeValue
+attribute_of_s = msg_att_save_date or msg_att_unknown
 
 unfoldable pub attribute_of_t : Rule AttributeValue
 attribute_of_t = msg_att_thread_id or msg_att_unknown

@@ -1,3 +1,4 @@
 pub mod Attributes
 pub mod SpannedAttributes
 pub mod AttributeTexts
+pub mod NoSpelling

@@ -1,7 +1,7 @@
 //! Laws of the rules of this crate, of `imap_envelopes`, of `imap_structure` and of `imap_sections`, and of `==` of
 //! what they read, as contracts of functions that do nothing.
 
-ghost use Rattle.imap_grammar.specs.Text.{Bytes, text_of};
+ghost use Rattle.imap_grammar.specs.Text.{Bytes, as_text, text_of};
 ghost use Rattle.imap_grammar.specs.Step.{step};
 ghost use Rattle.imap_grammar.specs.Equality.{Tells};
 ghost use Rattle.imap_grammar.specs.Copying.{CopiesFreely};
@@ -20,18 +20,24 @@ ghost use Rattle.imap_structure.specs.Extensions as extensions;
 ghost use Rattle.imap_structure.specs.Bodies as bodies;
 ghost use Rattle.std.specs.Option.{option_map};
 ghost use Rattle.imap_structure.specs.declared.limits.TheConstants.{MAX_BODY_DEPTH, MAX_EXTENSION_DEPTH};
-ghost use Rattle.std.specs.Prelude.{ℕ, ◌≡◌, ◌^◌, map};
-ghost use Rattle.imap_grammar.specs.ReadBack.{SpellsAndReadsBack, Closes, as_is};
+ghost use Rattle.std.specs.Prelude.{ℕ, ◌≡◌, ◌^◌, ◌∷◌, [], None, Some, codes, map};
+ghost use Rattle.imap_grammar.specs.ReadBack.{SpellsAndReadsBack, HasOneText, Closes, as_is};
 ghost use Rattle.imap_shapes.specs.Lent.{lent_address, lent_addresses, lent_envelope, lent_params, lent_encoding, lent_fields, lent_disposition, lent_languages, lent_extension, lent_ext_1part, lent_ext_mpart, lent_type, lent_common, lent_single, lent_body};
 ghost use Rattle.imap_sections.specs.SectionTexts.{canonical_section_text, canonical_part, canonical_path, canonical_section, spells_message_text, spells_section_text, spells_part, spells_path, spells_section};
 ghost use Rattle.imap_attributes.specs.AttributeValues.{attribute_value, ModSeq, Rfc822Size, Uid, GmailMsgId, GmailThrId};
 ghost use Rattle.imap_attributes.specs.Changed.{lent_attribute};
 ghost use Rattle.imap_body.specs.SpannedAttributes.{places_of_body, places_of, spanned_value};
-ghost use Rattle.imap_body.specs.AttributeTexts.{canonical_attributes, spells_attributes, AttributeReadsBack, ReadsEachBelow};
+ghost use Rattle.imap_body.specs.AttributeTexts.{canonical_attribute, canonical_attributes, spells_attributes, AttributeReadsBack, ReadsEachBelow};
 ghost use Rattle.imap_envelopes.specs.EnvelopeTexts.{canonical_address, canonical_addresses, canonical_envelope, spells_address, spells_addresses, spells_envelope};
 ghost use Rattle.imap_structure.specs.FieldTexts.{canonical_params, canonical_encoding, canonical_fields, spells_params, spells_encoding, spells_fields};
 ghost use Rattle.imap_structure.specs.ExtensionTexts.{canonical_disposition, canonical_languages, canonical_extension, canonical_ext_1part, canonical_ext_mpart, spells_disposition, spells_languages, spells_extension, spells_ext_1part, spells_ext_mpart};
 ghost use Rattle.imap_structure.specs.BodyTexts.{canonical_body, spells_body};
+ghost use Rattle.imap_sections.specs.SectionValues as section;
+ghost use Rattle.imap_sections.specs.declared.types.sections.MessageSection.TheVariants as part;
+ghost use Rattle.imap_shapes.specs.declared.shapes.fields.ContentEncoding.TheVariants as encoding;
+ghost use Rattle.imap_attributes.specs.AttributeValues.{Unknown, SaveDate};
+ghost use Rattle.imap_body.specs.AttributeTexts.{spells_attribute};
+ghost use Rattle.imap_body.specs.NoSpelling.{a_mailbox_alone, an_md5_alone};
 
 use crate::spanned::SpannedAttribute;
 use imap_attributes::laws::attributes_equality;
@@ -94,6 +100,7 @@ pub fn stable()
     ensures object_id { Stable attributes.object_id }
     ensures msg_att_email_id { Stable attributes.msg_att_email_id }
     ensures msg_att_thread_id { Stable attributes.msg_att_thread_id }
+    ensures msg_att_save_date { Stable attributes.msg_att_save_date }
     ensures msg_att_unknown { Stable attributes.msg_att_unknown }
     ensures attribute { Stable attributes.attribute }
     ensures attribute_list { Stable attributes.attribute_list }
@@ -166,10 +173,29 @@ pub fn read_back()
     ensures msg_att_gmail_thrid { AttributeReadsBack attributes.msg_att_gmail_thrid }
     ensures msg_att_email_id { AttributeReadsBack attributes.msg_att_email_id }
     ensures msg_att_thread_id { AttributeReadsBack attributes.msg_att_thread_id }
+    ensures msg_att_save_date { AttributeReadsBack attributes.msg_att_save_date }
     ensures msg_att_unknown { AttributeReadsBack attributes.msg_att_unknown }
     ensures attribute { AttributeReadsBack attributes.attribute }
     ensures attribute_list { SpellsAndReadsBack attributes.attribute_list (map lent_attribute)
         canonical_attributes spells_attributes Closes }
+{}
+
+/// Values that say the same have one canonical text: it doesn't depend on which of their texts are borrowed.
+pub fn one_text()
+    ensures address { HasOneText lent_address canonical_address }
+    ensures addresses { HasOneText lent_addresses canonical_addresses }
+    ensures envelope { HasOneText lent_envelope canonical_envelope }
+    ensures body_fld_param { HasOneText lent_params canonical_params }
+    ensures body_fld_enc { HasOneText lent_encoding canonical_encoding }
+    ensures body_fields { HasOneText lent_fields canonical_fields }
+    ensures body_fld_dsp { HasOneText (option_map lent_disposition) canonical_disposition }
+    ensures body_fld_lang { HasOneText lent_languages canonical_languages }
+    ensures body_extension { HasOneText lent_extension canonical_extension }
+    ensures body_ext_1part { HasOneText lent_ext_1part canonical_ext_1part }
+    ensures body_ext_mpart { HasOneText lent_ext_mpart canonical_ext_mpart }
+    ensures body { HasOneText lent_body canonical_body }
+    ensures attribute { HasOneText lent_attribute canonical_attribute }
+    ensures attribute_list { HasOneText (map lent_attribute) canonical_attributes }
 {}
 
 /// Each number that fits is read: of 32 bits as a size or a UID, of 64 bits as a mod-sequence value or a number of
@@ -235,4 +261,25 @@ pub fn equality()
 pub fn cloning()
     ensures message_section { CopiesFreely ⟦<MessageSection as Clone>⟧.is_infallible
         ⟦<MessageSection as Clone>⟧.is_clone }
+{}
+
+/// Texts that don't spell the value: an address with a field too many, a field of extension data in another place, one
+/// language of two, another part, and others. So no definition of spelling is wider than these allow.
+pub fn no_spelling()
+    ensures a_field_too_many { ¬ (spells_address (a_mailbox_alone (codes "m"))
+        (codes "(NIL NIL \"m\" NIL NIL)")) }
+    ensures another_field { ¬ (spells_address (a_mailbox_alone (codes "m"))
+        (codes "(NIL \"m\" NIL NIL)")) }
+    ensures a_field_in_another_place { ¬ (spells_ext_1part (an_md5_alone (codes "m"))
+        (codes " NIL NIL NIL \"m\"")) }
+    ensures nil_for_base64 { ¬ (spells_encoding encoding.Base64 (codes "NIL")) }
+    ensures no_encoding { ¬ (spells_encoding encoding.SevenBit []) }
+    ensures one_of_two_languages { ¬ (spells_languages
+        (Some (as_text (codes "a") ∷ as_text (codes "b") ∷ [])) (codes "\"a\"")) }
+    ensures a_longer_section { ¬ (spells_section (Some (section.Full part.Header))
+        (codes "[HEADERS]")) }
+    ensures another_part { ¬ (spells_section (Some (section.Part (1 ∷ []) None)) (codes "[2]")) }
+    ensures a_name_alone { ¬ (spells_attribute Unknown (codes "X")) }
+    ensures nil_for_a_date { ¬ (spells_attribute (SaveDate (Some (as_text (codes "x"))))
+        (codes "SAVEDATE NIL")) }
 {}

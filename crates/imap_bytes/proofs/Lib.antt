@@ -11,4 +11,5 @@ pub mod ReadingQuoted
 pub mod SpellingTexts
 pub mod ReadingSets
 pub mod ReadingCounts
+pub mod Places
 pub mod Takes

@@ -2,3 +2,4 @@ pub mod Numbers
 pub mod Strings
 pub mod Texts
 pub mod Sets
+pub mod Places

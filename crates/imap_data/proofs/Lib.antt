@@ -13,3 +13,6 @@ pub mod NumberData
 pub mod Owned
 mod AnyCase
 mod Words
+mod NoSpelling
+mod NoIdSpelling
+pub mod OneText

@@ -24,10 +24,12 @@ ghost use Rattle.imap_extensions.specs.Vanishings as vanishings;
 ghost use Rattle.imap_items.specs.Rights as rights;
 ghost use Rattle.imap_extensions.specs.Acls as acls;
 ghost use Rattle.imap_data.specs.Annotations as metadata;
-ghost use Rattle.std.specs.Prelude.{◌≡◌, map, option_map};
+ghost use Rattle.std.specs.Prelude.{◌≡◌, ◌∷◌, [], Some, map, option_map};
+ghost use Rattle.std.specs.Prelude.{codes as bytes};
 ghost use Rattle.std.specs.List.{AllByRecursion};
-ghost use Rattle.imap_grammar.specs.Text.{lent_text};
-ghost use Rattle.imap_grammar.specs.ReadBack.{SpellsAndReadsBack, Closes, EndsItem, as_is};
+ghost use Rattle.imap_grammar.specs.Text.{as_text, lent_text};
+ghost use Rattle.imap_grammar.specs.Ranges.{fresh};
+ghost use Rattle.imap_grammar.specs.ReadBack.{SpellsAndReadsBack, HasOneText, Closes, EndsItem, as_is};
 ghost use Rattle.imap_items.specs.Capabilities.{lent_capability};
 ghost use Rattle.imap_items.specs.StatusTexts.{canonical_status, spells_status};
 ghost use Rattle.imap_items.specs.FlagTexts.{canonical_flag, spells_flag, spells_flag_perm, canonical_flag_list, spells_flag_list};
@@ -37,7 +39,9 @@ ghost use Rattle.imap_items.specs.UidSetTexts.{canonical_uid_set, spells_uid_set
 ghost use Rattle.imap_items.specs.MailboxTexts.{canonical_mailbox, spells_mailbox};
 ghost use Rattle.imap_items.specs.RightTexts.{canonical_rights, spells_rights};
 ghost use Rattle.imap_extensions.specs.Quotas.{lent_quota, lent_quota_root};
-ghost use Rattle.imap_extensions.specs.Ids.{lent_id};
+ghost use Rattle.imap_extensions.specs.Ids.{lent_id, map_of_pairs};
+ghost use Rattle.imap_extensions.specs.IdTexts.{spells_params};
+ghost use Rattle.imap_items.specs.declared.types.statuses.Status.TheVariants as status;
 ghost use Rattle.imap_extensions.specs.Acls.{lent_acl, lent_list_rights, lent_my_rights};
 ghost use Rattle.imap_data.specs.Owned.{owned_code, owned_attribute, owned_list, owned_datum};
 ghost use Rattle.imap_data.specs.Constants.{IsReadBy, status_texts, capability_texts, code_texts, attribute_texts, resource_texts};
@@ -198,4 +202,46 @@ pub fn read_back()
         spells_list_rights Closes }
     ensures my_rights { SpellsAndReadsBack acls.my_rights lent_my_rights canonical_my_rights
         spells_my_rights Closes }
+{}
+
+/// Values that say the same have one canonical text: it doesn't depend on which of their texts are borrowed. Rules whose
+/// values hold no text, or each text borrowed, have no clause.
+pub fn one_text()
+    ensures flag_list { HasOneText (map lent_text) canonical_flag_list }
+    ensures gmail_label_list { HasOneText (map lent_text) canonical_label_list }
+    ensures capabilities { HasOneText (map lent_capability) canonical_capabilities }
+    ensures mailbox { HasOneText lent_text canonical_mailbox }
+    ensures response_code { HasOneText lent_code canonical_response_code }
+    ensures mailbox_datum { HasOneText lent_datum canonical_datum }
+    ensures quota { HasOneText lent_quota canonical_quota }
+    ensures quota_root { HasOneText lent_quota_root canonical_quota_root }
+    ensures id { HasOneText (option_map lent_id) canonical_id }
+    ensures metadata_mailbox { HasOneText lent_text canonical_metadata }
+    ensures entries { HasOneText (map lent_text) canonical_entries }
+    ensures acl { HasOneText lent_acl canonical_acl }
+    ensures list_rights { HasOneText lent_list_rights canonical_list_rights }
+    ensures my_rights { HasOneText lent_my_rights canonical_my_rights }
+{}
+
+/// Texts that don't spell the value: another status, a flag in another case, an ID whose last value is another, a code
+/// with two spaces, and others. So no definition of spelling is wider than these allow.
+pub fn no_spelling()
+    ensures another_status { ¬ (spells_status status.Ok (bytes "NO")) }
+    ensures a_longer_word { ¬ (spells_status status.Ok (bytes "OKAY")) }
+    ensures another_case { ¬ (spells_flag_list (as_text (bytes "\\Seen") ∷ []) (bytes "(\\seen)")) }
+    ensures no_revision { ¬ (spells_capability_data
+        (capabilities.Atom (as_text (bytes "X")) ∷ []) (bytes "CAPABILITY X")) }
+    ensures a_revision_turned_on { ¬ (spells_enabled_data (capabilities.Imap4rev1 ∷ [])
+        (bytes "ENABLED IMAP4rev1")) }
+    ensures another_end { ¬ (spells_uid_set (uid_sets.UidRange (fresh 2 4) ∷ []) (bytes "2:5")) }
+    ensures a_single_uid { ¬ (spells_uid_set (uid_sets.UidRange (fresh 2 2) ∷ []) (bytes "2")) }
+    ensures a_longer_inbox { ¬ (spells_mailbox (as_text (bytes "INBOX")) (bytes "INBOXX")) }
+    ensures a_lower_inbox { ¬ (spells_mailbox (as_text (bytes "inbox")) (bytes "inbox")) }
+    ensures another_last_value { ¬ (spells_params
+        (Some (map_of_pairs ((as_text (bytes "a"), Some (as_text (bytes "1"))) ∷ [])))
+        (bytes "(\"a\" \"1\" \"a\" \"2\")")) }
+    ensures another_key { ¬ (spells_params
+        (Some (map_of_pairs ((as_text (bytes "a"), Some (as_text (bytes "1"))) ∷ [])))
+        (bytes "(\"b\" \"1\")")) }
+    ensures two_spaces { ¬ (spells_response_code (codes.UidNext 1) (bytes "[UIDNEXT  1]")) }
 {}

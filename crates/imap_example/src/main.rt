@@ -1,66 +1,60 @@
-//! Prints what the lines of a server, on standard input, tell a mail client.
+//! A mail client: it logs in, selects a mailbox and fetches what is in it. Its server's answers are standard input.
 #![tactic(auto)]
 
-use imap_proto::builders::command::{Command, CommandBuilder};
-use imap_proto::stream::Feed;
-use imap_proto::{AttributeValue, MailboxDatum, Response, ResponseCode};
+ghost use Rattle.std.specs.Prelude.{◌≡◌};
+
+use imap_proto::MailboxDatum::Exists;
+use imap_proto::Response;
+use imap_proto::builders::command::{AttrMacro, Command, CommandBuilder};
+use imap_session::{Event, Session};
 use std::io::{self, Read};
 
-// Prints a message's UID and flags, and how many bytes each section of it has.
-fn tell_message(rt: &impl Print, number: u32, attributes: &[AttributeValue<'_>]) -> io::Result<()> {
-    for attribute in attributes {
-        match attribute {
-            AttributeValue::Uid(uid) => println!(rt; "message {number}: UID {uid}")?,
-            AttributeValue::Flags(flags) => println!(rt; "message {number}: {flags:?}")?,
-            AttributeValue::BodySection {
-                contents: Some(bytes),
-                ..
-            } => {
-                println!(rt; "message {number}: {} bytes", bytes.as_slice().len())?;
-            }
-            _ => {}
-        }
+fn send(rt: &impl Print, session: &mut Session, command: Option<Command>) -> anyhow::Result<()>
+    ensures { session.new.held ≡ session.old.held }
+{
+    if let Some(command) = command {
+        let line = session.send(command)?;
+        println!(rt; "send: {}", str::from_utf8(&line)?.trim_end())?;
     }
     Ok(())
 }
 
-// Prints what a response says, where it is of a kind that this program knows.
-fn tell(rt: &impl Print, response: &Response<'_>) -> io::Result<()> {
-    match response {
-        Response::MailboxData(MailboxDatum::Exists(n)) => println!(rt; "{n} messages"),
-        Response::Fetch(number, attributes) => tell_message(rt, *number, attributes),
-        Response::Data { outcome, .. } => match outcome.code {
-            Some(ResponseCode::UidValidity(n)) => println!(rt; "UIDVALIDITY is {n}"),
-            _ => Ok(()),
-        },
-        Response::Done { status, .. } => println!(rt; "done: {status:?}"),
+// Prints what an event tells, where this program knows its kind; whether a command is finished.
+fn tell(rt: &impl Print, event: Event) -> io::Result<bool> {
+    let is_finished = matches!(event, Event::Finished { .. });
+    let told = match &event {
+        Event::Finished { status, .. } => println!(rt; "done: {status:?}"),
+        Event::Response(Response::MailboxData(Exists(n))) => println!(rt; "{n} messages"),
+        Event::Response(Response::Fetch(n, told)) => println!(rt; "message {n}: {told:?}"),
         _ => Ok(()),
-    }
-}
-
-// Prints the responses that a feed has.
-fn tell_all(rt: &impl Print, feed: &mut Feed) -> anyhow::Result<()> {
-    'responses: while let Some(response) = feed.next()? {
-        tell(rt, &response)?;
-    }
-    Ok(())
+    };
+    drop(event); // By a call: dropped in place, each of its kinds would be proved here.
+    told?;
+    Ok(is_finished)
 }
 
 fn main(rt: HostRuntime) -> anyhow::Result<()> {
-    let select = Command::from(CommandBuilder::select(rt.alloc(), "a \"b\"")?);
-    println!(rt; "send: a1 {}", str::from_utf8(&select.args)?)?;
-
-    let mut reader = rt.reader();
-    let mut buffer = [0; 4096];
-    let mut feed = Feed::new(rt.alloc());
+    let alloc = rt.alloc();
+    let login = CommandBuilder::login(alloc, "fred", "wombat")?;
+    let select = CommandBuilder::select(alloc, "INBOX")?.into();
+    let fetch = CommandBuilder::fetch(alloc)?.range_from(1..)?;
+    let fetch = fetch.attr_macro(AttrMacro::Fast)?.into();
+    let mut commands = Vec::from_array(alloc, [fetch, select, login])?; // The last is sent first.
+    let mut session = Session::new(alloc);
+    send(&rt, &mut session, commands.pop())?;
+    let (mut reader, mut buffer) = (rt.reader(), [0; 4096]);
     // Not `loop`: a loop has to be proved to end.
     for _ in 0..u64::MAX {
         let n = reader.read(&mut buffer)?;
         if n == 0 {
             break;
         }
-        feed.feed(&buffer[..n])?;
-        tell_all(&rt, &mut feed)?;
+        session.feed(&buffer[..n])?;
+        'events: while let Some(event) = session.next()? {
+            if tell(&rt, event)? {
+                send(&rt, &mut session, commands.pop())?;
+            }
+        }
     }
-    Ok(println!(rt; "{} bytes wait", feed.held().len())?)
+    Ok(println!(rt; "state: {:?}", session.state())?)
 }

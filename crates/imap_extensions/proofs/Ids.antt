@@ -1,7 +1,7 @@
 -- What a table of texts holds, as a finite map.
-use Rattle.std.proofs.Common.{◌≡◌, List, [], ◌∷◌, refl, sym, ap, ◌∙◌, subst, Option, Some, None, Bool, true, false, cond, map, nat_eq, Global}
-use Rattle.std.specs.Prelude.{option_map}
-use Rattle.std.specs.Ordering.{nat_cmp, eq_by_cmp}
+use Rattle.std.proofs.Common.{◌≡◌, List, [], ◌∷◌, refl, sym, ap, ap₂, ◌∙◌, subst, T, Option, Some, None, Bool, true, false, cond, map, nat_eq, Global}
+use Rattle.std.specs.Prelude.{option_map, ◌&&◌}
+use Rattle.std.specs.Ordering.{nat_cmp, eq_by_cmp, is_lt}
 use Rattle.std.specs.Cow.{cow_str_bytes}
 use Rattle.std.specs.Cmp.{on_equiv}
 use Rattle.std.specs.Cmp.Lexicographic.{slice_cmp, pointwise, texts_ties, same_text, nat_list_cmp_total, nat_list_eq_equiv}
@@ -9,13 +9,14 @@ use Rattle.std.specs.declared.borrow.CowStr.{CowStr}
 use Rattle.std.specs.declared.borrow.CowStr.TheVariants.{Borrowed, Owned}
 use Rattle.std.specs.Map.{lookup}
 use Rattle.std.specs.List.{IsDistinct, AllByRecursion}
-use Rattle.std.specs.FinMap.{insert, empty, entries, from_entries, get, find, get-empty, get-entries, get-from_entries, get-insert, same_map, slice_cmp-IsAntisymmetric, nat_cmp-IsAntisymmetric}
+use Rattle.std.specs.FinMap.{insert, empty, entries, from_entries, get, find, from_sorted, is_sorted, entries_sorted, entries-from_sorted, get-from_sorted, get-empty, get-entries, get-from_entries, get-insert, same_map, slice_cmp-IsAntisymmetric, nat_cmp-IsAntisymmetric}
+use Rattle.std.specs.FinMap.Entries.{below_all}
 use Rattle.std.specs.HashMap as hash
 use Rattle.std.specs.HashMap.Eq.{get_from_hash_map_eq, hash_map_eq_from_get}
 use Rattle.std.proofs.lemmas.Simd.{map-map}
 use Rattle.imap_grammar.specs.Text.{Bytes, Text, text_of, lent_text, owned_text}
 use Rattle.imap_grammar.proofs.Seen.{Tells, option_tells, option_twice, texts_tell}
-use Rattle.imap_extensions.specs.Ids.{IdValue, IdTable, entry_value, id_value, lent_id, id_content}
+use Rattle.imap_extensions.specs.Ids.{IdValue, IdTable, entry_value, id_value, lent_entry, lent_id, id_content}
 use Rattle.imap_extensions.specs.Owned.{owned_entry, owned_id}
 use Rattle.imap_extensions.proofs.Owned.{option_says}
 
@@ -73,6 +74,24 @@ get-changed f m q = get-from_entries nat_list_cmp_total (map (changed_entry f) (
 
 pub get-lent_id : (m : IdValue) (q : Bytes) → get (lent_id m) q ≡ option_map lent_text (get m q)
 get-lent_id m q = get-changed lent_text m q
+
+-- ---- the entries of a map whose texts are borrowed
+
+below_lent : (k : Bytes) (es : List (Bytes × Text)) → below_all (slice_cmp nat_cmp) k (map lent_entry es) ≡ below_all (slice_cmp nat_cmp) k es
+below_lent k [] = refl
+below_lent k (e ∷ es) = ap (λ b. is_lt (slice_cmp nat_cmp k e.0) && b) (below_lent k es)
+
+sorted_lent : (es : List (Bytes × Text)) → is_sorted (slice_cmp nat_cmp) (map lent_entry es) ≡ is_sorted (slice_cmp nat_cmp) es
+sorted_lent [] = refl
+sorted_lent (e ∷ es) = ap₂ (λ a b. a && b) (below_lent e.0 es) (sorted_lent es)
+
+-- they are the same, each with its text borrowed
+pub entries-lent_id : (m : IdValue) → entries (lent_id m) ≡ map lent_entry (entries m)
+entries-lent_id m =
+    let es = map lent_entry (entries m) in
+    let sorted : T (is_sorted (slice_cmp nat_cmp) es) = subst T (sym (sorted_lent (entries m))) (entries_sorted m) in
+    let same : lent_id m ≡ from_sorted es = alike (lent_id m) (from_sorted es) (λ q. get-from_entries nat_list_cmp_total es q ∙ sym (get-from_sorted (slice_cmp nat_cmp) es q sorted)) in
+    ap entries same ∙ entries-from_sorted (slice_cmp nat_cmp) es sorted
 
 abbrev lent_of : CowStr Global → Text
 lent_of x = lent_text (text_of x)

@@ -30,3 +30,5 @@ pub mod ReadingLists
 pub mod Spelling
 pub mod ReadingChoices
 pub mod ReadingIf
+pub mod OneText
+pub mod NoSpelling

@@ -35,6 +35,10 @@ pub record SpellsAndReadsBack {V : Type 0}
   pub spelled : Spells r spells
   pub back : ReadsBack r lent canonical may_follow
 
+-- Values that say the same have one canonical text: it doesn't depend on which of their texts are borrowed.
+abbrev pub HasOneText : {V : Type 0} → (V → V) → (V → Pieces) → Type 0
+HasOneText {V} lent canonical = (v w : V) → lent v ≡ lent w → canonical v ≡ canonical w
+
 -- a value that holds no text
 abbrev pub as_is : {V : Type 0} → V → V
 as_is v = v

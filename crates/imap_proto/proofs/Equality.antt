@@ -34,7 +34,7 @@ use Rattle.imap_proto.specs.Responses.{ResponseValue, Capabilities, Continue, Do
 use Rattle.imap_proto.specs.Feeds.{lent_whole}
 use Rattle.imap_proto.specs.declared.response.Response.{Response}
 use Rattle.imap_proto.specs.declared.response.Response.TheVariants as variant
-use Rattle.imap_proto.specs.declared.stream.Whole.{Whole}
+use Rattle.imap_proto.specs.declared.whole.Whole.{Whole}
 use Rattle.imap_proto.specs.contracts.outcome.OutcomePartialEq.TheImpl as outcome_eq
 use Rattle.imap_proto.specs.contracts.response.RequestIdPartialEq.TheImpl as tag_eq
 use Rattle.imap_proto.specs.contracts.response.ResponsePartialEq.TheImpl as response_eq

@@ -1,6 +1,7 @@
 -- Feeds.
-use Rattle.std.proofs.Common.{◌≡◌, ℕ, ◌+◌, ◌-◌, ◌<◌, ◌≤◌, [], ◌∷◌, ◌++◌, length, take, drop, Option, None, Some, Result, Ok, Err, refl, sym, ap, subst, ◌∙◌, append_assoc, arith}
-use Rattle.std.specs.Prelude.{IfOk, IfErr, IfSome, OnErr, MatchResult}
+use Rattle.std.proofs.Common.{◌≡◌, ℕ, ◌+◌, ◌-◌, ◌<◌, ◌≤◌, [], ◌∷◌, ◌++◌, length, take, drop, Option, None, Some, Result, Ok, Err, refl, sym, ap, subst, ◌∙◌, append_assoc, inl, inr, arith}
+use Rattle.std.specs.Prelude.{IfOk, IfErr, IfSome, IsOk, OnErr, MatchResult}
+use Rattle.std.proofs.lemmas.Bool.{false≢true}
 use Rattle.std.proofs.lemmas.List.{append-nil, take-append-drop, length-drop, drop-drop}
 use Rattle.std.proofs.lemmas.List.Prefix.{end_rest}
 use Rattle.std.specs.declared.alloc.AllocError.{AllocError}
@@ -9,15 +10,19 @@ use Rattle.imap_grammar.specs.declared.answer.Err.TheVariants.{Incomplete, Error
 use Rattle.imap_grammar.specs.declared.answer.Needed.{Needed}
 use Rattle.imap_grammar.specs.declared.answer.Needed.TheVariants.{Unknown, Size}
 use Rattle.imap_grammar.specs.Meaning.{Lacks}
-use Rattle.imap_grammar.specs.Memory.{FailsOnlyIf}
+use Rattle.imap_grammar.specs.Answer.{Returned}
+use Rattle.imap_grammar.specs.Memory.{FailsOnlyIf, SucceedsFor}
 use Rattle.imap_grammar.specs.Rule.{meaning}
 use Rattle.imap_grammar.specs.Step.{step}
 use Rattle.imap_grammar.specs.Text.{Bytes}
 use Rattle.imap_grammar.proofs.Agreement.{agrees}
+use Rattle.imap_grammar.proofs.Memory.{starts_with}
+use Rattle.imap_grammar.proofs.Steps.{ok_is}
 use Rattle.imap_proto.specs.declared.response.Response.{Response}
 use Rattle.imap_proto.specs.declared.stream.FeedError.{FeedError}
 use Rattle.imap_proto.specs.Responses.{ResponseValue, response_value}
-use Rattle.imap_proto.specs.Owned.{owned_response}
+use Rattle.imap_proto.specs.Memory.{MayWantMemory, TakesNone}
+use Rattle.imap_proto.specs.Owned.{owned_response, IsMovedWhole}
 use Rattle.imap_proto.specs.Lines.{response}
 use Rattle.imap_proto.specs.Streams.{Waiting, gave}
 use Rattle.imap_proto.specs.Feeds.{WaitsFor, Gave, HasGivenMore, FeedMayWant, RefusesAs, IsOwnedFront, IsFront, Settles}
@@ -72,6 +77,25 @@ front_owned held rest r n (Err d) front e is same m = subst (IsOwnedFront held) 
 pub front_within : (held : Bytes) (front : Result (ℕ × Response) Fault) → IsOwnedFront held front → IfOk front (λ x. x.0 ≤ length held)
 front_within held (Ok x) f = let lt = shorter held f.1 f.0 ((agrees response held).yielded f.0 f.1 f.2) in omega (arith, f.3, lt)
 front_within held (Err e) f = tt
+
+-- ---- where memory may be wanted
+
+-- the front was not read
+pub unread_wants : {A : Type 0} (held : Bytes) (parsed : Returned A) (e : Fault) → parsed ≡ Err e → FailsOnlyIf (MayWantMemory held) parsed → SucceedsFor TakesNone response held parsed → e ≡ Failure → FeedMayWant held
+unread_wants held (Ok x) e is failure memory q = absurd cc
+unread_wants held (Err d) e is failure memory q =
+    let same : d ≡ e = cc in
+    (inl (failure (same ∙ q)), λ g. absurd (false≢true (memory g.0 g.1 g.2 g.3)))
+
+-- it was read, and not owned
+pub unowned_wants : (held rest : Bytes) (v : ResponseValue) (n : ℕ) (owned : Result Response AllocError) (front : Result (ℕ × Response) Fault) → step response held ≡ Ok (rest, v) → (IsMovedWhole v → IsOk owned) → MatchResult owned (λ x. front ≡ Ok (n, x)) (λ e. front ≡ Err Failure) → FailsOnlyIf (FeedMayWant held) front
+unowned_wants held rest v n (Ok x) front is moved m = subst (FailsOnlyIf (FeedMayWant held)) (sym m) tt
+unowned_wants held rest v n (Err d) front is moved m = subst (FailsOnlyIf (FeedMayWant held)) (sym m) (λ q. (
+  inr (starts_with response held rest v is),
+  λ g.
+      let same : g.0 ≡ v = ap (λ p. p.1) (ok_is _ _ (sym g.2 ∙ is)) in
+      absurd (false≢true (moved (subst IsMovedWhole same g.4))),
+))
 
 -- ---- what a call of next answers, by what stands in front
 

@@ -15,7 +15,7 @@ use Rattle.imap_extensions.proofs.Ids.{get-lent_id}
 use Rattle.imap_attributes.specs.Changed.{lent_attribute}
 use Rattle.imap_proto.specs.Responses.{ResponseValue, Capabilities, Continue, Done, Data, Expunge, Vanished, Fetch, MailboxData, Quota, QuotaRoot, Id, Acl, ListRights, MyRights, lent_outcome, lent_response}
 use Rattle.imap_proto.specs.LineTexts.{Same}
-use Rattle.imap_proto.proofs.Marks.{attribute}
+use Rattle.imap_attributes.proofs.Marks.{attribute}
 
 abbrev Twice : {V : Type 0} → (V → V) → Type 0
 Twice {V} f = (v : V) → f (f v) ≡ f v

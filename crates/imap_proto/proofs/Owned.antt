@@ -14,7 +14,7 @@ use Rattle.imap_attributes.specs.Changed.{lent_attribute, owned_attribute}
 use Rattle.imap_proto.specs.Responses.{OutcomeValue, ResponseValue, Capabilities, Continue, Done, Data, Expunge, Vanished, Fetch, MailboxData, Quota, QuotaRoot, Id, Acl, ListRights, MyRights, lent_outcome}
 use Rattle.imap_proto.specs.LineTexts.{Same}
 use Rattle.imap_proto.specs.Owned.{owned_outcome, owned_response}
-use Rattle.imap_proto.proofs.Marks.{attribute}
+use Rattle.imap_attributes.proofs.Marks.{attribute}
 
 outcome : (o : OutcomeValue) → lent_outcome (owned_outcome o) ≡ lent_outcome o
 outcome o =

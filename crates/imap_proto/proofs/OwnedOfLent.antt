@@ -14,7 +14,7 @@ use Rattle.imap_data.proofs.Owned.{lent_code_owned, lent_datum_owned}
 use Rattle.imap_attributes.specs.Changed.{lent_attribute, owned_attribute}
 use Rattle.imap_proto.specs.Responses.{OutcomeValue, ResponseValue, Capabilities, Continue, Done, Data, Expunge, Vanished, Fetch, MailboxData, Quota, QuotaRoot, Id, Acl, ListRights, MyRights, lent_outcome, lent_response}
 use Rattle.imap_proto.specs.Owned.{owned_outcome, owned_response}
-use Rattle.imap_proto.proofs.Marks.{attribute}
+use Rattle.imap_attributes.proofs.Marks.{attribute}
 
 capability : (c : CapabilityValue) → owned_capability (lent_capability c) ≡ owned_capability c
 capability Imap4rev1 = refl

@@ -13,10 +13,10 @@ use Rattle.imap_proto.specs.declared.stream.End.{End}
 use Rattle.imap_proto.specs.declared.stream.End.TheVariants as ends
 use Rattle.imap_proto.specs.declared.stream.FeedError.{FeedError}
 use Rattle.imap_proto.specs.declared.stream.FeedError.TheVariants.{Denied, OutOfMemory}
-use Rattle.imap_proto.specs.declared.stream.Whole.{Whole}
+use Rattle.imap_proto.specs.declared.whole.Whole.{Whole}
 use Rattle.imap_proto.specs.Responses.{ResponseValue, response_value, lent_response}
-use Rattle.imap_proto.specs.Memory.{MayWantMemory}
-use Rattle.imap_proto.specs.Owned.{owned_response}
+use Rattle.imap_proto.specs.Memory.{MayWantMemory, TakesNone}
+use Rattle.imap_proto.specs.Owned.{owned_response, IsMovedWhole}
 use Rattle.imap_proto.specs.Lines.{response}
 use Rattle.imap_proto.specs.Streams.{Waiting, Splits, Fed}
 
@@ -80,9 +80,18 @@ HasGivenMore held r left =
     × (response_value r ≡ owned_response v)
     × Fed pieces (vs ++ v ∷ []) left
 
+-- The response in front is read without memory, and moved whole into its owned form: as EXPUNGE and EXISTS are.
+abbrev pub IsGivenFreely : Bytes → Type 0
+IsGivenFreely held =
+    (v : ResponseValue)
+    × (rest : Bytes)
+    × (step response held ≡ Ok (rest, v))
+    × TakesNone v
+    × IsMovedWhole v
+
 -- where memory may be wanted: to read a response, or to own the one that stands in front
 abbrev pub FeedMayWant : Bytes → Type 0
-FeedMayWant held = MayWantMemory held ⊎ StartsWith response held
+FeedMayWant held = (MayWantMemory held ⊎ StartsWith response held) × (¬ (IsGivenFreely held))
 
 -- It is denied only where no response begins with what is held, whatever is put behind it. Memory ran out only where it
 -- may be wanted.

@@ -148,3 +148,18 @@ CanonicalReadsBack =
 -- the same response, whichever texts are borrowed
 abbrev pub Same : ResponseValue → ResponseValue → Type 0
 Same r s = lent_response r ≡ lent_response s
+
+-- Responses that say the same have one canonical text, and each is of either kind where the other is.
+abbrev pub SaidAlike : Type 0
+SaidAlike =
+    (r s : ResponseValue) → Same r s
+    → (canonical_response r ≡ canonical_response s)
+    × (has_bracket r ≡ has_bracket s)
+    × (has_too_long_text r ≡ has_too_long_text s)
+
+-- So what says the same as a response that the grammar yields, as its owned form does, reads back as it.
+abbrev pub SameReadsBack : Type 0
+SameReadsBack =
+    (m : Bytes) (r : ResponseValue) (rest : Bytes) → (meaning response).yields m r rest
+    → (s : ResponseValue) → Same s r → has_bracket s ≡ false → has_too_long_text s ≡ false
+    → (t : Bytes) → (meaning response).yields (canonical_bytes s ++ t) (lent_response s) t

@@ -51,7 +51,7 @@ is_bracketed o = is_like_code o.code o.information
 abbrev pub IsPlain : OutcomeValue → Type 0
 IsPlain o = is_bracketed o ≡ false
 
--- the end of a line follows
+-- a CR follows, as where a line ends; what stands behind the CR is not asked
 abbrev pub Ends : Texts
 Ends t = (u : Bytes) × (t ≡ carriage_return ∷ u)
 

@@ -1,6 +1,9 @@
 //! Laws of the whole grammar, as contracts of functions that do nothing.
 
-ghost use Rattle.std.specs.Prelude.{◌≡◌, string_bytes};
+ghost use Rattle.std.specs.Prelude.{◌≡◌, Some, codes, string_bytes};
+ghost use Rattle.imap_grammar.specs.Text.{as_text};
+ghost use Rattle.imap_data.specs.Codes as code;
+ghost use Rattle.imap_proto.specs.OutcomeTexts.{spells_parts};
 ghost use Rattle.imap_grammar.specs.Stable.{Stable};
 ghost use Rattle.imap_grammar.specs.Equality.{Tells};
 ghost use Rattle.imap_grammar.specs.Copying.{CopiesFreely};
@@ -12,7 +15,7 @@ ghost use Rattle.imap_grammar.specs.ReadBack.{Spells};
 ghost use Rattle.imap_proto.specs.Owned.{owned_outcome, owned_response};
 ghost use Rattle.imap_proto.specs.CountLines.{CountIsRead, exists_of, recent_of};
 ghost use Rattle.imap_proto.specs.Quoting.{QuotedIsRead};
-ghost use Rattle.imap_proto.specs.LineTexts.{spells_response, BracketIsSaid, LiteralIsTooLong, CanonicalReadsBack, Same};
+ghost use Rattle.imap_proto.specs.LineTexts.{spells_response, BracketIsSaid, LiteralIsTooLong, CanonicalReadsBack, Same, SaidAlike, SameReadsBack};
 ghost use Rattle.imap_proto.specs.Responses.{OutcomeValue, ResponseValue, Expunge, outcome_value, response_value, lent_outcome, lent_response};
 
 use crate::outcome::Outcome;
@@ -57,12 +60,15 @@ pub fn streams()
 /// that response again, with all texts borrowed, and what follows the text is left whole, whatever it is. Two kinds are
 /// excepted: `has_bracket`, a status or a continuation without a code whose information begins with `[`, and
 /// `has_too_long_text`, with a text too long to be written as a literal. A response with its texts borrowed is the same
-/// response.
-#[tactic(auto, using(crate::proofs::LineTexts::response_spells, crate::proofs::LineTexts::canonical_reads_back, crate::proofs::LentTwice::lent_is_same))]
+/// response. Responses that say the same have one canonical text, and are of these kinds alike: so the canonical text of
+/// an owned response, as a feed gives it, reads back as it.
+#[tactic(auto, using(crate::proofs::LineTexts::response_spells, crate::proofs::LineTexts::canonical_reads_back, crate::proofs::LentTwice::lent_is_same, crate::proofs::OneText::said_alike, crate::proofs::OneText::same_reads_back))]
 pub fn read_back()
     ensures spells { Spells rule.response spells_response }
     ensures canonical { CanonicalReadsBack }
     ensures same { (r : ResponseValue) → Same (lent_response r) r }
+    ensures alike { SaidAlike }
+    ensures marks { SameReadsBack }
 {}
 
 /// What `read_back` excepts is no more than it says: a status or a continuation without a code whose information begins
@@ -127,4 +133,13 @@ pub fn cloning()
 pub fn defaults()
     ensures outcome { (o : Outcome) →
         ⟦<Outcome<'static> as Default>⟧.is_default o → outcome_value o ≡ outcomes.no_outcome }
+{}
+
+/// Texts that don't spell the outcome of a status: two characters between the code and the information, and another
+/// code. So no definition of spelling is wider than these allow.
+pub fn no_spelling()
+    ensures two_characters { ¬ (spells_parts (Some code.Alert) (Some (as_text (codes "x")))
+        (codes "[ALERT]  x")) }
+    ensures another_code { ¬ (spells_parts (Some code.Alert) (Some (as_text (codes "x")))
+        (codes "[PARSE] x")) }
 {}

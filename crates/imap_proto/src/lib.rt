@@ -12,6 +12,7 @@ mod outcome;
 mod outcomes;
 mod response;
 pub mod stream;
+mod whole;
 
 pub use imap_body::{
     Address, AttributeValue, BodyContentCommon, BodyContentSinglePart, BodyExt1Part, BodyExtMPart,

@@ -1,10 +1,10 @@
 //! Outcomes: the code and the text of a status line or a continuation.
 
-ghost use Rattle.std.specs.Prelude.{◌≡◌, option_map, IfOk};
+ghost use Rattle.std.specs.Prelude.{◌≡◌, option_map, IfOk, IfSome, IsOk};
 ghost use Rattle.imap_data.specs.Codes.{code_value};
-ghost use Rattle.imap_data.specs.Owned.{owned_code as owned};
+ghost use Rattle.imap_data.specs.Owned.{owned_code as owned, HoldsNoTexts};
 ghost use Rattle.imap_proto.specs.Responses.{outcome_value};
-ghost use Rattle.imap_proto.specs.Owned.{owned_outcome};
+ghost use Rattle.imap_proto.specs.Owned.{owned_outcome, OutcomeIsMovedWhole};
 
 use imap_data::ResponseCode;
 use imap_items::owned::owned_optional_text;
@@ -25,8 +25,9 @@ fn owned_code(
     alloc: Global,
     code: Option<ResponseCode<'_>>,
 ) -> Result<Option<ResponseCode<'static>>, AllocError>
-    ensures { IfOk result (λ c.
+    ensures same { IfOk result (λ c.
         option_map code_value c ≡ option_map owned (option_map code_value code.entry)) }
+    ensures memory { IfSome (option_map code_value code.entry) HoldsNoTexts → IsOk result }
 {
     Ok(match code {
         None => None,
@@ -35,10 +36,12 @@ fn owned_code(
 }
 
 impl<'a> Outcome<'a> {
-    /// The same outcome with all texts owned. It takes memory for lists of texts and of capabilities, and for borrowed
-    /// texts; `Err`: memory ran out.
+    /// The same outcome with all texts owned. It takes memory only for lists of texts and of capabilities, and for
+    /// borrowed texts; `Err`: memory ran out.
     pub fn into_owned(self, alloc: Global) -> Result<Outcome<'static>, AllocError>
-        ensures { IfOk result (λ o. outcome_value o ≡ owned_outcome (outcome_value self.entry)) }
+        ensures same { IfOk result (λ o.
+            outcome_value o ≡ owned_outcome (outcome_value self.entry)) }
+        ensures memory { OutcomeIsMovedWhole (outcome_value self.entry) → IsOk result }
     {
         Ok(Outcome {
             code: owned_code(alloc, self.code)?,

@@ -1,14 +1,14 @@
 //! Responses.
 
-ghost use Rattle.std.specs.Prelude.{◌≡◌, map, option_map, string_bytes, IfOk};
+ghost use Rattle.std.specs.Prelude.{◌≡◌, map, option_map, string_bytes, IfOk, IsOk};
 ghost use Rattle.imap_grammar.specs.Answer.{Answers, Steps};
 ghost use Rattle.imap_grammar.specs.Memory.{FailsOnlyIf, SucceedsFor};
-ghost use Rattle.imap_extensions.specs.Ids.{id_value};
+ghost use Rattle.imap_extensions.specs.Ids.{id_value, IsNil};
 ghost use Rattle.imap_extensions.specs.Owned.{owned_id as owned_map};
 ghost use Rattle.imap_attributes.specs.AttributeValues.{attribute_value};
 ghost use Rattle.imap_attributes.specs.Changed.{owned_attribute};
 ghost use Rattle.imap_proto.specs.Responses.{response_value, EndsLine};
-ghost use Rattle.imap_proto.specs.Owned.{owned_response};
+ghost use Rattle.imap_proto.specs.Owned.{owned_response, IsMovedWhole};
 ghost use Rattle.imap_proto.specs.LineTexts.{Spelled};
 ghost use Rattle.imap_proto.specs.Memory.{MayWantMemory, TakesNone};
 ghost use Rattle.imap_proto.specs.Lines as rule;
@@ -116,8 +116,9 @@ fn owned_attributes(
 }
 
 fn owned_id(alloc: Global, id: Option<IdMap<'_>>) -> Result<Option<IdMap<'static>>, AllocError>
-    ensures { IfOk result (λ m.
+    ensures same { IfOk result (λ m.
         option_map id_value m ≡ option_map owned_map (option_map id_value id.entry)) }
+    ensures memory { IsNil (option_map id_value id.entry) → IsOk result }
 {
     Ok(match id {
         None => None,
@@ -129,9 +130,12 @@ impl<'a> Response<'a> {
     /// The same response with all texts owned, so that the bytes which it was read from need not be kept.
     ///
     /// It takes memory for lists, for the map of an ID and for borrowed texts, in a `Fetch` also for texts that are
-    /// owned already; lists without texts are moved. `Err`: memory ran out.
+    /// owned already; lists without texts are moved. So it takes none for numbers, for `VANISHED`, for `ID NIL`, nor for
+    /// a status whose code has no list of texts and whose information is owned or missing. `Err`: memory ran out.
     pub fn into_owned(self, alloc: Global) -> Result<Response<'static>, AllocError>
-        ensures { IfOk result (λ r. response_value r ≡ owned_response (response_value self.entry)) }
+        ensures same { IfOk result (λ r.
+            response_value r ≡ owned_response (response_value self.entry)) }
+        ensures memory { IsMovedWhole (response_value self.entry) → IsOk result }
     {
         Ok(match self {
             Response::Capabilities(capabilities) => {
@@ -176,12 +180,12 @@ impl<'a> Response<'a> {
     /// keys of an ID map: of two equal ones either may be kept.
     ///
     /// It takes memory for lists, envelopes and body structures, for the map of an ID, for the tag of a tagged line,
-    /// for the entry and the value of a `Metadata`, and for texts that are not UTF-8. So `Failure` is answered only
-    /// behind `+`, behind `* ` and what begins a datum that may take memory (a status, a number and ` FETCH `, one of
-    /// some words), or behind a tag, a space and a status; and not where the response is one number (`EXPUNGE`,
-    /// `EXISTS`, `RECENT`, Gmail's), `ID NIL`, or an untagged status or a continuation with no list in its code and a
-    /// borrowed text. One kind is excepted: a text without a code that begins as a code with a list does, as
-    /// `[CAPABILITY`, since it is tried as that code first.
+    /// for the entry and the value of a `Metadata`, and for texts that are not UTF-8. So `Failure` is answered only for
+    /// the tag of a tagged line that is there whole; in an outcome, where the word of a code that may hold a list stands
+    /// or the text is not UTF-8; and behind `* ` and a number and ` FETCH `, or one of some words. It is not answered
+    /// where the response is one number (`EXPUNGE`, `EXISTS`, `RECENT`, Gmail's), `ID NIL`, or an untagged status or a
+    /// continuation with no list in its code and a borrowed text. One kind is excepted: a text without a code that
+    /// begins as a code with a list does, as `[CAPABILITY`, since it is tried as that code first.
     #[inline(always)]
     pub fn parse(alloc: Global, msg: &'a [u8]) -> ParseResult<'a>
         ensures steps { Steps rule.response response_value msg.now result }

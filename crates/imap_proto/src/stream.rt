@@ -10,6 +10,7 @@ ghost use Rattle.imap_proto.specs.Streams.{Fed, joined};
 ghost use Rattle.imap_proto.specs.Feeds.{Gave, HasGivenMore, IsFedMore, IsOwnedFront, IsFront, Settles, Puts, WaitsFor, RefusesAs, FeedMayWant, TakesAll, IsWhole};
 
 use crate::response::Response;
+use crate::whole;
 use imap_bytes::at::Reached;
 use imap_bytes::{Err, Needed};
 use std::alloc::{AllocError, Global};
@@ -153,7 +154,8 @@ impl Feed {
     /// where more bytes are needed, or nothing is held.
     ///
     /// It takes memory, to read a response and to own it. `OutOfMemory`: memory ran out, and the same call may be made
-    /// again; it is answered only where `Response::parse` may want memory, or where a response stands in front.
+    /// again; it is answered only where `Response::parse` may want memory, or where a response stands in front. It is
+    /// never answered where that response takes no memory and holds no text to be copied, as `EXISTS` and `EXPUNGE`.
     /// `Denied`: no response begins so, and every later call says that again, whatever is fed, or `OutOfMemory`. Both
     /// leave what is held. A response takes at least one byte, so a loop over `next` ends.
     pub fn next(&mut self) -> Result<Option<Response<'static>>, FeedError>
@@ -198,16 +200,7 @@ impl Feed {
 }
 
 /// What stands in the pieces of a stream.
-// Generic in its responses, since what is derived over a type parameter is proved in a tenth of the time.
-#[derive(Debug, Drop, PartialEq, Eq)]
-pub struct Whole<R = Response<'static>> {
-    /// The responses, one behind another, with all their texts owned.
-    pub responses: Vec<R>,
-    /// The bytes behind them.
-    pub rest: Vec<u8>,
-    /// Why these give no response; `Waits` where there are none.
-    pub end: End,
-}
+pub type Whole = whole::Whole<Response<'static>>;
 
 // Puts a response behind the others, or tells why none was given.
 #[inline(always)]

@@ -3,15 +3,18 @@ use Rattle.std.proofs.Common.{◌≡◌, refl, sym, ap, ◌∙◌, subst, List, 
 use Rattle.std.specs.Option.{option_map}
 use Rattle.imap_grammar.specs.Text.{Text}
 use Rattle.imap_shapes.specs.EnvelopeValues.{address_seen, addresses_seen, envelope_seen}
-use Rattle.imap_shapes.specs.FieldValues.{pair_seen, params_seen, encoding_seen}
-use Rattle.imap_shapes.specs.ExtensionValues.{disposition_seen, languages_seen, ExtensionValue, Str, Listed, one_extension, extensions_of, extension_step, extension_seen}
+use Rattle.imap_shapes.specs.FieldValues.{pair_seen, params_seen, encoding_seen, fields_seen}
+use Rattle.imap_shapes.specs.ExtensionValues.{disposition_seen, languages_seen, ExtensionValue, Str, Listed, one_extension, extensions_of, extension_step, extension_seen, ext_1part_seen, ext_mpart_seen}
 use Rattle.imap_shapes.specs.BodyValues.{type_seen, common_seen, single_seen, BodyValue, Basic, TextBody, Message, Multipart, one_body, bodies_of, body_step, body_seen}
-use Rattle.imap_shapes.specs.Changed.{changed_ntext, changed_address, changed_addresses, changed_envelope, changed_pair, changed_params, changed_encoding, changed_disposition, changed_languages, changed_extension, changed_extensions, changed_type, changed_common, changed_single, changed_last, changed_body, changed_bodies}
+use Rattle.imap_shapes.specs.Changed.{changed_ntext, changed_address, changed_addresses, changed_envelope, changed_pair, changed_params, changed_encoding, changed_fields, changed_disposition, changed_languages, changed_extension, changed_extensions, changed_ext_1part, changed_ext_mpart, changed_type, changed_common, changed_single, changed_last, changed_body, changed_bodies}
 use Rattle.imap_shapes.specs.declared.shapes.envelopes.Address.{Address}
 use Rattle.imap_shapes.specs.declared.shapes.envelopes.Envelope.{Envelope}
+use Rattle.imap_shapes.specs.declared.shapes.fields.BodyFields.{BodyFields}
 use Rattle.imap_shapes.specs.declared.shapes.fields.ContentEncoding.{ContentEncoding}
 use Rattle.imap_shapes.specs.declared.shapes.fields.ContentEncoding.TheVariants as encoding
 use Rattle.imap_shapes.specs.declared.shapes.extensions.ContentDisposition.{ContentDisposition}
+use Rattle.imap_shapes.specs.declared.shapes.extensions.BodyExt1Part.{BodyExt1Part}
+use Rattle.imap_shapes.specs.declared.shapes.extensions.BodyExtMPart.{BodyExtMPart}
 use Rattle.imap_shapes.specs.declared.shapes.extensions.BodyExtension.{BodyExtension}
 use Rattle.imap_shapes.specs.declared.shapes.extensions.BodyExtension.TheOpen as extension_layer
 use Rattle.imap_shapes.specs.declared.shapes.extensions.BodyExtension.TheOpen.{BodyExtension-F}
@@ -29,11 +32,11 @@ use Rattle.imap_shapes.specs.declared.shapes.bodies.BodyStructure.TheViews.{roll
 -- ---- what may be missing, and lists
 
 -- where a view changes with its texts, so does that of what may be missing, and of a list
-option_changed : {A V : Type 0} (seen after : A → V) (change : V → V) → ((x : A) → after x ≡ change (seen x)) → (o : Option A) → option_map after o ≡ option_map change (option_map seen o)
+pub option_changed : {A V : Type 0} (seen after : A → V) (change : V → V) → ((x : A) → after x ≡ change (seen x)) → (o : Option A) → option_map after o ≡ option_map change (option_map seen o)
 option_changed seen after change is None = refl
 option_changed seen after change is (Some x) = ap Some (is x)
 
-list_changed : {A V : Type 0} (seen after : A → V) (change : V → V) → ((x : A) → after x ≡ change (seen x)) → (xs : List A) → map after xs ≡ map change (map seen xs)
+pub list_changed : {A V : Type 0} (seen after : A → V) (change : V → V) → ((x : A) → after x ≡ change (seen x)) → (xs : List A) → map after xs ≡ map change (map seen xs)
 list_changed seen after change is [] = refl
 list_changed seen after change is (x ∷ xs) = λ i. is x i ∷ list_changed seen after change is xs i
 
@@ -44,7 +47,7 @@ module _ {S : Type 0} (f : S → Text) (h : Text → Text) where
   ntext_changed : (o : Option S) → option_map after o ≡ changed_ntext h (option_map f o)
   ntext_changed o = option_changed f after h (λ x. refl) o
 
-  address_changed : (a : Address S) → address_seen after a ≡ changed_address h (address_seen f a)
+  pub address_changed : (a : Address S) → address_seen after a ≡ changed_address h (address_seen f a)
   address_changed a = λ i. record { name = ntext_changed a.name i; adl = ntext_changed a.adl i; mailbox = ntext_changed a.mailbox i; host = ntext_changed a.host i }
 
   addresses_changed : (o : Option (Vec (Address S) Global)) → addresses_seen after o ≡ changed_addresses h (addresses_seen f o)
@@ -66,10 +69,10 @@ module _ {S : Type 0} (f : S → Text) (h : Text → Text) where
         message_id = ntext_changed e.message_id i;
       }
 
-  params_changed : (o : Option (Vec (S × S) Global)) → params_seen after o ≡ changed_params h (params_seen f o)
+  pub params_changed : (o : Option (Vec (S × S) Global)) → params_seen after o ≡ changed_params h (params_seen f o)
   params_changed o = option_changed (λ v. map (pair_seen f) v.items) (λ v. map (pair_seen after) v.items) (map (changed_pair h)) (λ v. list_changed (pair_seen f) (pair_seen after) (changed_pair h) (λ p. refl) v.items) o
 
-  encoding_changed : (x : ContentEncoding S) → encoding_seen after x ≡ changed_encoding h (encoding_seen f x)
+  pub encoding_changed : (x : ContentEncoding S) → encoding_seen after x ≡ changed_encoding h (encoding_seen f x)
   encoding_changed encoding.SevenBit = refl
   encoding_changed encoding.EightBit = refl
   encoding_changed encoding.Binary = refl
@@ -77,10 +80,21 @@ module _ {S : Type 0} (f : S → Text) (h : Text → Text) where
   encoding_changed encoding.QuotedPrintable = refl
   encoding_changed (encoding.Other text) = refl
 
+  pub fields_changed : (x : BodyFields S) → fields_seen after x ≡ changed_fields h (fields_seen f x)
+  unfolding fields_seen
+  fields_changed x = λ i.
+      record {
+        param = params_changed x.param i;
+        id = ntext_changed x.id i;
+        description = ntext_changed x.description i;
+        transfer_encoding = encoding_changed x.transfer_encoding i;
+        octets = x.octets;
+      }
+
   languages_changed : (o : Option (Vec S Global)) → languages_seen after o ≡ changed_languages h (languages_seen f o)
   languages_changed o = option_changed (λ v. map f v.items) (λ v. map after v.items) (map h) (λ v. list_changed f after h (λ x. refl) v.items) o
 
-  disposition_changed : (d : ContentDisposition S) → disposition_seen after d ≡ changed_disposition h (disposition_seen f d)
+  pub disposition_changed : (d : ContentDisposition S) → disposition_seen after d ≡ changed_disposition h (disposition_seen f d)
   disposition_changed d = λ i. record { ty = h (f d.ty); params = params_changed d.params i }
 
   -- ---- extension data
@@ -108,22 +122,47 @@ module _ {S : Type 0} (f : S → Text) (h : Text → Text) where
   last_changed : (o : Option (BodyExtension S)) → option_map (extension_seen after) o ≡ changed_last h (option_map (extension_seen f) o)
   last_changed o = option_changed (extension_seen f) (extension_seen after) (changed_extension h) extension_changed o
 
+  dispositions_changed : (o : Option (ContentDisposition S)) → option_map (disposition_seen after) o ≡ option_map (changed_disposition h) (option_map (disposition_seen f) o)
+  dispositions_changed o = option_changed (disposition_seen f) (disposition_seen after) (changed_disposition h) disposition_changed o
+
+  pub ext_1part_changed : (x : BodyExt1Part S) → ext_1part_seen after x ≡ changed_ext_1part h (ext_1part_seen f x)
+  unfolding ext_1part_seen
+  ext_1part_changed x = λ i.
+      record {
+        md5 = ntext_changed x.md5 i;
+        disposition = dispositions_changed x.disposition i;
+        language = languages_changed x.language i;
+        location = ntext_changed x.location i;
+        extension = last_changed x.extension i;
+      }
+
+  pub ext_mpart_changed : (x : BodyExtMPart S) → ext_mpart_seen after x ≡ changed_ext_mpart h (ext_mpart_seen f x)
+  unfolding ext_mpart_seen
+  ext_mpart_changed x = λ i.
+      record {
+        param = params_changed x.param i;
+        disposition = dispositions_changed x.disposition i;
+        language = languages_changed x.language i;
+        location = ntext_changed x.location i;
+        extension = last_changed x.extension i;
+      }
+
   -- ---- structures of bodies
 
-  type_changed : (t : ContentType S) → type_seen after t ≡ changed_type h (type_seen f t)
+  pub type_changed : (t : ContentType S) → type_seen after t ≡ changed_type h (type_seen f t)
   type_changed t = λ i. record { ty = h (f t.ty); subtype = h (f t.subtype); params = params_changed t.params i }
 
-  common_changed : (c : BodyContentCommon S) → common_seen after c ≡ changed_common h (common_seen f c)
+  pub common_changed : (c : BodyContentCommon S) → common_seen after c ≡ changed_common h (common_seen f c)
   unfolding common_seen
   common_changed c = λ i.
       record {
         ty = type_changed c.ty i;
-        disposition = option_changed (disposition_seen f) (disposition_seen after) (changed_disposition h) disposition_changed c.disposition i;
+        disposition = dispositions_changed c.disposition i;
         language = languages_changed c.language i;
         location = ntext_changed c.location i;
       }
 
-  single_changed : (s : BodyContentSinglePart S) → single_seen after s ≡ changed_single h (single_seen f s)
+  pub single_changed : (s : BodyContentSinglePart S) → single_seen after s ≡ changed_single h (single_seen f s)
   unfolding single_seen
   single_changed s = λ i.
       record {

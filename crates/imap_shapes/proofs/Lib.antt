@@ -5,3 +5,5 @@ pub mod Changed
 pub mod Equality
 pub mod EqualTrees
 pub mod EqualBodies
+pub mod Marks
+pub mod Owning

@@ -4,8 +4,8 @@ use Rattle.std.specs.Option.{option_map}
 use Rattle.imap_grammar.specs.Text.{Text}
 use Rattle.imap_shapes.specs.declared.shapes.fields.ContentEncoding.TheVariants.{SevenBit, EightBit, Binary, Base64, QuotedPrintable, Other}
 use Rattle.imap_shapes.specs.EnvelopeValues.{AddressValue, EnvelopeValue}
-use Rattle.imap_shapes.specs.FieldValues.{ParamsValue, EncodingValue}
-use Rattle.imap_shapes.specs.ExtensionValues.{DispositionValue, ExtensionValue, Num, Str, Listed, Extensions, no_extensions, one_extension}
+use Rattle.imap_shapes.specs.FieldValues.{ParamsValue, EncodingValue, FieldsValue}
+use Rattle.imap_shapes.specs.ExtensionValues.{DispositionValue, ExtensionValue, Num, Str, Listed, Extensions, no_extensions, one_extension, Ext1PartValue, ExtMPartValue}
 use Rattle.imap_shapes.specs.BodyValues.{TypeValue, CommonValue, SingleValue, BodyValue, Basic, TextBody, Message, Multipart, Bodies, no_bodies, one_body}
 
 -- ---- envelopes
@@ -57,6 +57,16 @@ changed_encoding h Base64 = Base64
 changed_encoding h QuotedPrintable = QuotedPrintable
 changed_encoding h (Other name) = Other (h name)
 
+abbrev pub changed_fields : (Text → Text) → FieldsValue → FieldsValue
+changed_fields h f =
+    record {
+      param = changed_params h f.param;
+      id = changed_ntext h f.id;
+      description = changed_ntext h f.description;
+      transfer_encoding = changed_encoding h f.transfer_encoding;
+      octets = f.octets;
+    }
+
 -- ---- extension data
 
 abbrev pub changed_disposition : (Text → Text) → DispositionValue → DispositionValue
@@ -75,6 +85,29 @@ abbrev mutual
   changed_extensions h no_extensions = no_extensions
   changed_extensions h (one_extension e es) =
       one_extension (changed_extension h e) (changed_extensions h es)
+
+abbrev pub changed_last : (Text → Text) → Option ExtensionValue → Option ExtensionValue
+changed_last h = option_map (changed_extension h)
+
+abbrev pub changed_ext_1part : (Text → Text) → Ext1PartValue → Ext1PartValue
+changed_ext_1part h e =
+    record {
+      md5 = changed_ntext h e.md5;
+      disposition = option_map (changed_disposition h) e.disposition;
+      language = changed_languages h e.language;
+      location = changed_ntext h e.location;
+      extension = changed_last h e.extension;
+    }
+
+abbrev pub changed_ext_mpart : (Text → Text) → ExtMPartValue → ExtMPartValue
+changed_ext_mpart h e =
+    record {
+      param = changed_params h e.param;
+      disposition = option_map (changed_disposition h) e.disposition;
+      language = changed_languages h e.language;
+      location = changed_ntext h e.location;
+      extension = changed_last h e.extension;
+    }
 
 -- ---- structures of bodies
 
@@ -99,9 +132,6 @@ changed_single h s =
       transfer_encoding = changed_encoding h s.transfer_encoding;
       octets = s.octets;
     }
-
-abbrev pub changed_last : (Text → Text) → Option ExtensionValue → Option ExtensionValue
-changed_last h = option_map (changed_extension h)
 
 abbrev mutual
   pub changed_body : (Text → Text) → BodyValue → BodyValue

@@ -1,8 +1,7 @@
 -- The same values with all texts borrowed: two values say the same where these are equal.
 use Rattle.std.specs.Prelude.{List, Option}
-use Rattle.std.specs.Option.{option_map}
 use Rattle.imap_grammar.specs.Text.{Text, lent_text}
-use Rattle.imap_shapes.specs.Changed.{changed_ntext, changed_address, changed_addresses, changed_envelope, changed_pair, changed_params, changed_encoding, changed_disposition, changed_languages, changed_extension, changed_extensions, changed_type, changed_common, changed_single, changed_last, changed_body, changed_bodies}
+use Rattle.imap_shapes.specs.Changed.{changed_ntext, changed_address, changed_addresses, changed_envelope, changed_pair, changed_params, changed_encoding, changed_fields, changed_disposition, changed_languages, changed_extension, changed_extensions, changed_ext_1part, changed_ext_mpart, changed_type, changed_common, changed_single, changed_last, changed_body, changed_bodies}
 use Rattle.imap_shapes.specs.EnvelopeValues.{AddressValue, EnvelopeValue}
 use Rattle.imap_shapes.specs.FieldValues.{ParamsValue, EncodingValue, FieldsValue}
 use Rattle.imap_shapes.specs.ExtensionValues.{DispositionValue, ExtensionValue, Extensions, Ext1PartValue, ExtMPartValue}
@@ -34,14 +33,7 @@ abbrev pub lent_encoding : EncodingValue → EncodingValue
 lent_encoding = changed_encoding lent_text
 
 abbrev pub lent_fields : FieldsValue → FieldsValue
-lent_fields f =
-    record {
-      param = lent_params f.param;
-      id = lent_ntext f.id;
-      description = lent_ntext f.description;
-      transfer_encoding = lent_encoding f.transfer_encoding;
-      octets = f.octets;
-    }
+lent_fields = changed_fields lent_text
 
 -- ---- extension data
 
@@ -58,24 +50,10 @@ abbrev pub lent_extensions : Extensions → Extensions
 lent_extensions = changed_extensions lent_text
 
 abbrev pub lent_ext_1part : Ext1PartValue → Ext1PartValue
-lent_ext_1part e =
-    record {
-      md5 = lent_ntext e.md5;
-      disposition = option_map lent_disposition e.disposition;
-      language = lent_languages e.language;
-      location = lent_ntext e.location;
-      extension = option_map lent_extension e.extension;
-    }
+lent_ext_1part = changed_ext_1part lent_text
 
 abbrev pub lent_ext_mpart : ExtMPartValue → ExtMPartValue
-lent_ext_mpart e =
-    record {
-      param = lent_params e.param;
-      disposition = option_map lent_disposition e.disposition;
-      language = lent_languages e.language;
-      location = lent_ntext e.location;
-      extension = option_map lent_extension e.extension;
-    }
+lent_ext_mpart = changed_ext_mpart lent_text
 
 -- ---- structures of bodies
 

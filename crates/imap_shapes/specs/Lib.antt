@@ -5,4 +5,5 @@ pub mod ExtensionValues
 pub mod BodyValues
 pub mod Lent
 pub mod Changed
+pub mod Owned
 pub mod Equality

@@ -4,11 +4,12 @@ ghost use Rattle.imap_grammar.specs.Equality.{Tells};
 ghost use Rattle.imap_grammar.specs.Copying.{CopiesFreely};
 ghost use Rattle.imap_grammar.specs.Text.{Text, lent_text};
 ghost use Rattle.imap_shapes.specs.EnvelopeValues.{address_seen, envelope_seen};
-ghost use Rattle.imap_shapes.specs.FieldValues.{params_seen, encoding_seen};
-ghost use Rattle.imap_shapes.specs.ExtensionValues.{disposition_seen, extension_seen};
+ghost use Rattle.imap_shapes.specs.FieldValues.{params_seen, encoding_seen, fields_seen};
+ghost use Rattle.imap_shapes.specs.ExtensionValues.{disposition_seen, extension_seen, ext_1part_seen, ext_mpart_seen};
 ghost use Rattle.imap_shapes.specs.BodyValues.{type_seen, common_seen, single_seen, body_seen};
 ghost use Rattle.imap_shapes.specs.Equality.{TellsByTexts};
-ghost use Rattle.imap_shapes.specs.Lent.{lent_address, lent_envelope, lent_params, lent_encoding, lent_disposition, lent_extension, lent_type, lent_common, lent_single, lent_body};
+ghost use Rattle.imap_shapes.specs.Owned.{owned_by, OwnedSaysSame, OwnedAlike};
+ghost use Rattle.imap_shapes.specs.Lent.{lent_address, lent_envelope, lent_params, lent_encoding, lent_fields, lent_disposition, lent_extension, lent_ext_1part, lent_ext_mpart, lent_type, lent_common, lent_single, lent_body};
 
 use crate::shapes::bodies::{BodyContentCommon, BodyContentSinglePart, BodyStructure, ContentType};
 use crate::shapes::envelopes::{Address, Envelope};
@@ -47,4 +48,60 @@ pub fn equality<S: PartialEq, B: PartialEq>()
 pub fn cloning()
     ensures spanned_text { CopiesFreely ⟦<SpannedText as Clone>⟧.is_infallible
         ⟦<SpannedText as Clone>⟧.is_clone }
+{}
+
+/// With its texts owned, as `into_owned` gives it, a value says the same as the value that it was made from.
+pub fn owning<S, B>()
+    ensures address { (f : B → Text) →
+        OwnedSaysSame lent_address (address_seen (owned_by f)) (address_seen f) }
+    ensures envelope { (f : B → Text) →
+        OwnedSaysSame lent_envelope (envelope_seen (owned_by f)) (envelope_seen f) }
+    ensures content_encoding { (f : S → Text) →
+        OwnedSaysSame lent_encoding (encoding_seen (owned_by f)) (encoding_seen f) }
+    ensures body_fields { (f : S → Text) →
+        OwnedSaysSame lent_fields (fields_seen (owned_by f)) (fields_seen f) }
+    ensures content_disposition { (f : S → Text) →
+        OwnedSaysSame lent_disposition (disposition_seen (owned_by f)) (disposition_seen f) }
+    ensures body_extension { (f : S → Text) →
+        OwnedSaysSame lent_extension (extension_seen (owned_by f)) (extension_seen f) }
+    ensures body_ext_1part { (f : S → Text) →
+        OwnedSaysSame lent_ext_1part (ext_1part_seen (owned_by f)) (ext_1part_seen f) }
+    ensures body_ext_mpart { (f : S → Text) →
+        OwnedSaysSame lent_ext_mpart (ext_mpart_seen (owned_by f)) (ext_mpart_seen f) }
+    ensures content_type { (f : S → Text) →
+        OwnedSaysSame lent_type (type_seen (owned_by f)) (type_seen f) }
+    ensures content_common { (f : S → Text) →
+        OwnedSaysSame lent_common (common_seen (owned_by f)) (common_seen f) }
+    ensures content_single_part { (f : S → Text) →
+        OwnedSaysSame lent_single (single_seen (owned_by f)) (single_seen f) }
+    ensures body_structure { (f : S → Text) (g : B → Text) →
+        OwnedSaysSame lent_body (body_seen (owned_by f) (owned_by g)) (body_seen f g) }
+{}
+
+/// The owned form of a value doesn't depend on which of its texts are borrowed: values that say the same have one.
+pub fn lending<S, B>()
+    ensures address { (f : B → Text) →
+        OwnedAlike lent_address (address_seen (owned_by f)) (address_seen f) }
+    ensures envelope { (f : B → Text) →
+        OwnedAlike lent_envelope (envelope_seen (owned_by f)) (envelope_seen f) }
+    ensures content_encoding { (f : S → Text) →
+        OwnedAlike lent_encoding (encoding_seen (owned_by f)) (encoding_seen f) }
+    ensures body_fields { (f : S → Text) →
+        OwnedAlike lent_fields (fields_seen (owned_by f)) (fields_seen f) }
+    ensures content_disposition { (f : S → Text) →
+        OwnedAlike lent_disposition (disposition_seen (owned_by f)) (disposition_seen f) }
+    ensures body_extension { (f : S → Text) →
+        OwnedAlike lent_extension (extension_seen (owned_by f)) (extension_seen f) }
+    ensures body_ext_1part { (f : S → Text) →
+        OwnedAlike lent_ext_1part (ext_1part_seen (owned_by f)) (ext_1part_seen f) }
+    ensures body_ext_mpart { (f : S → Text) →
+        OwnedAlike lent_ext_mpart (ext_mpart_seen (owned_by f)) (ext_mpart_seen f) }
+    ensures content_type { (f : S → Text) →
+        OwnedAlike lent_type (type_seen (owned_by f)) (type_seen f) }
+    ensures content_common { (f : S → Text) →
+        OwnedAlike lent_common (common_seen (owned_by f)) (common_seen f) }
+    ensures content_single_part { (f : S → Text) →
+        OwnedAlike lent_single (single_seen (owned_by f)) (single_seen f) }
+    ensures body_structure { (f : S → Text) (g : B → Text) →
+        OwnedAlike lent_body (body_seen (owned_by f) (owned_by g)) (body_seen f g) }
 {}

@@ -1,9 +1,13 @@
 -- Lists and bodies above level 0.
-use Rattle.std.proofs.Common.{◌≡◌, ◌≢◌, ℕ, zero, suc, ◌-◌, true, List, refl, ap, arith}
+use Rattle.std.proofs.Common.{◌≡◌, ◌≢◌, ℕ, zero, suc, ◌-◌, ◌<◌, true, List, refl, ap, arith}
 use Rattle.imap_grammar.specs.Step.{step}
 use Rattle.imap_grammar.proofs.Consumption.{consumes}
 use Rattle.imap_structure.specs.Extensions.{bracketed_extensions, extension_list}
 use Rattle.imap_structure.specs.Bodies.{bracketed_body, body}
+
+pub above_none : (level : ℕ) → level ≢ 0 → 0 < level
+above_none zero h = absurd (h refl)
+above_none (suc n) h = omega arith
 
 pub list_below : (level : ℕ) (m : List ℕ) → level ≢ 0 → step (extension_list level) m ≡ step (bracketed_extensions (extension_list (level - 1))) m
 unfolding extension_list

@@ -219,6 +219,12 @@ texts =
     ∷ attribute.ThreadId None
     ∷ [])
 
+abbrev pub a_save_date : ResponseValue
+a_save_date = Fetch 1 (attribute.SaveDate (Some (lent "x")) ∷ [])
+
+abbrev pub no_save_date : ResponseValue
+no_save_date = Fetch 1 (Unknown ∷ attribute.SaveDate None ∷ [])
+
 abbrev pub a_section : ResponseValue
 a_section =
     Fetch 1

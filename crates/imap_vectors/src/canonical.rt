@@ -9,6 +9,7 @@ ghost use Rattle.imap_proto.specs.LineTexts.{has_bracket, canonical_bytes};
 ghost use Rattle.imap_vectors.specs.CanonicalRows as value;
 
 use crate::answers::{assert_row, parses};
+use crate::streams::may_be_cut;
 use std::alloc::{AllocError, Global};
 use std::test::*;
 
@@ -84,6 +85,31 @@ static ROWS: &[Row] = &[
         line: b"* 1 FETCH (X-Y (q) UID 4 )\r\n",
         canonical: b"* 1 FETCH (X NIL UID 4)\r\n",
         says: "Fetch(1, [Unknown, Uid(4)])",
+    },
+    Row {
+        line: b"* 1 FETCH (SAVEDATE \"x\")\r\n",
+        canonical: b"* 1 FETCH (SAVEDATE {1}\r\nx)\r\n",
+        says: r#"Fetch(1, [SaveDate(Some("x"))])"#,
+    },
+    Row {
+        line: b"* 1 FETCH (SAVEDATE 5 savedate NIL)\r\n",
+        canonical: b"* 1 FETCH (X NIL SAVEDATE NIL)\r\n",
+        says: "Fetch(1, [Unknown, SaveDate(None)])",
+    },
+    Row {
+        line: b"* 1 FETCH (SAVEDATE (x))\r\n",
+        canonical: b"* 1 FETCH (X NIL)\r\n",
+        says: "Fetch(1, [Unknown])",
+    },
+    Row {
+        line: b"* 1 FETCH (SAVEDATE \"\xff\")\r\n",
+        canonical: b"* 1 FETCH (SAVEDATE {3}\r\n\xef\xbf\xbd)\r\n",
+        says: r#"Fetch(1, [SaveDate(Some("�"))])"#,
+    },
+    Row {
+        line: b"* 1 FETCH (SAVEDATE NIL)\r\n",
+        canonical: b"* 1 FETCH (SAVEDATE NIL)\r\n",
+        says: "Fetch(1, [SaveDate(None)])",
     },
 ];
 
@@ -208,6 +234,10 @@ pub fn texts_of_attributes()
         ≡ codes "* 1 FETCH (FLAGS (\\Seen a) MODSEQ (5) RFC822.SIZE 7 X-GM-MSGID 8 X-GM-THRID 9)\r\n" }
     ensures texts { canonical_bytes value.texts
         ≡ codes "* 1 FETCH (INTERNALDATE {1}\r\nd RFC822 {1}\r\na RFC822.HEADER NIL RFC822.TEXT {1}\r\nb EMAILID (M1) THREADID (T6) THREADID NIL)\r\n" }
+    ensures a_save_date { canonical_bytes value.a_save_date
+        ≡ codes "* 1 FETCH (SAVEDATE {1}\r\nx)\r\n" }
+    ensures no_save_date { canonical_bytes value.no_save_date
+        ≡ codes "* 1 FETCH (X NIL SAVEDATE NIL)\r\n" }
     ensures a_section { canonical_bytes value.a_section
         ≡ codes "* 1 FETCH (BODY[1.2.MIME]<0> {1}\r\na BODY[] NIL)\r\n" }
     ensures a_message { canonical_bytes value.a_message
@@ -219,7 +249,7 @@ pub fn texts_of_attributes()
 // Information that begins with `[`, as a code does: no canonical text is promised.
 const BRACKETED: &[u8] = b"* OK [BADCHARSET ({5}\r\nabcdex";
 
-// Whether both texts, and the canonical one with more behind it, answer so.
+// Whether both texts, and the canonical one with more behind it, answer so, and both may be cut anywhere.
 fn reads_back(alloc: Global, row: &Row) -> Result<bool, AllocError> {
     let mut followed = Vec::from_slice(alloc, row.canonical)?;
     followed.extend_from_slice(b"xy")?;
@@ -227,7 +257,9 @@ fn reads_back(alloc: Global, row: &Row) -> Result<bool, AllocError> {
     Ok(
         parses(alloc, row.line, row.says)
             && parses(alloc, row.canonical, row.says)
-            && parses(alloc, followed.as_slice(), says_followed.as_str()),
+            && parses(alloc, followed.as_slice(), says_followed.as_str())
+            && may_be_cut(alloc, row.line)
+            && may_be_cut(alloc, row.canonical),
     )
 }
 

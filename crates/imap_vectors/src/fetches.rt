@@ -103,6 +103,31 @@ static TEXTS_AND_BYTES: Rows = &[
     (b"* 1 FETCH (BODY[3]<4294967296> NIL)\r\n", "Error"),
 ];
 
+static SAVE_DATES: Rows = &[
+    (
+        b"* 1 FETCH (SAVEDATE \"x\")\r\n",
+        r#"Fetch(1, [SaveDate(Some("x"))])"#,
+    ),
+    (
+        b"* 1 FETCH (SAVEDATE NIL)\r\n",
+        "Fetch(1, [SaveDate(None)])",
+    ),
+    (
+        b"* 1 FETCH (SAVEDATE 5 savedate NIL)\r\n",
+        "Fetch(1, [Unknown, SaveDate(None)])",
+    ),
+    (b"* 1 FETCH (SAVEDATE (x))\r\n", "Fetch(1, [Unknown])"),
+    (
+        b"* 1 FETCH (SAVEDATE \"\xff\")\r\n",
+        r#"Fetch(1, [SaveDate(Some("�"))])"#,
+    ),
+    (
+        b"* 1 FETCH (UID 7 SAVEDATE {26}\r\n 7-Jul-1996 02:44:25 +0000 SAVEDATES 1)\r\n",
+        r#"Fetch(1, [Uid(7), SaveDate(Some(" 7-Jul-1996 02:44:25 +0000")), Unknown])"#,
+    ),
+    (b"* 1 FETCH (SAVEDATE {3}\r\nx", "Incomplete(Size(2))"),
+];
+
 static STRUCTURES: Rows = &[
     (
         b"* 1 FETCH (BODYSTRUCTURE (\"text\" \"plain\" NIL NIL NIL \"7bit\" 5))\r\n",
@@ -152,7 +177,6 @@ static UNKNOWN: Rows = &[
         b"* 1 FETCH (X () Y (\0\t) Z a\0\t(\"{\x80)\r\n",
         "Fetch(1, [Unknown, Unknown, Unknown])",
     ),
-    (b"* 1 FETCH (SAVEDATE NIL)\r\n", "Fetch(1, [Unknown])"),
     (b"* 1 FETCH (X \"a) b\" Y {3}\r\n) )Z z UID 4)\r\n", "Error"),
     (
         b"* 1 FETCH (X \"a) b\" Y {3}\r\n) ) Z z UID 4)\r\n",
@@ -197,10 +221,11 @@ static WAITING: Rows = &[
 ];
 
 /// The tables of these lines.
-pub fn lines() -> [Rows; 5] {
+pub fn lines() -> [Rows; 6] {
     [
         FLAGS_AND_NUMBERS,
         TEXTS_AND_BYTES,
+        SAVE_DATES,
         STRUCTURES,
         UNKNOWN,
         WAITING,
@@ -230,6 +255,7 @@ static SINGLE: Rows = &[
     (b"UID 7 ", r#"Uid(7) then " ""#),
     (b"Uid 7x)", r#"Uid(7) then "x)""#),
     (b"X \"a\"b", r#"Unknown then "b""#),
+    (b"SAVEDATE \"x\")", r#"SaveDate(Some("x")) then ")""#),
     (b"UID 7", "Incomplete(Unknown)"),
     (b"(", "Error"),
 ];

@@ -223,6 +223,14 @@ static PLACES: &[Places] = &[
         other: b"(ENVELOPE (NIL NIL ((NIL NIL \"a\" \"h\")) ((NIL NIL \"b\" \"i\")) NIL NIL NIL NIL NIL NIL))",
         others: "[Envelope(Envelope { date: None, subject: None, from: Some([Address { name: None, adl: None, mailbox: Some([97]), host: Some([104]) }]), sender: Some([Address { name: None, adl: None, mailbox: Some([98]), host: Some([105]) }]), reply_to: None, to: None, cc: None, bcc: None, in_reply_to: None, message_id: None })]",
     },
+    Places {
+        message: b"(SAVEDATE \"x\" savedate NIL SAVEDATE {2}\r\n\xffy SAVEDATE (x))",
+        start: 0,
+        spans: "[Span { start: 1, end: 13 }, Span { start: 14, end: 26 }, Span { start: 27, end: 43 }, Span { start: 44, end: 56 }] up to 57",
+        values: r#"[SaveDate(Some("x")), SaveDate(None), SaveDate(Some("�y")), Unknown]"#,
+        other: &[b'z'; 57],
+        others: r#"[SaveDate(Some("z")), SaveDate(None), SaveDate(Some("zz")), Unknown]"#,
+    },
 ];
 
 static PLACES_OF_BODIES: &[Places] = &[

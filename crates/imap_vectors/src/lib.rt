@@ -43,6 +43,8 @@ mod reports;
 #[cfg(test)]
 mod sections;
 #[cfg(test)]
+mod sessions;
+#[cfg(test)]
 mod sizes;
 #[cfg(test)]
 mod statuses;

@@ -4,9 +4,10 @@ use crate::answers::{
     Rows, assert_row, says, shows, tells, value_of, with_mark_if_any, with_value,
 };
 use crate::{codes, extensions, fetches, mailboxes, statuses};
+use imap_body::readers::attribute;
 use imap_body::{
-    BodyContentCommon, BodyContentSinglePart, BodyExt1Part, BodyExtMPart, BodyExtension,
-    ContentDisposition, ContentEncoding, ContentType,
+    AttributeValue, BodyContentCommon, BodyContentSinglePart, BodyExt1Part, BodyExtMPart,
+    BodyExtension, ContentDisposition, ContentEncoding, ContentType,
 };
 use imap_proto::Response;
 use imap_proto::imap_core::{Err, IResult};
@@ -165,6 +166,37 @@ fn extension_data_of_a_multipart(rt: HostRuntime) -> Result<(), Fail> {
     Ok(())
 }
 
+/// The attribute at the front of a copy of these bytes, made owned: the copy is gone when it is answered.
+pub fn attribute_alone(alloc: Global, i: &[u8]) -> Result<AttributeValue<'static>, Err> {
+    let copy = Vec::from_slice(alloc, i)?;
+    let value = value_of(attribute(alloc, &copy))?;
+    Ok(AttributeValue::into_owned(value, alloc)?)
+}
+
+fn is_attribute(alloc: Global, i: &[u8], want: &str) -> bool {
+    shows(alloc, attribute_alone(alloc, i), want)
+}
+
+static ATTRIBUTES: Rows = &[
+    (b"FLAGS (\\Seen a))", r#"Flags(["\\Seen", "a"])"#),
+    (
+        b"BODYSTRUCTURE (\"TEXT\" \"PLAIN\" (\"a\" \"b\") NIL NIL \"7BIT\" 5 1))",
+        r#"BodyStructure(Text { common: BodyContentCommon { ty: ContentType { ty: "TEXT", subtype: "PLAIN", params: Some([("a", "b")]) }, disposition: None, language: None, location: None }, other: BodyContentSinglePart { id: None, md5: None, description: None, transfer_encoding: SevenBit, octets: 5 }, lines: 1, extension: None })"#,
+    ),
+    (
+        b"BODY[1.2.MIME]<0> {2}\r\nab)",
+        "BodySection { section: Some(Part([1, 2], Some(Mime))), index: Some(0), contents: Some([97, 98]) }",
+    ),
+];
+
+#[test]
+fn attributes(rt: HostRuntime) {
+    let alloc = rt.alloc();
+    for (i, want) in ATTRIBUTES {
+        assert_row(&rt, is_attribute(alloc, i, want), want);
+    }
+}
+
 /// Whether the answer of `Response::parse` to a line is told so, its response made owned.
 pub fn parses_owned(alloc: Global, line: &[u8], want: &str) -> bool {
     says_owned(alloc, Response::parse(alloc, line), want)
@@ -230,6 +262,7 @@ static READ: Rows = &[
     ),
     (b"* 2 FETCH (UID 7)\r\n", "Fetch(2, [Uid(7)])"),
     (b"* ID (\"a\" \"1\")\r\n", r#"Id(Some({"a": "1"}))"#),
+    (b"* ID (\"name\" \"d\")\r\n", r#"Id(Some({"name": "d"}))"#),
     (
         b"* QUOTAROOT b a c\r\n",
         r#"QuotaRoot(QuotaRoot { mailbox_name: "b", quota_root_names: ["a", "c"] })"#,

@@ -9,7 +9,10 @@ use std::io::{self, ErrorKind};
 use std::process::Abort;
 use std::test::*;
 
-/// Hands out at most `size` bytes a call, and fails when no call is left.
+// More bytes than this are asked for by no read.
+const MOST_ASKED: usize = 4096;
+
+/// Hands out at most `size` bytes a call, and fails when no call is left, or where too many bytes are asked for.
 #[derive(Drop)]
 struct Handing<'a> {
     bytes: &'a [u8],
@@ -24,7 +27,7 @@ impl Source for Handing<'_> {
     ghost has_failed = { λ r. r.has_failed };
 
     fn read(&mut self, buf: &mut [u8]) -> io::Result<usize> {
-        if self.calls_left == 0 {
+        if self.calls_left == 0 || MOST_ASKED < buf.len() {
             self.has_failed = true;
             return Err(io::Error::from(ErrorKind::Other));
         }
@@ -205,6 +208,13 @@ static BYTE_BY_BYTE: &[Run] = &[
     },
 ];
 
+const READER_FAILS: Limits = Limits {
+    read_size: 1,
+    reads: 10,
+    write_size: 4096,
+    writes: 1000,
+};
+
 const WRITER_FAILS: Limits = Limits {
     read_size: 4096,
     reads: 1000,
@@ -220,6 +230,12 @@ const WRITER_TAKES_NONE: Limits = Limits {
 };
 
 static BROKEN_OFF: &[Run] = &[
+    Run {
+        bytes: b"* OK hi\r\na1 OK\r\n",
+        limits: READER_FAILS,
+        ends: Err(Fault::Read),
+        writes: b"data 9\n",
+    },
     Run {
         bytes: b"* OK hi\r\na1 OK\r\n",
         limits: WRITER_FAILS,
@@ -267,41 +283,81 @@ fn written_behind(bytes: usize) -> &'static [u8] {
     }
 }
 
-// Each place of failure in turn, up to the one behind all bytes.
+// The reader hands out pieces of one size, and fails behind so many of them; or so many are enough to come to the end.
+fn reader_fails_behind(alloc: Global, size: usize, reads: usize) -> bool {
+    let limits = Limits {
+        read_size: size,
+        reads,
+        ..WHOLE
+    };
+    let before_the_last = reads.saturating_sub(1).saturating_mul(size);
+    let is_enough = GREETED.len() <= before_the_last;
+    let want = Run {
+        bytes: GREETED,
+        limits,
+        ends: if is_enough {
+            Ok(Finish::End)
+        } else {
+            Err(Fault::Read)
+        },
+        writes: if is_enough {
+            GREETED_REPORT
+        } else {
+            written_behind(reads.saturating_mul(size))
+        },
+    };
+    goes(alloc, &want)
+}
+
+// Each place of failure in turn, up to the one behind all bytes, with each size of piece.
 #[test]
 fn reader_fails_anywhere(rt: HostRuntime) {
-    for reads in 0..=GREETED.len() {
-        let limits = Limits {
-            read_size: 1,
-            reads,
-            ..WHOLE
-        };
-        let want = Run {
-            bytes: GREETED,
-            limits,
-            ends: Err(Fault::Read),
-            writes: written_behind(reads),
-        };
-        assert!(rt; goes(rt.alloc(), &want), "{reads}");
+    for size in 1..=4 {
+        for reads in 0..=GREETED.len() {
+            assert!(rt;
+                reader_fails_behind(rt.alloc(), size, reads),
+                "{size}, {reads}"
+            );
+        }
     }
 }
 
-// Each place of failure in turn, up to the one before the last byte.
+// The writer takes pieces of one size, and fails behind so many of them: then what it took is a beginning of the report,
+// and not the whole. So many pieces are enough only where they could hold the whole.
+fn writer_fails_behind(alloc: Global, size: usize, writes: usize) -> bool {
+    let mut reader = Handing {
+        bytes: GREETED,
+        size: MOST_ASKED,
+        calls_left: 1000,
+        has_failed: false,
+    };
+    let mut writer = Taking {
+        written: Vec::new(alloc),
+        size,
+        calls_left: writes,
+        has_failed: false,
+    };
+    match run(alloc, &mut reader, &mut writer) {
+        Err(Fault::Write) => {
+            GREETED_REPORT.starts_with(&writer.written)
+                && writer.written.len() < GREETED_REPORT.len()
+        }
+        Ok(Finish::End) => GREETED_REPORT.len() <= writes.saturating_mul(size)
+            && writer.written.as_slice() == GREETED_REPORT,
+        _ => false,
+    }
+}
+
+// Each place of failure in turn, up to the one before the last byte, with each size of piece.
 #[test]
 fn writer_fails_anywhere(rt: HostRuntime) {
-    for writes in 0..GREETED_REPORT.len() {
-        let limits = Limits {
-            write_size: 1,
-            writes,
-            ..WHOLE
-        };
-        let want = Run {
-            bytes: GREETED,
-            limits,
-            ends: Err(Fault::Write),
-            writes: GREETED_REPORT.split_at(writes).0,
-        };
-        assert!(rt; goes(rt.alloc(), &want), "{writes}");
+    for size in 1..=4 {
+        for writes in 0..GREETED_REPORT.len() {
+            assert!(rt;
+                writer_fails_behind(rt.alloc(), size, writes),
+                "{size}, {writes}"
+            );
+        }
     }
 }
 

@@ -1,10 +1,10 @@
 //! Texts that bytes are decoded to, each with its mark, and the texts of faults.
 
 use crate::answers::{
-    Marked, Reads, Rows, assert_reads, assert_row, assert_says, assert_texts, says, says_marked,
-    with_mark,
+    Marked, NOTHING, Reads, Rows, assert_reads, assert_row, assert_says, assert_texts, says,
+    says_marked, with_mark,
 };
-use crate::owned::owned;
+use crate::owned::{attribute_alone, owned};
 use imap_proto::Response;
 use imap_proto::bodystructure::PartsError;
 use imap_proto::imap_core::{
@@ -114,7 +114,8 @@ fn add_texts<'a>(
     match attribute {
         AttributeValue::InternalDate(text)
         | AttributeValue::EmailId(text)
-        | AttributeValue::ThreadId(Some(text)) => texts.push(with_mark(text))?,
+        | AttributeValue::ThreadId(Some(text))
+        | AttributeValue::SaveDate(Some(text)) => texts.push(with_mark(text))?,
         AttributeValue::Flags(list) | AttributeValue::GmailLabels(list) => add_list(texts, list)?,
         _ => {}
     }
@@ -164,6 +165,14 @@ impl<'a> Telling for Response<'a> {
     }
 }
 
+impl<'a> Telling for AttributeValue<'a> {
+    fn texts(&self, alloc: Global) -> Result<Vec<Marked<'_>>, AllocError> {
+        let mut texts = Vec::new(alloc);
+        add_texts(&mut texts, self)?;
+        Ok(texts)
+    }
+}
+
 static MARKED_LINES: Rows = &[
     (b"* OK hi\r\n", r#"[Borrowed("hi")]"#),
     (b"* OK \xff\xfex\r\n", r#"[Owned("��x")]"#),
@@ -192,6 +201,10 @@ static MARKED_LINES: Rows = &[
         r#"[Borrowed("a"), Borrowed("\\Seen"), Borrowed("\\*"), Borrowed("\\Sent"), Owned("�"), Borrowed("M1"), Borrowed("T")]"#,
     ),
     (
+        b"* 1 FETCH (SAVEDATE \"x\" SAVEDATE \"\xff\" SAVEDATE NIL)\r\n",
+        r#"[Borrowed("x"), Owned("�")]"#,
+    ),
+    (
         b"* METADATA \"x\" \"/shared/comment \xff\" /private/comment\r\n",
         r#"[Borrowed("x"), Owned("/shared/comment �"), Borrowed("/private/comment")]"#,
     ),
@@ -217,6 +230,19 @@ static OWNED_LINES: Rows = &[
         b"* 1 FETCH (INTERNALDATE \"a\" FLAGS (\\Seen \\*) X-GM-LABELS (\\Sent \"\xff\") EMAILID (M1) THREADID (T))\r\n",
         r#"[Owned("a"), Owned("\\Seen"), Owned("\\*"), Owned("\\Sent"), Owned("�"), Owned("M1"), Owned("T")]"#,
     ),
+    (
+        b"* 1 FETCH (SAVEDATE \"x\" SAVEDATE \"\xff\" SAVEDATE NIL)\r\n",
+        r#"[Owned("x"), Owned("�")]"#,
+    ),
+];
+
+static OWNED_ATTRIBUTES: Rows = &[
+    (b"FLAGS (\\Seen a))", r#"[Owned("\\Seen"), Owned("a")]"#),
+    (
+        b"X-GM-LABELS (\\Sent \"\xff\"))",
+        r#"[Owned("\\Sent"), Owned("�")]"#,
+    ),
+    (b"INTERNALDATE \"d\")", r#"[Owned("d")]"#),
 ];
 
 // Whether the texts of what was read are told so.
@@ -240,6 +266,14 @@ fn owned_line_has(alloc: Global, line: &[u8], want: &str) -> bool {
     has_texts(alloc, owned(alloc, Response::parse(alloc, line)), want)
 }
 
+// The same of an attribute that is made owned.
+fn owned_attribute_has(alloc: Global, i: &[u8], want: &str) -> bool {
+    match attribute_alone(alloc, i) {
+        Ok(value) => has_texts(alloc, Ok((NOTHING, value)), want),
+        Err(_) => false,
+    }
+}
+
 #[test]
 fn lent_and_owned(rt: HostRuntime) {
     let alloc = rt.alloc();
@@ -253,6 +287,9 @@ fn made_owned(rt: HostRuntime) {
     let alloc = rt.alloc();
     for (line, want) in OWNED_LINES {
         assert_row(&rt, owned_line_has(alloc, line, want), want);
+    }
+    for (i, want) in OWNED_ATTRIBUTES {
+        assert_row(&rt, owned_attribute_has(alloc, i, want), want);
     }
 }
 

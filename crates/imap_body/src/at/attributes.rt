@@ -18,8 +18,8 @@ use imap_bytes::strings::as_utf8;
 use imap_bytes::{Err, Needed, first, maybe};
 use imap_envelopes::Keep;
 use imap_envelopes::at::envelopes::envelope;
-use imap_envelopes::at::texts::{byte_string, spaced_byte_string, string_text};
-use imap_envelopes::kept::kept_bytes;
+use imap_envelopes::at::texts::{byte_string, nstring_text, spaced_byte_string, string_text};
+use imap_envelopes::kept::{kept_bytes, kept_text};
 use imap_grammar::scanning::{Class, run_end};
 use imap_items::at::{gmail_msgid, gmail_thrid};
 use imap_sections::at::sections::section;
@@ -394,6 +394,21 @@ fn msg_att_thread_id<K: KeepAttribute>(keep: &K, m: &[u8], p: usize) -> Answer<K
     Ok((p, AttributeParts::ThreadId(Some(id))))
 }
 
+#[tactic(auto, unfolding(crate::specs::Attributes::msg_att_save_date))]
+fn msg_att_save_date<K: KeepAttribute>(keep: &K, m: &[u8], p: usize) -> Answer<K>
+    requires start { p ≤ length m.now }
+    requires serves { K.serves keep.now m.now }
+    ensures steps { StepsAt rules.msg_att_save_date
+        (parts_said K.text_said K.bytes_said (named_in m.now)) m.now p result }
+    ensures ahead { Ahead m.now p result }
+    ensures rests { RestsOn (parts_said K.text_said K.bytes_said) result }
+{
+    let (p, _) = word(b"SAVEDATE ", m, p)?;
+    let (p, date) = nstring_text(m, p)?;
+    let date = kept_text(keep, m, date)?;
+    Ok((p, AttributeParts::SaveDate(date)))
+}
+
 // Any byte but `)`.
 struct InsideChar;
 
@@ -573,6 +588,20 @@ fn attribute_of_r<K: KeepAttribute>(keep: &K, m: &[u8], p: usize) -> Answer<K>
     msg_att_unknown::<K>(m, p)
 }
 
+#[tactic(auto, unfolding(crate::specs::Attributes::attribute_of_s))]
+#[inline(never)]
+fn attribute_of_s<K: KeepAttribute>(keep: &K, m: &[u8], p: usize) -> Answer<K>
+    requires start { p ≤ length m.now }
+    requires serves { K.serves keep.now m.now }
+    ensures steps { StepsAt rules.attribute_of_s
+        (parts_said K.text_said K.bytes_said (named_in m.now)) m.now p result }
+    ensures ahead { Ahead m.now p result }
+    ensures rests { RestsOn (parts_said K.text_said K.bytes_said) result }
+{
+    first!(msg_att_save_date(keep, m, p));
+    msg_att_unknown::<K>(m, p)
+}
+
 #[tactic(auto, unfolding(crate::specs::Attributes::attribute_of_t))]
 #[inline(never)]
 fn attribute_of_t<K: KeepAttribute>(keep: &K, m: &[u8], p: usize) -> Answer<K>
@@ -621,7 +650,7 @@ fn attribute_of_x<K: KeepAttribute>(keep: &K, alloc: Global, m: &[u8], p: usize)
 ///
 /// It takes memory for lists, envelopes and body structures, and, where values are kept of its strings, for texts that
 /// are not UTF-8.
-#[tactic(auto, using(crate::proofs::AttributeFirstBytes::attribute_none, crate::proofs::AttributeFirstBytes::attribute_is_of_b, crate::proofs::AttributeFirstBytes::attribute_is_of_e, crate::proofs::AttributeFirstBytes::attribute_is_of_f, crate::proofs::AttributeFirstBytes::attribute_is_of_i, crate::proofs::AttributeFirstBytes::attribute_is_of_m, crate::proofs::AttributeFirstBytes::attribute_is_of_r, crate::proofs::AttributeFirstBytes::attribute_is_of_t, crate::proofs::AttributeFirstBytes::attribute_is_of_u, crate::proofs::AttributeFirstBytes::attribute_is_of_x, crate::proofs::AttributeFirstBytes::attribute_other))]
+#[tactic(auto, using(crate::proofs::AttributeFirstBytes::arms))]
 pub(crate) fn attribute<K: KeepAttribute>(keep: &K, alloc: Global, m: &[u8], p: usize) -> Answer<K>
     requires start { p ≤ length m.now }
     requires serves { K.serves keep.now m.now }
@@ -639,6 +668,7 @@ pub(crate) fn attribute<K: KeepAttribute>(keep: &K, alloc: Global, m: &[u8], p: 
         Some(b'i' | b'I') => attribute_of_i(keep, m, p),
         Some(b'm' | b'M') => attribute_of_m::<K>(m, p),
         Some(b'r' | b'R') => attribute_of_r(keep, m, p),
+        Some(b's' | b'S') => attribute_of_s(keep, m, p),
         Some(b't' | b'T') => attribute_of_t(keep, m, p),
         Some(b'u' | b'U') => attribute_of_u::<K>(m, p),
         Some(b'x' | b'X') => attribute_of_x(keep, alloc, m, p),

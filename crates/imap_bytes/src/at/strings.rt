@@ -9,6 +9,7 @@ ghost use Rattle.imap_grammar.specs.Rule.{run0, run1, opt};
 ghost use Rattle.imap_grammar.specs.Ascii.{quote};
 ghost use Rattle.imap_grammar.specs.Classes as classes;
 ghost use Rattle.imap_bytes.specs.Strings as strings;
+ghost use Rattle.imap_bytes.specs.Places.{IsRunPlace, IsQuotedPlace, IsLiteralPlace, IsStringPlace, IsAstringPlace, IsNstringPlace};
 
 use crate::at::numbers::number;
 use crate::strings::as_utf8;
@@ -57,6 +58,7 @@ fn quoted_content(m: &[u8], p: usize) -> Reached<Span>
     requires { p ≤ length m.now }
     ensures steps { StepsExactlyAt strings.quoted_content (named_in m.now) m.now p result }
     ensures inside { Inside m.now p result }
+    ensures place { IfOk result (IsRunPlace p) }
     ensures no_failure { NeverFails result }
 {
     let mut q = p;
@@ -85,6 +87,7 @@ pub fn quoted(m: &[u8], p: usize) -> Reached<Span>
     ensures steps { StepsExactlyAt strings.quoted (named_in m.now) m.now p result }
     ensures answer { AnswersAt strings.quoted (named_in m.now) m.now p result }
     ensures inside { Inside m.now p result }
+    ensures place { IfOk result (IsQuotedPlace p) }
     ensures no_failure { NeverFails result }
 {
     let (p, _) = tag(b"\"", m, p)?;
@@ -113,6 +116,7 @@ fn counted(count: usize, m: &[u8], p: usize) -> Reached<Span>
     requires { p ≤ length m.now }
     ensures steps { ExactlyAt (named_in m.now) m.now result (take_step count (drop p m.now)) }
     ensures inside { Inside m.now p result }
+    ensures place { IfOk result IsLiteralPlace }
     ensures no_failure { NeverFails result }
 {
     let left = m.len() - p;
@@ -134,6 +138,7 @@ pub fn literal(m: &[u8], p: usize) -> Reached<Span>
     ensures steps { StepsExactlyAt strings.literal (named_in m.now) m.now p result }
     ensures answer { AnswersAt strings.literal (named_in m.now) m.now p result }
     ensures inside { Inside m.now p result }
+    ensures place { IfOk result IsLiteralPlace }
     ensures no_failure { NeverFails result }
 {
     let (p, count) = literal_header(m, p)?;
@@ -157,6 +162,7 @@ fn plain_string(m: &[u8], p: usize) -> Option<(usize, Span)>
     ensures steps { IfSome result (λ x.
         step strings.string (drop p m.now) ≡ Ok (drop x.0 m.now, named_in m.now x.1)) }
     ensures inside { IfSome result (λ x. Lies p x.1 x.0 × (x.0 ≤ length m.now)) }
+    ensures place { IfSome result (IsStringPlace m.now p) }
 {
     if !quote_follows(m, p) {
         return None;
@@ -174,6 +180,7 @@ fn any_string(m: &[u8], p: usize) -> Reached<Span>
     requires { p ≤ length m.now }
     ensures steps { StepsExactlyAt strings.string (named_in m.now) m.now p result }
     ensures inside { Inside m.now p result }
+    ensures place { IfOk result (IsStringPlace m.now p) }
     ensures no_failure { NeverFails result }
 {
     if quote_follows(m, p) {
@@ -193,6 +200,7 @@ pub fn string(m: &[u8], p: usize) -> Reached<Span>
     ensures steps { StepsExactlyAt strings.string (named_in m.now) m.now p result }
     ensures answer { AnswersAt strings.string (named_in m.now) m.now p result }
     ensures inside { Inside m.now p result }
+    ensures place { IfOk result (IsStringPlace m.now p) }
     ensures no_failure { NeverFails result }
 {
     match plain_string(m, p) {
@@ -204,10 +212,12 @@ pub fn string(m: &[u8], p: usize) -> Reached<Span>
 /// At least one astring-char (RFC 3501, section 9: ASTRING-CHAR). No memory.
 ///
 /// None in front is `Error`.
+#[tactic(auto, using(crate::proofs::Places::run1_place))]
 pub fn astring_chars(m: &[u8], p: usize) -> Reached<Span>
     requires { p ≤ length m.now }
     ensures steps { StepsExactlyAt (run1 classes.is_astring_char) (named_in m.now) m.now p result }
     ensures inside { Inside m.now p result }
+    ensures place { IfOk result (IsRunPlace p) }
     ensures no_failure { NeverFails result }
 {
     let (_, i) = m.split_at(p);
@@ -223,6 +233,7 @@ pub fn astring(m: &[u8], p: usize) -> Reached<Span>
     ensures steps { StepsExactlyAt strings.astring (named_in m.now) m.now p result }
     ensures answer { AnswersAt strings.astring (named_in m.now) m.now p result }
     ensures inside { Inside m.now p result }
+    ensures place { IfOk result (IsAstringPlace m.now p) }
     ensures no_failure { NeverFails result }
 {
     first!(astring_chars(m, p));
@@ -232,12 +243,13 @@ pub fn astring(m: &[u8], p: usize) -> Reached<Span>
 /// `NIL` in any case: the three bytes, whatever follows them (RFC 3501, section 9: nil). No memory.
 ///
 /// Any other bytes are `Error`.
-#[tactic(auto, using(imap_grammar::proofs::Agreement::exact_answered_at), unfolding(crate::specs::Strings::nil))]
+#[tactic(auto, using(imap_grammar::proofs::Agreement::exact_answered_at, crate::proofs::Places::word_place), unfolding(crate::specs::Strings::nil))]
 pub fn nil(m: &[u8], p: usize) -> Reached<Span>
     requires { p ≤ length m.now }
     ensures steps { StepsExactlyAt strings.nil (named_in m.now) m.now p result }
     ensures answer { AnswersAt strings.nil (named_in m.now) m.now p result }
     ensures inside { Inside m.now p result }
+    ensures place { IfOk result (IsRunPlace p) }
     ensures no_failure { NeverFails result }
 {
     word(b"NIL", m, p)
@@ -254,6 +266,7 @@ pub fn nstring(m: &[u8], p: usize) -> Reached<Option<Span>>
     ensures answer { AnswersAt strings.nstring (maybe_in m.now) m.now p result }
     ensures ahead { Ahead m.now p result }
     ensures inside { MaybeInside p result }
+    ensures place { IfOk result (IsNstringPlace m.now p) }
     ensures no_failure { NeverFails result }
 {
     if let Some((q, content)) = plain_string(m, p) {
@@ -265,10 +278,12 @@ pub fn nstring(m: &[u8], p: usize) -> Reached<Option<Span>>
 }
 
 /// Atom-chars, maybe none (RFC 3501, section 9: ATOM-CHAR). No memory.
+#[tactic(auto, using(crate::proofs::Places::run0_place))]
 pub fn atom_chars0(m: &[u8], p: usize) -> Reached<Span>
     requires { p ≤ length m.now }
     ensures steps { StepsExactlyAt (run0 classes.is_atom_char) (named_in m.now) m.now p result }
     ensures inside { Inside m.now p result }
+    ensures place { IfOk result (IsRunPlace p) }
     ensures no_failure { NeverFails result }
 {
     let (_, i) = m.split_at(p);
@@ -276,10 +291,12 @@ pub fn atom_chars0(m: &[u8], p: usize) -> Reached<Span>
 }
 
 // At least one atom-char (RFC 3501, section 9: ATOM-CHAR).
+#[tactic(auto, using(crate::proofs::Places::run1_place))]
 fn atom_chars(m: &[u8], p: usize) -> Reached<Span>
     requires { p ≤ length m.now }
     ensures steps { StepsExactlyAt (run1 classes.is_atom_char) (named_in m.now) m.now p result }
     ensures inside { Inside m.now p result }
+    ensures place { IfOk result (IsRunPlace p) }
     ensures no_failure { NeverFails result }
 {
     let (_, i) = m.split_at(p);
@@ -293,6 +310,7 @@ pub(crate) fn atom_text(m: &[u8], p: usize) -> Reached<(Span, &str)>
     ensures span { StepsExactlyAt strings.atom (λ x. named_in m.now x.0) m.now p result }
     ensures text { StepsExactlyAt strings.atom (λ x. x.1.now) m.now p result }
     ensures inside { IfOk result (λ x. Lies p x.1.0 x.0 × (x.0 ≤ length m.now)) }
+    ensures place { IfOk result (λ x. IsRunPlace p (x.0, x.1.0)) }
     ensures no_failure { NeverFails result }
 {
     let (q, content) = atom_chars(m, p)?;
@@ -309,6 +327,7 @@ pub fn atom(m: &[u8], p: usize) -> Reached<Span>
     ensures steps { StepsExactlyAt strings.atom (named_in m.now) m.now p result }
     ensures answer { AnswersAt strings.atom (named_in m.now) m.now p result }
     ensures inside { Inside m.now p result }
+    ensures place { IfOk result (IsRunPlace p) }
     ensures no_failure { NeverFails result }
 {
     let (q, (content, _)) = atom_text(m, p)?;

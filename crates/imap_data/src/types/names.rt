@@ -1,8 +1,9 @@
 //! Attributes of mailbox names, and the data of LIST.
 
-ghost use Rattle.std.specs.Prelude.{◌≡◌, IfOk, IsOk};
+ghost use Rattle.std.specs.Prelude.{◌≡◌, [], IfOk, IfSome, IsOk};
 ghost use Rattle.std.specs.Option.{option_map};
-ghost use Rattle.imap_grammar.specs.Text.{text_of};
+ghost use Rattle.imap_grammar.specs.Text.{text_of, IsOwned};
+ghost use Rattle.imap_items.specs.Copies.{IsLent};
 ghost use Rattle.imap_data.specs.Names.{NameAttributeValue, attribute_value, list_value, IsLentAttribute};
 ghost use Rattle.imap_data.specs.Owned.{owned_attribute, owned_list, IsOwnedAttribute};
 
@@ -125,7 +126,8 @@ impl<'a> IntoOwned for NameAttribute<'a> {
 }
 
 fn copied_delimiter<'a>(delimiter: &Option<CowStr<'a>>) -> Result<Option<CowStr<'a>>, AllocError>
-    ensures { IfOk result (λ t. option_map text_of t ≡ option_map text_of delimiter.now) }
+    ensures same { IfOk result (λ t. option_map text_of t ≡ option_map text_of delimiter.now) }
+    ensures memory { IfSome (option_map text_of delimiter.now) IsLent → IsOk result }
 {
     Ok(match delimiter {
         None => None,
@@ -134,9 +136,13 @@ fn copied_delimiter<'a>(delimiter: &Option<CowStr<'a>>) -> Result<Option<CowStr<
 }
 
 impl<'a> MailboxListData<'a> {
-    /// A copy. It takes memory for the attributes and for owned texts; `Err`: memory ran out.
+    /// A copy. It takes memory for the attributes, if there are any, and for owned texts; `Err`: memory ran out.
     pub fn clone(&self) -> Result<Self, AllocError>
-        ensures { IfOk result (λ c. list_value c ≡ list_value self.now) }
+        ensures same { IfOk result (λ c. list_value c ≡ list_value self.now) }
+        ensures memory { self.now.name_attributes.items ≡ []
+            → IfSome (option_map text_of self.now.delimiter) IsLent
+            → IsLent (text_of self.now.name)
+            → IsOk result }
     {
         Ok(MailboxListData {
             name_attributes: each_copied(&self.name_attributes)?,
@@ -145,10 +151,14 @@ impl<'a> MailboxListData<'a> {
         })
     }
 
-    /// The same data with all texts owned. It takes memory for the attributes, and for borrowed texts; `Err`: memory
-    /// ran out.
+    /// The same data with all texts owned. It takes memory for the attributes, if there are any, and for borrowed texts;
+    /// `Err`: memory ran out.
     pub fn into_owned(self, alloc: Global) -> Result<MailboxListData<'static>, AllocError>
-        ensures { IfOk result (λ l. list_value l ≡ owned_list (list_value self.entry)) }
+        ensures same { IfOk result (λ l. list_value l ≡ owned_list (list_value self.entry)) }
+        ensures memory { self.entry.name_attributes.items ≡ []
+            → IfSome (option_map text_of self.entry.delimiter) IsOwned
+            → IsOwned (text_of self.entry.name)
+            → IsOk result }
     {
         Ok(MailboxListData {
             name_attributes: each_owned(alloc, self.name_attributes)?,

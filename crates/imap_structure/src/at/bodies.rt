@@ -1,6 +1,7 @@
 //! Structures of bodies at a position.
 
-ghost use Rattle.std.specs.Prelude.{◌≡◌, ◌≤◌, List, [], ◌∷◌, ◌++◌, IfOk, length, drop, map};
+ghost use Rattle.std.specs.Prelude.{◌≡◌, ◌≤◌, ◌<◌, List, [], ◌∷◌, ◌++◌, IfOk, length, drop, map};
+ghost use Rattle.imap_grammar.specs.Memory.{FailsOnlyIf};
 ghost use Rattle.imap_grammar.specs.Positions.{Ahead, named_in, StepsAt, StepsExactlyAt};
 ghost use Rattle.imap_envelopes.specs.Envelopes as envelopes;
 ghost use Rattle.imap_envelopes.specs.Envelopes.{spaced};
@@ -187,6 +188,7 @@ pub fn body<K: Keep>(
         m.now p others.old.items others.new.items result }
     ensures leaves { Leaves others.old.items others.new.items result }
     ensures ahead { Reaches m.now p result }
+    ensures memory { FailsOnlyIf (0 < level) result }
 {
     if level == 0 {
         return Err(Err::Error);

@@ -1,8 +1,9 @@
 //! Extension data of bodies at a position.
 
-ghost use Rattle.std.specs.Prelude.{◌≡◌, ◌≤◌, length, map, IfOk};
+ghost use Rattle.std.specs.Prelude.{◌≡◌, ◌≤◌, ◌<◌, length, map, IfOk};
 ghost use Rattle.imap_grammar.specs.Text.{Text};
 ghost use Rattle.std.specs.Option.{option_map};
+ghost use Rattle.imap_grammar.specs.Memory.{FailsOnlyIf};
 ghost use Rattle.imap_grammar.specs.Positions.{Ahead, named_in, StepsAt, StepsExactlyAt};
 ghost use Rattle.imap_bytes.specs.Texts as texts;
 ghost use Rattle.imap_envelopes.specs.Envelopes.{spaced};
@@ -225,6 +226,7 @@ fn extension_list<K: Keep>(
         (extension_seen (K.text_said (named_in m.now))) m.now p result }
     ensures ahead { Ahead m.now p result }
     ensures rests { RestsOn (λ n. extension_seen (K.text_said n)) result }
+    ensures memory { FailsOnlyIf (0 < level) result }
 {
     if level == 0 {
         return Err(Err::Error);

@@ -1,8 +1,9 @@
 use Rattle.std.proofs.Common.{refl, arith, subst}
 use Rattle.imap_grammar.proofs.Memory.{holds_already, begins_tag}
+use Rattle.imap_bytes.proofs.Places.{behind_byte}
 use Rattle.imap_body.specs.Attributes.{attribute_list}
 use Rattle.imap_body.specs.SpannedAttributes.{TurnsAt}
-use Rattle.imap_body.proofs.Standing.{behind_byte, in_turn_later}
+use Rattle.imap_body.proofs.Standing.{in_turn_later}
 use Rattle.imap_body.proofs.keeping.kept_list.Goals as goal
 
 pub returns-clause-kept : goal.returns-clause-kept

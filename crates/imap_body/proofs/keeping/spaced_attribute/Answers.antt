@@ -1,6 +1,6 @@
 use Rattle.std.proofs.Common.{IfOk, subst}
+use Rattle.imap_bytes.proofs.Places.{behind_byte}
 use Rattle.imap_body.specs.SpannedAttributes.{EndsAt}
-use Rattle.imap_body.proofs.Standing.{behind_byte}
 use Rattle.imap_body.proofs.keeping.spaced_attribute.Goals as goal
 
 pub returns-clause-stands : goal.returns-clause-stands

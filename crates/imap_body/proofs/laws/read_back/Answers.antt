@@ -111,6 +111,9 @@ returns-clause-msg_att_email_id c = attribute_texts.keeps_email_id
 pub returns-clause-msg_att_thread_id : goal.returns-clause-msg_att_thread_id
 returns-clause-msg_att_thread_id c = attribute_texts.keeps_thread_id
 
+pub returns-clause-msg_att_save_date : goal.returns-clause-msg_att_save_date
+returns-clause-msg_att_save_date c = attribute_texts.keeps_save_date
+
 pub returns-clause-msg_att_unknown : goal.returns-clause-msg_att_unknown
 returns-clause-msg_att_unknown c = attribute_texts.keeps_unknown
 

@@ -10,6 +10,14 @@ pub returns-clause-texts : goal.returns-clause-texts
 unfolding digits
 returns-clause-texts c = refl
 
+pub returns-clause-a_save_date : goal.returns-clause-a_save_date
+unfolding digits
+returns-clause-a_save_date c = refl
+
+pub returns-clause-no_save_date : goal.returns-clause-no_save_date
+unfolding digits
+returns-clause-no_save_date c = refl
+
 pub returns-clause-a_section : goal.returns-clause-a_section
 unfolding digits
 returns-clause-a_section c = refl

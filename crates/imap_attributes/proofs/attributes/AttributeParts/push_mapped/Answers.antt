@@ -50,5 +50,8 @@ returns-in-Ok-made-9 g c = put_behind _ _ _ _ _ _ c.in_ok-reserve.ensures.items 
 pub returns-in-Ok-made-10 : goal.returns-in-Ok-made-10
 returns-in-Ok-made-10 g c = put_behind _ _ _ _ _ _ c.in_ok-reserve.ensures.items c.push_reserved-in-ThreadId.ensures.items (rw (c.in-ThreadId.is, c.in-Ok-made-10.ensures.changed) refl)
 
+pub returns-in-Ok-made-11 : goal.returns-in-Ok-made-11
+returns-in-Ok-made-11 g c = put_behind _ _ _ _ _ _ c.in_ok-reserve.ensures.items c.push_reserved-in-SaveDate.ensures.items (rw (c.in-SaveDate.is, c.in-Ok-made-11.ensures.changed) refl)
+
 pub returns-in-Unknown : goal.returns-in-Unknown
 returns-in-Unknown g c = put_behind _ _ _ _ _ _ c.in_ok-reserve.ensures.items c.push_reserved-in-Unknown.ensures.items (rw c.in-Unknown.is refl)

@@ -50,5 +50,8 @@ returns-in-EmailId g c f h k = put_behind _ _ _ _ _ _ c.in_ok-reserve.ensures.it
 pub returns-in-ThreadId : goal.returns-in-ThreadId
 returns-in-ThreadId g c f h k = put_behind _ _ _ _ _ _ c.in_ok-reserve.ensures.items c.push_reserved-in-ThreadId.ensures.items (rw c.in-ThreadId.is refl)
 
+pub returns-in-SaveDate : goal.returns-in-SaveDate
+returns-in-SaveDate g c f h k = put_behind _ _ _ _ _ _ c.in_ok-reserve.ensures.items c.push_reserved-in-SaveDate.ensures.items (rw c.in-SaveDate.is refl)
+
 pub returns-in-Unknown : goal.returns-in-Unknown
 returns-in-Unknown g c f h k = put_behind _ _ _ _ _ _ c.in_ok-reserve.ensures.items c.push_reserved-in-Unknown.ensures.items (rw c.in-Unknown.is refl)

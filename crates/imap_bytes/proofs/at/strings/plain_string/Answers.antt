@@ -11,3 +11,6 @@ returns-clause-steps c =
     let back = c.split_at.ensures.back in
     let within : p + 1 + n < length m = omega (arith, ap length back, c.in_ok-n.ensures.within, length-drop (p + 1) m) in
     plain_string m p (p + 1 + n) within (sym c.quote_follows.ensures ∙ c.if-not-quote_follows.false) (rw (← drop-drop n (p + 1) m, ← back) c.in_ok-n.ensures.closed) n refl (sym (rw back at c.in_ok-n.ensures.at))
+
+pub returns-clause-place : goal.returns-clause-place
+returns-clause-place c = rw (sym c.quote_follows.ensures ∙ c.if-not-quote_follows.false) (refl, refl)

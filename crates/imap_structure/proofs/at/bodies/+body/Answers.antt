@@ -4,12 +4,13 @@ use Rattle.std.proofs.Math.Nat.{le_trans}
 use Rattle.std.proofs.lemmas.Result.{err_from_is_err_and}
 use Rattle.imap_grammar.proofs.Agreement.{stops, stops_with}
 use Rattle.imap_grammar.specs.Rule.{◌or◌}
+use Rattle.imap_grammar.proofs.Memory.{holds_already}
 use Rattle.imap_structure.specs.Bodies.{body, bracketed_body, quoted_type, body_type_text, body_type_basic, body_type_msg, body_type_mpart, some_bodies}
 use Rattle.imap_shapes.specs.BodyValues.{body_seen}
 use Rattle.imap_envelopes.proofs.Keeping.{kept_rests}
 use Rattle.imap_structure.proofs.Reading.{message_rests, multipart_rests, message_reads, multipart_reads, boxed_rests, unboxed_rests}
 use Rattle.imap_structure.proofs.FirstBytes.{type_none, type_is_quoted, type_is_literal, type_is_mpart, type_other}
-use Rattle.imap_structure.proofs.Levels.{body_below, body_takes}
+use Rattle.imap_structure.proofs.Levels.{body_below, body_takes, above_none}
 use Rattle.imap_structure.proofs.Choosing.{put_first, put_second}
 use Rattle.imap_envelopes.proofs.Gathering.{first, next, all, halted, onward}
 use Rattle.imap_grammar.specs.Positions.{named_in}
@@ -22,6 +23,12 @@ body-returns-then-level-eq0-clause-puts g t c = rw c.if-level-eq0.true refl
 
 pub body-returns-clause-puts : goal.body-returns-clause-puts
 body-returns-clause-puts g t c = rw (body_below c.args.level (drop c.args.p c.args.m.now) c.if-level-eq0.false) c.bracketed_body.ensures.puts
+
+pub body-returns-then-level-eq0-clause-memory : goal.body-returns-then-level-eq0-clause-memory
+body-returns-then-level-eq0-clause-memory g t c = λ q. absurd cc
+
+pub body-returns-clause-memory : goal.body-returns-clause-memory
+body-returns-clause-memory g t c = holds_already _ _ (above_none c.args.level c.if-level-eq0.false)
 
 pub bracketed_body-returns-in_err-p-clause-puts : goal.bracketed_body-returns-in_err-p-clause-puts
 unfolding bracketed_body

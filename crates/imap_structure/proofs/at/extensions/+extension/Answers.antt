@@ -3,12 +3,13 @@ use Rattle.std.proofs.Math.Nat.{le_trans}
 use Rattle.std.proofs.lemmas.Result.{err_from_is_err_and}
 use Rattle.imap_grammar.specs.Positions.{named_in, GivesAt}
 use Rattle.imap_envelopes.specs.Envelopes.{spaced}
+use Rattle.imap_grammar.proofs.Memory.{holds_already}
 use Rattle.imap_structure.specs.Extensions.{extension_over, some_extensions, extension_list}
 use Rattle.imap_shapes.specs.ExtensionValues.{extension_seen}
 use Rattle.imap_grammar.proofs.Agreement.{exactly_gives_at}
 use Rattle.imap_grammar.proofs.Joins.{tried_some, tried_none, tried_fault}
 use Rattle.imap_structure.proofs.Seeing.{list_rests}
-use Rattle.imap_structure.proofs.Levels.{list_below}
+use Rattle.imap_structure.proofs.Levels.{list_below, above_none}
 use Rattle.imap_structure.proofs.FirstBytes.{extension_none, extension_is_string, extension_is_list, extension_is_number, extension_other}
 use Rattle.imap_envelopes.proofs.Gathering.{first, next, all, halted, onward}
 use Rattle.imap_shapes.proofs.Places.{rests_more, alone, together}
@@ -88,3 +89,9 @@ extension-returns-in-Some-clause-steps g t c =
 pub extension-returns-in-Some-2-clause-steps : goal.extension-returns-in-Some-2-clause-steps
 extension-returns-in-Some-2-clause-steps g t c =
     extension_other c.args.level (drop c.args.p c.args.m.now) (search rules) (search rules) (search rules)
+
+pub extension_list-returns-then-level-eq0-clause-memory : goal.extension_list-returns-then-level-eq0-clause-memory
+extension_list-returns-then-level-eq0-clause-memory g t c = λ q. absurd cc
+
+pub extension_list-returns-clause-memory : goal.extension_list-returns-clause-memory
+extension_list-returns-clause-memory g t c = holds_already _ _ (above_none c.args.level c.if-level-eq0.false)

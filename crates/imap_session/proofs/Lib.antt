@@ -1,0 +1,4 @@
+pub mod Runs
+pub mod Fronts
+pub mod Answers
+pub mod Equality
