@@ -13,6 +13,7 @@ REFUSED = "refused "
 UNDER = {
     "imap_attributes::Parts::push_unboxed": "imap_body::attribute",
     "imap_attributes::AttributeSpans::value": "imap_body::SpannedAttribute::value",
+    "imap_body::attribute_values_at": "imap_body::attribute_list",
     "imap_envelopes::at::envelope": "imap_envelopes::envelope",
     "imap_envelopes::at::list_of_one": "imap_envelopes::envelope",
     "imap_envelopes::kept_text": "imap_structure::body_fields",

@@ -5,7 +5,7 @@
 
 pub mod attributes;
 
-pub use attributes::{attribute, attribute_list};
+pub use attributes::{attribute, attribute_list, attribute_values_at};
 pub use imap_envelopes::readers::{address, envelope};
 pub use imap_sections::readers::sections;
 pub use imap_structure::readers::{

@@ -1,4 +1,5 @@
 pub mod Memory
+pub mod MappedNil
 pub mod Lacking
 pub mod Digits
 pub mod StringStarts

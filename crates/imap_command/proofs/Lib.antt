@@ -1,3 +1,5 @@
+pub mod Names
+pub mod Lists
 pub mod NextStates
 pub mod Runs
 pub mod Reader
@@ -5,3 +7,7 @@ pub mod ReadBack
 pub mod ToldApart
 pub mod OneLine
 pub mod Refusals
+pub mod WordBytes
+pub mod OtherLine
+pub mod ShownApart
+pub mod OtherApart

@@ -21,11 +21,11 @@ option_or-assoc : (o p q : Option BuildError) → option_or o (option_or p q) �
 option_or-assoc None p q = refl
 option_or-assoc (Some refused) p q = refl
 
-option_or-none : (o : Option BuildError) → option_or o None ≡ o
+pub option_or-none : (o : Option BuildError) → option_or o None ≡ o
 option_or-none None = refl
 option_or-none (Some refused) = refl
 
-refusal-append : (a b : List ℕ) → refusal (a ++ b) ≡ option_or (refusal a) (refusal b)
+pub refusal-append : (a b : List ℕ) → refusal (a ++ b) ≡ option_or (refusal a) (refusal b)
 refusal-append [] b = refl
 refusal-append (byte ∷ a) b =
     ap (option_or (refused_byte byte)) (refusal-append a b) ∙ option_or-assoc (refused_byte byte) (refusal a) (refusal b)
@@ -38,12 +38,12 @@ refusal-escaped_byte byte =
       | false ↦ option_or-none (refused_byte byte)
     ]
 
-refusal-escaped : (text : List ℕ) → refusal (flat_map escaped_byte text) ≡ refusal text
+pub refusal-escaped : (text : List ℕ) → refusal (flat_map escaped_byte text) ≡ refusal text
 refusal-escaped [] = refl
 refusal-escaped (byte ∷ text) = simp (refusal-append, refusal-escaped_byte, refusal-escaped text)
 
 -- numbers
-refused_byte-digit_glyph : (d : ℕ) → refused_byte (digit_glyph false d) ≡ None
+pub refused_byte-digit_glyph : (d : ℕ) → refused_byte (digit_glyph false d) ≡ None
 refused_byte-digit_glyph d = grind (arith, nat_tests)
 
 refusal-digits_onto : (k n : ℕ) (text : List ℕ) → refusal text ≡ None → refusal (digits_onto k 10 false n text) ≡ None
@@ -56,7 +56,7 @@ refusal-digits_onto (suc k) n text h =
       | false ↦ refusal-digits_onto k (n / 10) (glyph ∷ text) more
     ]
 
-refusal-decimal : (n : ℕ) → refusal (decimal n) ≡ None
+pub refusal-decimal : (n : ℕ) → refusal (decimal n) ≡ None
 unfolding digits
 refusal-decimal n = refusal-digits_onto 64 n [] refl
 
@@ -106,7 +106,7 @@ unrefused_text : (calls : List Call) → All Unrefused calls → refusal (told c
 unrefused_text calls h = simp (refusal-append, refusal-begun calls h, refusal-closing)
 
 -- a byte that is not refused stays in the line, and so does each of a text that is not
-both_none : (o p : Option BuildError) → option_or o p ≡ None → (o ≡ None) × (p ≡ None)
+pub both_none : (o p : Option BuildError) → option_or o p ≡ None → (o ≡ None) × (p ≡ None)
 both_none None p h = (refl, h)
 both_none (Some refused) p h = cc
 
@@ -117,7 +117,7 @@ stays byte h = (
   λ e. let k : refused_byte 0 ≡ None = subst (λ b. refused_byte b ≡ None) e h in cc,
 )
 
-all_stay : (text : List ℕ) → refusal text ≡ None → All StaysInLine text
+pub all_stay : (text : List ℕ) → refusal text ≡ None → All StaysInLine text
 all_stay [] h = All-nil StaysInLine
 all_stay (byte ∷ text) h =
     let both = both_none (refused_byte byte) (refusal text) h in

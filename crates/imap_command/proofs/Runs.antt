@@ -8,7 +8,7 @@ use Rattle.std.proofs.lemmas.Bool.{lt-ltb}
 use Rattle.std.proofs.lemmas.Fmt.{decimal_is_IsNumeral}
 use Rattle.imap_command.specs.Arguments.{quoted, escaped_byte}
 
-both : (a b : Bool) → (a && b) ≡ true → (a ≡ true) × (b ≡ true)
+pub both : (a b : Bool) → (a && b) ≡ true → (a ≡ true) × (b ≡ true)
 both true b h = (refl, h)
 both false b h = cc
 
@@ -105,7 +105,7 @@ behind_escaped (b ∷ text) rest =
     ∙ behind_escaped text rest
 
 -- a quoted text, read behind its first `"`
-opened : (text rest : List ℕ) → quoted text ++ rest ≡ 34 ∷ (flat_map escaped_byte text ++ (34 ∷ rest))
+pub opened : (text rest : List ℕ) → quoted text ++ rest ≡ 34 ∷ (flat_map escaped_byte text ++ (34 ∷ rest))
 opened text rest = ap (λ l. 34 ∷ l) (append_assoc (flat_map escaped_byte text) (34 ∷ []) rest)
 
 abbrev pub quoted_content : List ℕ → List ℕ

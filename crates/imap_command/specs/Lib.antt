@@ -4,3 +4,7 @@ pub mod Arguments
 pub mod Calls
 pub mod Apart
 pub mod OneLine
+pub mod OtherWords
+pub mod OtherCalls
+pub mod OtherLine
+pub mod OtherApart

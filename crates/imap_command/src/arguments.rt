@@ -52,7 +52,7 @@ fn refused(byte: u8) -> Option<BuildError>
 }
 
 // Refuses an argument that a quoted string can't hold, and names its first such byte.
-fn judge(argument: &str) -> Result<(), BuildError>
+pub(crate) fn judge(argument: &str) -> Result<(), BuildError>
     ensures { result ≡ judgement (refusal argument.now) }
 {
     for byte in argument.as_bytes() {
@@ -64,7 +64,7 @@ fn judge(argument: &str) -> Result<(), BuildError>
 }
 
 // Adds the argument as a quoted string (RFC 3501, section 9: quoted).
-fn push_quoted(out: &mut Vec<u8>, argument: &str) -> Result<(), AllocError>
+pub(crate) fn push_quoted(out: &mut Vec<u8>, argument: &str) -> Result<(), AllocError>
     ensures { OnOk result (out.new.items ≡ out.old.items ++ quoted argument.now) }
 {
     out.push(b'"')?;

@@ -1,16 +1,20 @@
 //! The calls that begin a command.
 
-ghost use Rattle.std.specs.Prelude.{◌≡◌, [], ◌∷◌, IfOk, OnOk};
+ghost use Rattle.std.specs.Prelude.{◌≡◌, [], ◌∷◌, None, IfOk, OnOk};
 ghost use Rattle.std.specs.Option.{option_or};
 ghost use Rattle.imap_command.specs.Arguments.{refusal, Judges};
 ghost use Rattle.imap_command.specs.Calls.{no_params, empty, Begins, Holds};
 ghost use Rattle.imap_command.specs.Calls as call;
 ghost use Rattle.imap_command.specs.OneLine.{Unrefused};
+ghost use Rattle.imap_command.specs.OtherCalls.{begun};
+ghost use Rattle.imap_command.specs.OtherWords.{name_refusal};
 
 use crate::arguments::{with_argument, with_arguments};
 use crate::fetch::Empty;
+use crate::judging::judge_name;
+use crate::other::Arguments;
 use crate::select::NoParams;
-use crate::{BuildError, Command, FetchCommand, SelectCommand, State};
+use crate::{BuildError, Command, FetchCommand, OtherCommand, SelectCommand, State};
 use std::alloc::{AllocError, Global};
 
 /// Begins commands. Arguments are judged in their order, before any memory is taken.
@@ -95,6 +99,20 @@ impl CommandBuilder {
             args,
             next_state: Some(State::Authenticated),
         })
+    }
+
+    /// Any other command, by its name, as `NOOP`, `UID STORE` or `X-ALIVE` (RFC 3501, section 9: command).
+    ///
+    /// `BadName`: the name isn't made of words of letters, digits, `-` and `.` with a single space between two. It takes
+    /// memory; `OutOfMemory`: memory ran out.
+    pub fn other(alloc: Global, name: &str) -> Result<OtherCommand<Arguments>, BuildError>
+        ensures judged { Judges (name_refusal name.now) result }
+        ensures begins { IfOk result (λ text. text ≡ begun name.now []) }
+        ensures unrefused { OnOk result (name_refusal name.now ≡ None) }
+    {
+        judge_name(name)?;
+        let args = Vec::from_slice(alloc, name.as_bytes())?;
+        Ok(OtherCommand::with_text(args))
     }
 
     /// SELECT of a mailbox (RFC 3501, section 6.3.1). The name is quoted, and not encoded: one

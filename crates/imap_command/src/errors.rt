@@ -19,6 +19,12 @@ pub enum BuildError {
     /// Byte 0.
     #[error("zero byte in an argument")]
     Nul,
+    /// A command's name isn't made of words of letters, digits, `-` and `.` with a single space between two.
+    #[error("not the name of a command")]
+    BadName,
+    /// A word is empty, or has a byte that isn't from 33 to 126, or `"`, `(`, `)` or `{`.
+    #[error("not a word")]
+    BadWord,
     /// Memory ran out.
     #[error("out of memory")]
     OutOfMemory,

@@ -5,6 +5,8 @@ ghost use Rattle.imap_command.specs.Apart.{CallsToldApart};
 ghost use Rattle.imap_command.specs.Arguments.{refusal};
 ghost use Rattle.imap_command.specs.Ascii.{nul, line_feed, carriage_return};
 ghost use Rattle.imap_command.specs.OneLine.{OneLine, RefusedAs, StaysInLine};
+ghost use Rattle.imap_command.specs.OtherApart.{WordsToldApart};
+ghost use Rattle.imap_command.specs.OtherLine.{LiteralEndsLine, OtherOneLine};
 
 use crate::command::State;
 use crate::errors::BuildError;
@@ -20,6 +22,21 @@ pub fn calls_told_apart()
 /// command is one line, and no argument brings in another (RFC 3501, section 9: command, quoted).
 pub fn one_line()
     ensures { OneLine }
+{}
+
+/// A command that has no builder of its own, built by calls that the types allow, is one line too: its bytes have no
+/// carriage return, line feed or zero byte. A `{` outside quoted strings, by which a server takes what follows for a
+/// literal's length, stands at the end of the line alone, and only where the last call was `literal` (RFC 3501, section
+/// 4.3).
+pub fn other_lines()
+    ensures one_line { OtherOneLine }
+    ensures literal_ends_line { LiteralEndsLine }
+{}
+
+/// Commands that have no builder of their own and have equal bytes show equal words: which words stand between the
+/// spaces, which are quoted strings and what these say, and which stand in a list.
+pub fn other_words_told_apart()
+    ensures { WordsToldApart }
 {}
 
 /// An argument without carriage return, line feed and zero byte is not refused. One that has such a byte is refused by

@@ -9,6 +9,9 @@
 //! `changed_since` none is, and `Command::from` takes no memory. `check`, `close`, `list` and `login`
 //! answer a finished command.
 //!
+//! `other` begins any other command by its name. Each later call adds an argument behind a space, and `into_command`
+//! takes the state that the command leads to, and no memory.
+//!
 //! ```rust
 //! // UID FETCH 1:10 (FLAGS)
 //! let fetch = CommandBuilder::uid_fetch(alloc)?
@@ -17,6 +20,13 @@
 //!     .into_command()?;
 //! // SELECT "INBOX"
 //! let select = Command::from(CommandBuilder::select(alloc, "INBOX")?);
+//! // UID STORE 1:5,7 +FLAGS.SILENT (\Seen)
+//! let store = CommandBuilder::other(alloc, "UID STORE")?
+//!     .range(1..=5)?
+//!     .num(7)?
+//!     .word("+FLAGS.SILENT")?
+//!     .list(&["\\Seen"])?
+//!     .into_command(None);
 //! ```
 #![tactic(auto)]
 
@@ -26,8 +36,12 @@ mod command;
 mod errors;
 pub mod fetch;
 mod fetching;
+mod judging;
 pub mod laws;
+mod listing;
 mod numbers;
+pub mod other;
+mod others;
 pub mod select;
 mod selecting;
 mod words;
@@ -36,5 +50,6 @@ pub use builder::CommandBuilder;
 pub use command::{Command, State};
 pub use errors::BuildError;
 pub use fetching::FetchCommand;
+pub use others::OtherCommand;
 pub use selecting::SelectCommand;
 pub use words::{AttrMacro, Attribute};

@@ -12,7 +12,7 @@ pub mod ListCodes
 pub mod NumberData
 pub mod Owned
 mod AnyCase
-mod Words
+mod Wants
 mod NoSpelling
 mod NoIdSpelling
 pub mod OneText

@@ -1,15 +1,17 @@
 -- Data of a mailbox (RFC 3501, section 9: mailbox-data; RFC 5256, section 5: sort-data; X-GM-EXT-1).
 use Rattle.std.specs.Prelude.{◌⊎◌, List}
-use Rattle.imap_grammar.specs.Text.{Bytes, Text}
-use Rattle.imap_grammar.specs.Memory.{BeginsWord}
+use Rattle.imap_grammar.specs.Lists.{opened}
+use Rattle.imap_grammar.specs.Text.{Bytes, Text, IsOwned}
+use Rattle.imap_grammar.specs.Memory.{BeginsWord, StartsWith, Behind}
 use Rattle.imap_grammar.specs.Rule.{Rule, gives, ◌⨾◌, ◌▹◌, ◌◃◌, ◌or◌}
 use Rattle.imap_grammar.specs.Tags.{word, sp}
 use Rattle.imap_bytes.specs.Numbers.{number}
+use Rattle.imap_bytes.specs.Texts.{astring_utf8, YieldsOwned}
 use Rattle.imap_data.specs.declared.types.counts.StatusAttribute.{StatusAttribute}
-use Rattle.imap_items.specs.Flags.{flag_list}
+use Rattle.imap_items.specs.Flags.{flag_text, flag_list}
 use Rattle.imap_items.specs.Mailboxes.{mailbox}
-use Rattle.imap_data.specs.Names.{list_data}
-use Rattle.imap_data.specs.Counts.{status_items, found_numbers}
+use Rattle.imap_data.specs.Names.{list_data, ListMayWant}
+use Rattle.imap_data.specs.Counts.{status_item, status_items, found_number, found_numbers}
 use Rattle.imap_items.specs.Gmail.{gmail_label_list, gmail_msgid, gmail_thrid}
 use Rattle.imap_data.specs.DatumValues.{DatumValue, Exists, Flags, Listed, Search, Sort, Status, Recent, GmailLabels, GmailMsgId, GmailThrId}
 
@@ -66,16 +68,32 @@ mailbox_datum =
     or thrid
     or sort
 
--- the word of data that hold a list stands in front
-abbrev pub BeginsListDatum : Bytes → Type 0
-BeginsListDatum m =
-    BeginsWord "FLAGS " m
-    ⊎ BeginsWord "LIST " m
-    ⊎ BeginsWord "LSUB " m
+-- ---- where memory may be wanted: behind a first item of a list, or at a text that is not UTF-8
+
+abbrev pub FlagsMayWant : Bytes → Type 0
+FlagsMayWant m = Behind (word "FLAGS ") (StartsWith (opened flag_text)) m
+
+abbrev pub NamesMayWant : Bytes → Type 0
+NamesMayWant m = Behind (word "LIST ") ListMayWant m ⊎ Behind (word "LSUB ") ListMayWant m
+
+abbrev pub StatusMayWant : Bytes → Type 0
+StatusMayWant m =
+    Behind (word "STATUS ") (YieldsOwned IsOwned astring_utf8) m
+    ⊎ Behind (word "STATUS " ▹ mailbox ⨾ sp) (StartsWith (opened status_item)) m
+
+abbrev pub NumbersMayWant : Bytes → Type 0
+NumbersMayWant m =
+    Behind (word "SEARCH") (StartsWith found_number) m
+    ⊎ Behind (word "SORT") (StartsWith found_number) m
+
+-- Of Gmail's labels more isn't said than that their word stands there.
+abbrev pub MailboxMayWant : Bytes → Type 0
+MailboxMayWant m =
+    FlagsMayWant m
+    ⊎ NamesMayWant m
     ⊎ BeginsWord "X-GM-LABELS " m
-    ⊎ BeginsWord "STATUS " m
-    ⊎ BeginsWord "SEARCH" m
-    ⊎ BeginsWord "SORT" m
+    ⊎ StatusMayWant m
+    ⊎ NumbersMayWant m
 
 -- ---- no further rules: those alternatives of `mailbox_datum` that may start with one byte, as the reader tries them
 

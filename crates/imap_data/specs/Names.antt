@@ -1,12 +1,13 @@
 -- Attributes of mailbox names and the data of LIST (RFC 3501, section 9: mailbox-list, mbx-list-flags,
 -- mbx-list-oflag, mbx-list-sflag; RFC 6154, section 6: use-attr).
-use Rattle.std.specs.Prelude.{List, Option, None, Some, option_map, map}
-use Rattle.imap_grammar.specs.Text.{Bytes, Text, as_text, text_of, lent_text}
+use Rattle.std.specs.Prelude.{◌⊎◌, List, Option, None, Some, option_map, map}
+use Rattle.imap_grammar.specs.Memory.{Behind, StartsWith}
+use Rattle.imap_grammar.specs.Text.{Bytes, Text, as_text, text_of, lent_text, IsOwned}
 use Rattle.imap_grammar.specs.Rule.{Rule, gives, nothing, ◌⨾◌, ◌▹◌, ◌or◌}
 use Rattle.imap_grammar.specs.Tags.{names, sp}
-use Rattle.imap_grammar.specs.Lists.{list_of}
+use Rattle.imap_grammar.specs.Lists.{list_of, opened}
 use Rattle.imap_bytes.specs.Strings.{nil}
-use Rattle.imap_bytes.specs.Texts.{quoted_utf8}
+use Rattle.imap_bytes.specs.Texts.{quoted_utf8, astring_utf8, YieldsOwned}
 use Rattle.imap_items.specs.Flags.{backslashed_text}
 use Rattle.imap_items.specs.Copies.{IsLent}
 use Rattle.imap_items.specs.Mailboxes.{mailbox}
@@ -121,3 +122,11 @@ list_of_parts (attributes, (delimiter, name)) =
 -- the quotes
 unfoldable pub list_data : Rule ListValue
 list_data = gives list_of_parts (name_attributes ⨾ sp ▹ delimiter ⨾ sp ▹ mailbox)
+
+-- ---- where its reader may want memory: behind a first attribute, or at a delimiter or a name that is not UTF-8
+
+abbrev pub ListMayWant : Bytes → Type 0
+ListMayWant m =
+    StartsWith (opened name_attribute) m
+    ⊎ Behind (name_attributes ⨾ sp) (YieldsOwned IsOwned quoted_utf8) m
+    ⊎ Behind (name_attributes ⨾ sp ▹ delimiter ⨾ sp) (YieldsOwned IsOwned astring_utf8) m

@@ -1,6 +1,7 @@
 pub mod Quotas
 pub mod Ids
 pub mod Acls
+mod AclWants
 pub mod Annotations
 pub mod QuotaTexts
 pub mod IdTexts

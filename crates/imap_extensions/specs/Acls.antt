@@ -1,13 +1,14 @@
 -- Access control lists (RFC 4314, section 7: acl-data, listrights-data, myrights-data), with any blanks between the
 -- parts.
-use Rattle.std.specs.Prelude.{List, map}
+use Rattle.std.specs.Prelude.{◌⊎◌, List, map}
 use Rattle.std.specs.List.{flat_map}
 use Rattle.imap_grammar.specs.declared.lists.Separator.TheVariants.{Blanks}
-use Rattle.imap_grammar.specs.Text.{Text, text_of, lent_text}
+use Rattle.imap_grammar.specs.Memory.{Behind, StartsWith}
+use Rattle.imap_grammar.specs.Text.{Bytes, Text, text_of, lent_text, IsOwned}
 use Rattle.imap_grammar.specs.Rule.{Rule, gives, list0, ◌⨾◌, ◌▹◌}
 use Rattle.imap_grammar.specs.Tags.{word, blanks0, blanks1}
 use Rattle.imap_grammar.specs.Lists.{separator}
-use Rattle.imap_bytes.specs.Texts.{astring_utf8}
+use Rattle.imap_bytes.specs.Texts.{astring_utf8, YieldsOwned}
 use Rattle.imap_items.specs.Mailboxes.{mailbox}
 use Rattle.imap_items.specs.Rights.{rights}
 use Rattle.imap_items.specs.declared.types.rights.AclRight.{AclRight}
@@ -53,6 +54,12 @@ acl_of (mailbox, acls) = record { mailbox = mailbox; acls = acls }
 -- acl-data = "ACL" SP mailbox *(SP identifier SP rights), where no blank need stand behind the mailbox
 unfoldable pub acl : Rule AclValue
 acl = gives acl_of (word "ACL" ▹ blanks1 ▹ mailbox ⨾ blanks0 ▹ acl_entries)
+
+-- its reader may want memory at a mailbox that is not UTF-8, and where the identifier of an entry stands
+abbrev pub AclMayWant : Bytes → Type 0
+AclMayWant m =
+    Behind (word "ACL" ▹ blanks1) (YieldsOwned IsOwned astring_utf8) m
+    ⊎ Behind (word "ACL" ▹ blanks1 ▹ mailbox ⨾ blanks0) (StartsWith astring_utf8) m
 
 abbrev pub joined : List (List AclRight) → List AclRight
 joined groups = flat_map (λ (group : List AclRight). group) groups

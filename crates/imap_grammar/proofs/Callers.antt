@@ -1,7 +1,9 @@
 -- What a reader of lists gives to a caller, where the reader that was passed keeps the clause of a rule.
-use Rattle.std.proofs.Common.{ℕ, List, map, Option, Ok, Err}
+use Rattle.std.proofs.Common.{ℕ, List, map, Option, Ok, Err, inl, inr, subst}
+use Rattle.std.specs.Borrow.{Bor}
 use Rattle.std.specs.Option.{option_map}
 use Rattle.std.specs.Global.{Vec}
+use Rattle.imap_grammar.specs.declared.answer.Err.TheVariants.{Failure}
 use Rattle.imap_grammar.specs.declared.lists.Separator.{Separator}
 use Rattle.imap_grammar.specs.Meaning.{many_means}
 use Rattle.imap_grammar.specs.Rule.{Rule, meaning, many, list0, list1, opt, ◌⨾◌}
@@ -18,13 +20,22 @@ unfolding meaning
 many_read {answers = answers} {m = m} {result = result} v b h says =
     under_gives (called answers) (map v) (many_means (called answers)) (many b) (λ x. x.items) m result (many_under v (called answers) (meaning b) (kept_under answers v b says)) h.met
 
+-- where the reader that was passed takes no memory, the list takes some only behind its first item
+pub many_fails : {O V : Type 0} {answers : List ℕ → Returned O → Type 0} {m : List ℕ} (v : O → V) (b : Rule V) (result : Returned (Vec O))
+    → Follows (λ a. or_memory_behind a (many_means a)) answers (λ x. x.items) m result → KeepsExactly answers v b → FailsOnlyIf (StartsWith b m) result
+unfolding meaning
+many_fails v b (Ok x) h says = tt
+many_fails {answers = answers} {m = m} v b (Err e) h says =
+    let u = exactly_under answers v b says in
+    starts_behind v (map v) (called answers) b (many_means (called answers)) (many b) m e u (many_under v (called answers) (meaning b) u) h.met
+
 pub separated_read : {O V : Type 0} {answers : List ℕ → Returned O → Type 0} {m : List ℕ} {result : Returned (Vec O)} (between : Separator) (v : O → V) (b : Rule V)
     → Follows (λ a. or_memory_behind a (list1_means (meaning (separator between)) a)) answers (λ x. x.items) m result → Keeps answers v b → Gives (λ x. map v x.items) result (step (list1 (separator between) b) m)
 unfolding meaning
 separated_read {answers = answers} {m = m} {result = result} between v b h says =
     under_gives (called answers) (map v) (list1_means (meaning (separator between)) (called answers)) (list1 (separator between) b) (λ x. x.items) m result (list1_under (meaning (separator between)) v (called answers) (meaning b) (kept_under answers v b says)) h.met
 
--- where the reader that was passed takes no memory, the list takes some only behind its first item
+-- so does such a list
 pub separated_fails : {O V : Type 0} {answers : List ℕ → Returned O → Type 0} {m : List ℕ} (between : Separator) (v : O → V) (b : Rule V) (result : Returned (Vec O))
     → Follows (λ a. or_memory_behind a (list1_means (meaning (separator between)) a)) answers (λ x. x.items) m result → KeepsExactly answers v b → FailsOnlyIf (StartsWith b m) result
 unfolding meaning
@@ -38,6 +49,21 @@ pub maybe_separated_read : {O V : Type 0} {answers : List ℕ → Returned O →
 unfolding meaning
 maybe_separated_read {answers = answers} {m = m} {result = result} between v b h says =
     under_gives (called answers) (map v) (list0_means (meaning (separator between)) (called answers)) (list0 (separator between) b) (λ x. x.items) m result (list0_under (meaning (separator between)) v (called answers) (meaning b) (kept_under answers v b says)) h.met
+
+-- where the reader that was passed answers or wants memory only where this holds, so does the list want some
+pub maybe_separated_wants : {O : Type 0} {answers : List ℕ → Returned O → Type 0} {m : List ℕ} (between : Separator) (P : Type 0) (result : Returned (Vec O))
+    → Follows (λ a. or_memory_behind a (list0_means (meaning (separator between)) a)) answers (λ x. x.items) m result → ((left : Bor (List ℕ)) (x : O) → answers m (Ok (left, x)) → P) → (answers m (Err Failure) → P) → FailsOnlyIf P result
+maybe_separated_wants between P (Ok x) h yields fails = tt
+maybe_separated_wants {answers = answers} {m = m} between P (Err e) h yields fails = λ q. elim h.met [
+  | inl f ↦ elim f [
+    | inl g ↦ elim g.0 [
+      | inl a ↦ fails (subst (λ d. answers m (Err d)) q a)
+      | inr b ↦ let y = b.2 in yields y.0 b.0 y.2
+    ]
+    | inr g ↦ absurd g.1
+  ]
+  | inr f ↦ let y = f.3 in yields y.0 f.1 y.2
+]
 
 pub listed : {O V : Type 0} {answers : List ℕ → Returned O → Type 0} {m : List ℕ} {result : Returned (Vec O)} (v : O → V) (b : Rule V)
     → Follows (λ a. or_memory_behind (opened_means a) (list_means a)) answers (λ x. x.items) m result → Keeps answers v b → Gives (λ x. map v x.items) result (step (list_of b) m)

@@ -20,7 +20,7 @@ use Rattle.imap_grammar.proofs.Steps.{ok_is}
 use Rattle.imap_grammar.proofs.ReadingWords.{exact, letter}
 use Rattle.imap_grammar.proofs.Joins.{tried_fault}
 use Rattle.imap_grammar.proofs.Yields.{Yields}
-use Rattle.imap_grammar.specs.Memory.{BeginsWord, StartsWith, NeverFails, FailsOnlyIf, SucceedsFor}
+use Rattle.imap_grammar.specs.Memory.{BeginsWord, StartsWith, Behind, NeverFails, FailsOnlyIf, SucceedsFor}
 
 -- ---- want of memory
 
@@ -71,6 +71,21 @@ begins_tag k m rest v same h =
 
 pub starts_with : {V : Type 0} (r : Rule V) (m rest : List ℕ) (v : V) → step r m ≡ Ok (rest, v) → StartsWith r m
 starts_with r m rest v h = (v, rest, reads r m rest v h)
+
+-- the fault of a part, handed on
+pub handed : {A B : Type 0} (P : Type 0) (e : Fault) (part : Result A Fault) (result : Result B Fault) → result ≡ Err e → part ≡ Err e → FailsOnlyIf P part → FailsOnlyIf P result
+handed P e part result is was f = subst (FailsOnlyIf P) (sym is) (subst (FailsOnlyIf P) was f)
+
+-- the fault of a part, which is want of memory only where P holds
+pub fault_wants : {A : Type 0} (P Q : Type 0) (e : Fault) (result : Result A Fault) → result ≡ Err e → (e ≡ Failure → P) → (P → Q) → FailsOnlyIf Q result
+fault_wants P Q e result is f g = subst (FailsOnlyIf Q) (sym is) (λ q. g (f q))
+
+-- what may want memory stands behind what a rule takes
+pub stands_behind : {V : Type 0} (P : List ℕ → Type 0) (r : Rule V) (m mid : List ℕ) (v : V) → step r m ≡ Ok (mid, v) → P mid → Behind r P m
+stands_behind P r m mid v is p = (v, mid, reads r m mid v is, p)
+
+pub wants_behind : {V A : Type 0} (P : List ℕ → Type 0) (r : Rule V) (m mid : List ℕ) (v : V) (result : Result A Fault) → step r m ≡ Ok (mid, v) → FailsOnlyIf (P mid) result → FailsOnlyIf (Behind r P m) result
+wants_behind P r m mid v result is f = wider (P mid) (Behind r P m) result (λ p. (v, mid, reads r m mid v is, p)) f
 
 -- a reader that takes no memory
 pub exactly_fails : {A V : Type 0} (P : Type 0) (view : A → V) (r : Rule V) (m : List ℕ) (result : Returned A) → Exactly view result (step r m) → FailsOnlyIf P result

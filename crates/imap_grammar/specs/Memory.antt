@@ -22,6 +22,10 @@ BeginsWord k m =
 abbrev pub StartsWith : {V : Type 0} → Rule V → Bytes → Type 0
 StartsWith {V} r m = (v : V) × (rest : Bytes) × (meaning r).yields m v rest
 
+-- the rule yields a value of what stands in front, and this holds of what stands behind
+abbrev pub Behind : {V : Type 0} → Rule V → (Bytes → Type 0) → Bytes → Type 0
+Behind {V} r P m = (v : V) × (rest : Bytes) × (meaning r).yields m v rest × P rest
+
 -- Want of memory is not answered.
 abbrev pub NeverFails : {A : Type 0} → Result A Fault → Type 0
 NeverFails result = IfErr result (λ e. e ≢ Failure)

@@ -30,8 +30,9 @@ pub fn hashing()
     ensures acl_right { HashesAlike ⟦<AclRight as Hash>⟧.hash_input (λ x. x) }
 {}
 
-/// A clone of a UID set's member or of a right takes no memory, and is the same value.
+/// A clone of a status, of a UID set's member or of a right takes no memory, and is the same value.
 pub fn cloning()
+    ensures status { CopiesFreely ⟦<Status as Clone>⟧.is_infallible ⟦<Status as Clone>⟧.is_clone }
     ensures uid_set_member { CopiesFreely ⟦<UidSetMember as Clone>⟧.is_infallible
         ⟦<UidSetMember as Clone>⟧.is_clone }
     ensures acl_right { CopiesFreely ⟦<AclRight as Clone>⟧.is_infallible

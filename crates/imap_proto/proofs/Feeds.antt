@@ -121,7 +121,7 @@ gave_fewer held left (Ok (Some r)) g = shorter held left g.0 g.1
 gave_fewer held left (Ok None) g = tt
 gave_fewer held left (Err e) g = tt
 
-pub settled_refuses : (held left : Bytes) (front : Result (ℕ × Response) Fault) (answer : Result (Option Response) FeedError) → IsOwnedFront held front → FailsOnlyIf (FeedMayWant held) front → Settles held front answer left → IfErr answer (RefusesAs held)
+pub settled_refuses : {R : Type 0} (held left : Bytes) (front : Result (ℕ × R) Fault) (answer : Result (Option R) FeedError) → IsFront held front → FailsOnlyIf (FeedMayWant held) front → Settles held front answer left → IfErr answer (RefusesAs held)
 settled_refuses held left (Ok x) answer f h s = subst (λ a. IfErr a (RefusesAs held)) (sym s.0) tt
 settled_refuses held left (Err (Incomplete n)) answer f h s = subst (λ a. IfErr a (RefusesAs held)) (sym s.0) tt
 settled_refuses held left (Err Error) answer f h s = subst (λ a. IfErr a (RefusesAs held)) (sym s.0) ((agrees response held).failed Error f)

@@ -115,7 +115,7 @@ response_fetched m v rest y is = elim y [
 -- ---- a line of a FETCH that is not denied decides
 
 -- denied, or the other answers the same
-abbrev Decides : {V : Type 0} → Step V → Step V → Type 0
+abbrev pub Decides : {V : Type 0} → Step V → Step V → Type 0
 Decides s t = (s ≡ Err Error) ⊎ (t ≡ s)
 
 -- behind the same front
@@ -129,7 +129,7 @@ ended_decides s t close (inl e) = inl (rw e refl)
 ended_decides s t close (inr e) = inr (rw e refl)
 
 -- the words behind the number: all wait, or FETCH is denied, or the others are
-abbrev Apart : List ℕ → Type 0
+abbrev pub Apart : List ℕ → Type 0
 Apart k =
     (step (word " FETCH ") k ≡ Err Error)
     ⊎ ((step (word " EXISTS") k ≡ Err Error) × (step (word " RECENT") k ≡ Err Error) × (step (word " EXPUNGE") k ≡ Err Error))
@@ -159,12 +159,12 @@ first_apart c k false space = inl (word_denied (codes " FETCH ") (c ∷ k) (rw s
 first_apart c [] true space = inr (inr (word_waits (codes " FETCH ") (c ∷ []) (rw space refl), word_waits (codes " EXISTS") (c ∷ []) (rw space refl)))
 first_apart c (d ∷ k) true space = second_apart c d k (same_letter 70 d) space refl
 
-words_apart : (k : List ℕ) → Apart k
+pub words_apart : (k : List ℕ) → Apart k
 words_apart [] = inr (inr (word_waits (codes " FETCH ") [] refl, word_waits (codes " EXISTS") [] refl))
 words_apart (c ∷ k) = first_apart c k (same_letter 32 c) refl
 
 -- FETCH and the data whose number stands in front
-abbrev numbered : Rule ResponseValue
+abbrev pub numbered : Rule ResponseValue
 numbered = gives MailboxData (exists or recent) or expunge or fetch
 
 behind_number : (k : List ℕ) (n : ℕ) (s : Step ℕ) → s ≡ Ok (k, n) → Apart k → (m : List ℕ) → step number m ≡ s → Decides (step fetch m) (step numbered m)
@@ -219,7 +219,7 @@ star_decides b m true star =
     let same = response_star (b ∷ m) (ap (λ x. Some x) (sym is)) in
     elim (data_decides (b ∷ m)) [ inl e ↦ inl e | inr e ↦ inr (same ∙ e) ]
 
-response_decides : (m : List ℕ) → Decides (step fetch_line m) (step response m)
+pub response_decides : (m : List ℕ) → Decides (step fetch_line m) (step response m)
 unfolding response continuation fetch_line
 response_decides [] = inr (waited response refl ∙ sym (waited fetch_line refl))
 response_decides (b ∷ m) = star_decides b m (42 == b) refl
@@ -233,13 +233,16 @@ refuses e m g =
     answered response itself m (Err e) g
 
 -- a fault of the line that is no denial is the whole grammar's
+pub line_stops : (e : Fault) (m : Bytes) → ¬ (e ≡ Error) → Stops e (step fetch_line m) → Stops e (step response m)
+line_stops Error m other g = absurd (other refl)
+line_stops (Incomplete n) m other g = elim (response_decides m) [ inl e ↦ absurd (let both = sym g ∙ e in cc) | inr same ↦ same ∙ g ]
+line_stops Failure m other g = tt
+
 pub line_refuses : (e : Fault) (m : Bytes) → ¬ (e ≡ Error) → Stops e (step fetch_line m) → Refuses (meaning response) m e
-line_refuses Error m other g = absurd (other refl)
-line_refuses (Incomplete n) m other g = elim (response_decides m) [ inl e ↦ absurd (let both = sym g ∙ e in cc) | inr same ↦ refuses (Incomplete n) m (same ∙ g) ]
-line_refuses Failure m other g = tt
+line_refuses e m other g = refuses e m (line_stops e m other g)
 
 -- where the line is denied, no response is a FETCH
-line_denied : (m : Bytes) (v : ResponseValue) (rest : Bytes) → step fetch_line m ≡ Err Error → (meaning response).yields m v rest → ¬ (IsFetch v)
+pub line_denied : (m : Bytes) (v : ResponseValue) (rest : Bytes) → step fetch_line m ≡ Err Error → (meaning response).yields m v rest → ¬ (IsFetch v)
 line_denied m v rest out y is = let both = sym out ∙ (agrees fetch_line m).yields v rest (response_fetched m v rest y is) in cc
 
 pub none_kept : (m : Bytes) (r : Returned Response) → step fetch_line m ≡ Err Error → Answers response response_value m r → without_value r ≡ Ok tt → Keeps m (Ok None)

@@ -45,6 +45,10 @@ pub outcome_uncoded : AtOther "[" outcome plain_outcome
 unfolding outcome plain_outcome response_code
 outcome_uncoded = by_other "[" outcome plain_outcome (λ m. refl)
 
+pub no_code : AtOther "[" response_code never
+unfolding response_code
+no_code = by_other "[" response_code never (λ m. refl)
+
 -- ---- data
 
 pub datum_none : (m : List ℕ) → slice_get m 0 ≡ None → step ended_datum m ≡ Err (Incomplete Unknown)

@@ -17,19 +17,19 @@ use Rattle.imap_grammar.specs.Answer.{Returned, Gives}
 use Rattle.imap_grammar.specs.Classes.{is_text_char}
 use Rattle.imap_grammar.specs.Lists.{tried_of}
 use Rattle.imap_grammar.specs.Meaning.{is_word, begins, outside}
-use Rattle.imap_grammar.specs.Memory.{BeginsWord, StartsWith, FailsOnlyIf, SucceedsFor}
-use Rattle.imap_grammar.specs.Rule.{Rule, meaning, gives, nothing, opt, ◌⨾◌, ◌▹◌, ◌or◌}
+use Rattle.imap_grammar.specs.Memory.{BeginsWord, StartsWith, Behind, FailsOnlyIf, SucceedsFor}
+use Rattle.imap_grammar.specs.Rule.{Rule, meaning, gives, nothing, opt, ◌⨾◌, ◌▹◌, ◌◃◌, ◌or◌}
 use Rattle.imap_grammar.specs.Step.{step, ◌>>=◌, or_else, beside}
-use Rattle.imap_grammar.specs.Tags.{tag, word, sp, crlf, same_letter}
+use Rattle.imap_grammar.specs.Tags.{tag, word, sp, maybe_space, crlf, same_letter}
 use Rattle.imap_grammar.specs.Text.{Bytes, Text, text_of, decoded, IsOwned}
 use Rattle.imap_grammar.proofs.Agreement.{agrees, reads, fails}
-use Rattle.imap_grammar.proofs.Memory.{none_yielded, of_part, given, before, second, wider}
+use Rattle.imap_grammar.proofs.Memory.{none_yielded, of_part, given, behind, before, second, wider, starts_with, tried_fails, wants_behind}
 use Rattle.imap_grammar.proofs.Joins.{tried_none}
 use Rattle.imap_grammar.proofs.ReadingWords.{exact, letter}
 use Rattle.imap_grammar.proofs.Steps.{ok_is}
 use Rattle.imap_grammar.proofs.Yields.{Yields, given_yields, made_yields, left_yields, either_yields}
 use Rattle.imap_bytes.specs.Numbers.{number}
-use Rattle.imap_bytes.specs.Texts.{text, FailsForOwned}
+use Rattle.imap_bytes.specs.Texts.{text, YieldsOwned, FailsForOwned}
 use Rattle.imap_bytes.proofs.ReadingTexts.{decoded_utf8}
 use Rattle.imap_bytes.proofs.ReadingQuoted.{lossy_some}
 use Rattle.imap_data.specs.declared.types.codes.ResponseCode.{ResponseCode}
@@ -45,9 +45,9 @@ use Rattle.imap_items.specs.Statuses.{status}
 use Rattle.imap_proto.specs.declared.outcome.Outcome.{Outcome}
 use Rattle.imap_data.proofs.ListCodes.{list_code_yielded}
 use Rattle.imap_proto.specs.Outcomes.{outcome_of, outcome, plain_outcome, no_outcome, spaced_outcome}
-use Rattle.imap_proto.specs.Responses.{OutcomeValue, ResponseValue, Capabilities, MailboxData, Quota, QuotaRoot, Id, Acl, ListRights, MyRights}
-use Rattle.imap_proto.specs.Lines.{data_of, status_data, fetch_of, vanished_of, vanished_data, spaces, status_line, mailbox_line, list_line, capability_line, enabled_line, annotation_line, vanished_line, quota_line, id_line, acl_line, done_of, request_tag, tagged, fetched, fetch, fetched_line, fetch_line}
-use Rattle.imap_proto.specs.Memory.{OutcomeTakesNone, TakesNone, BeginsTagged, BeginsDatum, MayWantMemory}
+use Rattle.imap_proto.specs.Responses.{OutcomeValue, ResponseValue, Capabilities, Continue, MailboxData, Quota, QuotaRoot, Id, Acl, ListRights, MyRights}
+use Rattle.imap_proto.specs.Lines.{continuation, data_of, status_data, fetch_of, vanished_of, vanished_data, spaces, status_line, mailbox_line, list_line, capability_line, enabled_line, annotation_line, vanished_line, quota_line, id_line, acl_line, done_of, request_tag, tagged, fetched, fetch, fetched_line, fetch_line}
+use Rattle.imap_proto.specs.Memory.{OutcomeTakesNone, TakesNone, OutcomeMayWant, ContinuationMayWant, StatusMayWant, TaggedMayWant, DatumMayWant, MayWantMemory}
 use Rattle.imap_proto.specs.Kept.{without_value}
 
 -- ---- a word of text-chars in front of a line stands in front of the line's text too
@@ -223,6 +223,17 @@ spaced_is m rest x is = rw is (joined (step outcome rest) (never_denied rest))
 pub behind_space : {A : Type 0} (m rest x : Bytes) (result : Returned A) → step sp m ≡ Ok (rest, x) → SucceedsFor OutcomeTakesNone outcome rest result → SucceedsFor OutcomeTakesNone spaced_outcome m result
 behind_space m rest x result is h = λ v end y k. h v end (sym (spaced_is m rest x is) ∙ y) k
 
+-- ---- continuations
+
+-- the reader of the outcome failed
+pub continuation_failed : {A : Type 0} (m a b x : Bytes) (y : Option Bytes) (e : Fault) (part : Returned Outcome) (result : Returned A) → step (tag "+") m ≡ Ok (a, x) → step maybe_space a ≡ Ok (b, y) → part ≡ Err e → SucceedsFor OutcomeTakesNone outcome b part → SucceedsFor TakesNone continuation m result
+unfolding continuation
+continuation_failed m a b x y e part result is then was h =
+    given TakesNone Continue (tag "+" ▹ maybe_space ▹ outcome ◃ crlf) m result
+    (behind (λ o. TakesNone (Continue o)) (tag "+") (maybe_space ▹ outcome ◃ crlf) m a x result is
+    (behind (λ o. TakesNone (Continue o)) maybe_space (outcome ◃ crlf) a b y result then
+    (before (λ o. TakesNone (Continue o)) outcome crlf b result (of_part OutcomeTakesNone outcome b e part result was h))))
+
 -- ---- data
 
 -- a reader's answer, of which no more is said than its fault
@@ -304,25 +315,64 @@ tagged_other = made_yields done_of (λ v h. h)
 
 -- ---- behind what memory may be wanted
 
-pub begins_tagged : (m a b rest t x : Bytes) (s : Status) → step request_tag m ≡ Ok (a, t) → step sp a ≡ Ok (b, x) → step status b ≡ Ok (rest, s) → BeginsTagged m
-begins_tagged m a b rest t x s is then last = ((t, s), rest, reads (request_tag ⨾ sp ▹ status) m rest (t, s) (rw (is, then, last) refl))
+-- the text of an outcome, behind its code or without one
+pub outcome_text_wants : {A : Type 0} (m mid : Bytes) (k : Option CodeValue) (result : Returned A) → step (opt response_code) m ≡ Ok (mid, k) → FailsOnlyIf (YieldsOwned IsOwned text mid) result → FailsOnlyIf (OutcomeMayWant m) result
+outcome_text_wants m mid k result is f =
+    wider (Behind (opt response_code) (YieldsOwned IsOwned text) m) (OutcomeMayWant m) result (λ p. inr p)
+    (wants_behind (YieldsOwned IsOwned text) (opt response_code) m mid k result is f)
 
-pub wants_continued : {A : Type 0} (m : Bytes) (result : Returned A) → FailsOnlyIf (BeginsWord "+" m) result → FailsOnlyIf (MayWantMemory m) result
-wants_continued m result h = wider (BeginsWord "+" m) (MayWantMemory m) result (λ p. inl p) h
+-- the code of an outcome
+pub outcome_code_wants : {A : Type 0} (m : Bytes) (code : Returned ResponseCode) (tried : Result (Option (Bor Bytes × ResponseCode)) Fault) (e : Fault) (result : Returned A) → result ≡ Err e → tried ≡ tried_of code → tried ≡ Err e → FailsOnlyIf (BeginsListCode m) code
+    → FailsOnlyIf (OutcomeMayWant m) result
+outcome_code_wants m code tried e result is same was f =
+    wider (BeginsListCode m) (OutcomeMayWant m) result (λ p. inl p) (tried_fails (BeginsListCode m) code tried e result is same was f)
+
+-- where no code begins
+pub plain_wants : {A : Type 0} (m : Bytes) (result : Returned A) → step response_code m ≡ Err Error → FailsOnlyIf (YieldsOwned IsOwned text m) result → FailsOnlyIf (OutcomeMayWant m) result
+plain_wants m result denied f = outcome_text_wants m m None result (rw denied refl) f
+
+-- `+` and a space, or none, stand in front
+pub continuation_wants : {A : Type 0} (m a b x : Bytes) (y : Option Bytes) (result : Returned A) → step (tag "+") m ≡ Ok (a, x) → step maybe_space a ≡ Ok (b, y) → FailsOnlyIf (OutcomeMayWant b) result → FailsOnlyIf (ContinuationMayWant m) result
+continuation_wants m a b x y result is then f = wants_behind OutcomeMayWant (tag "+" ▹ maybe_space) m b y result (rw (is, then) refl) f
+
+-- a status stands in front
+pub status_wants : {A : Type 0} (m a : Bytes) (s : Status) (result : Returned A) → step status m ≡ Ok (a, s) → FailsOnlyIf (Behind sp OutcomeMayWant a) result → FailsOnlyIf (StatusMayWant m) result
+unfolding meaning
+status_wants m a s result is f =
+    wider (Behind sp OutcomeMayWant a) (StatusMayWant m) result (λ p. ((s, p.0), p.1, (a, reads status m a s is, p.2), p.3)) f
+
+-- a tag, a space and a status stand in front
+pub tagged_wants : {A : Type 0} (m a b c t x : Bytes) (s : Status) (result : Returned A) → step request_tag m ≡ Ok (a, t) → step sp a ≡ Ok (b, x) → step status b ≡ Ok (c, s) → FailsOnlyIf (Behind sp OutcomeMayWant c) result → FailsOnlyIf (TaggedMayWant m) result
+tagged_wants m a b c t x s result is then last f =
+    wider (Behind sp OutcomeMayWant c) (TaggedMayWant m) result (λ p. inl (
+      (t, (s, p.0)),
+      p.1,
+      reads (request_tag ⨾ sp ▹ status ⨾ sp) m p.1 (t, (s, p.0)) (rw (is, then, last, (agrees sp c).yields p.0 p.1 p.2) refl),
+      p.3,
+    )) f
+
+-- the whole of a tagged line
+pub tagged_stands : (m a b c d rest t x z : Bytes) (s : Status) (o : OutcomeValue) → step request_tag m ≡ Ok (a, t) → step sp a ≡ Ok (b, x) → step status b ≡ Ok (c, s) → step spaced_outcome c ≡ Ok (d, o) → step crlf d ≡ Ok (rest, z) → TaggedMayWant m
+unfolding tagged
+tagged_stands m a b c d rest t x z s o is then status_is outcome_is end =
+    inr (starts_with tagged m rest (done_of (t, (s, o))) (rw (is, then, status_is, outcome_is, end) refl))
+
+pub wants_continued : {A : Type 0} (m : Bytes) (result : Returned A) → FailsOnlyIf (ContinuationMayWant m) result → FailsOnlyIf (MayWantMemory m) result
+wants_continued m result h = wider (ContinuationMayWant m) (MayWantMemory m) result (λ p. inl p) h
 
 -- `* ` in front of such a datum
-pub starred_wants : (m rest v : Bytes) → step (tag "* ") m ≡ Ok (rest, v) → BeginsDatum rest → MayWantMemory m
+pub starred_wants : (m rest v : Bytes) → step (tag "* ") m ≡ Ok (rest, v) → DatumMayWant rest → MayWantMemory m
 unfolding meaning
 starred_wants m rest v is p =
     let y = reads (tag "* ") m rest v is in
     let front : m ≡ codes "* " ++ rest = y.0 ∙ ap (λ l. l ++ rest) (sym (exact (codes "* ") v y.1)) in
     inr (inl (rest, front, p))
 
-pub wants_datum : {A : Type 0} (P : Bytes → Type 0) (m rest v : Bytes) (result : Returned A) → ((r : Bytes) → P r → BeginsDatum r) → step (tag "* ") m ≡ Ok (rest, v) → FailsOnlyIf (P rest) result → FailsOnlyIf (MayWantMemory m) result
+pub wants_datum : {A : Type 0} (P : Bytes → Type 0) (m rest v : Bytes) (result : Returned A) → ((r : Bytes) → P r → DatumMayWant r) → step (tag "* ") m ≡ Ok (rest, v) → FailsOnlyIf (P rest) result → FailsOnlyIf (MayWantMemory m) result
 wants_datum P m rest v result begins is h = wider (P rest) (MayWantMemory m) result (λ p. starred_wants m rest v is (begins rest p)) h
 
-pub wants_tagged : {A : Type 0} (m : Bytes) (result : Returned A) → FailsOnlyIf (BeginsTagged m) result → FailsOnlyIf (MayWantMemory m) result
-wants_tagged m result h = wider (BeginsTagged m) (MayWantMemory m) result (λ p. inr (inr p)) h
+pub wants_tagged : {A : Type 0} (m : Bytes) (result : Returned A) → FailsOnlyIf (TaggedMayWant m) result → FailsOnlyIf (MayWantMemory m) result
+wants_tagged m result h = wider (TaggedMayWant m) (MayWantMemory m) result (λ p. inr (inr p)) h
 
 -- a word behind a number
 pub behind_number : (m mid : Bytes) (n : ℕ) → step number m ≡ Ok (mid, n) → BeginsWord " FETCH " mid → StartsWith (number ▹ word " FETCH ") m

@@ -1,5 +1,6 @@
 -- What stands in all the pieces of a stream.
-use Rattle.std.proofs.Common.{◌≡◌, ℕ, List, [], ◌∷◌, ◌++◌, map, Option, None, Some, Result, Ok, Err, refl, sym, ap, subst, ◌∙◌, append_assoc, length, drop, get_or, ◌<◌, ◌≤◌, ◌+◌}
+use Rattle.std.proofs.Common.{◌≡◌, ◌==◌, true, false, suc, arith, ℕ, List, [], ◌∷◌, ◌++◌, map, Option, None, Some, Result, Ok, Err, refl, sym, ap, subst, ◌∙◌, append_assoc, length, drop, get_or, ◌<◌, ◌≤◌, ◌+◌}
+use Rattle.std.proofs.lemmas.Bool.{false≢true, eqb-true}
 use Rattle.std.proofs.lemmas.List.{append-nil, map-append, drop_more, at_drop_all}
 use Rattle.std.specs.Borrow.{Bor}
 use Rattle.imap_grammar.specs.Rule.{meaning}
@@ -91,6 +92,18 @@ all_read pieces i held rest responses end over so_far is =
     let none : joined (map (λ (p : Bor Bytes). p.now) (drop i pieces)) ≡ [] = at_drop_all (λ ps. joined (map (λ (p : Bor Bytes). p.now) ps)) pieces i over in
     let all = sym (append-nil so_far.read) ∙ ap (λ k. so_far.read ++ k) (sym none) ∙ so_far.joins in
     (so_far.values, so_far.owned, subst (λ k. Splits (joined (map (λ (p : Bor Bytes). p.now) pieces)) so_far.values k end) (sym is) (subst (λ m. Splits m so_far.values held end) all so_far.splits))
+
+-- where there is a piece, there are not none
+pub some_pieces : (pieces : List (Bor Bytes)) → (length pieces == 0) ≡ false → pieces ≡ [] → ⊥
+some_pieces [] h e = false≢true (sym h)
+some_pieces (p ∷ pieces) h e = cc
+
+-- of no pieces nothing is read
+pub none_read : (pieces : List (Bor Bytes)) → (length pieces == 0) ≡ true → (vs : List ResponseValue) × (map response_value [] ≡ map owned_response vs) × Splits (joined (map (λ p. p.now) pieces)) vs [] Waits
+none_read [] h = all_read [] 0 [] [] [] Waits (omega arith) (read_nothing _) refl
+none_read (p ∷ pieces) h =
+    let e : suc (length pieces) ≡ 0 = eqb-true (suc (length pieces)) 0 h in
+    absurd (omega (arith, e))
 
 -- ---- one whole
 

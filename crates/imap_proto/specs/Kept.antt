@@ -4,8 +4,9 @@ use Rattle.imap_grammar.specs.declared.answer.Err.{Err as Fault}
 use Rattle.imap_grammar.specs.Text.{Bytes}
 use Rattle.imap_grammar.specs.Rule.{meaning}
 use Rattle.imap_grammar.specs.Answer.{Refuses, Returned}
+use Rattle.imap_grammar.specs.Positions.{named_in}
 use Rattle.imap_attributes.specs.AttributeValues.{AttributeValue}
-use Rattle.imap_body.specs.SpannedAttributes.{attribute_in}
+use Rattle.imap_body.specs.SpannedAttributes.{span_of, attribute_in}
 use Rattle.imap_proto.specs.declared.kept.KeptFetch.{KeptFetch}
 use Rattle.imap_proto.specs.Responses.{ResponseValue, Fetch, IsFetch}
 use Rattle.imap_proto.specs.Lines.{response}
@@ -21,6 +22,10 @@ consumed_bytes k = k.bytes.items
 -- its attributes, as their spans name them in its bytes
 abbrev pub attributes_of : KeptFetch → List AttributeValue
 attributes_of k = map (attribute_in (consumed_bytes k)) k.attributes.items
+
+-- the bytes of each
+abbrev pub spans_of : KeptFetch → List Bytes
+spans_of k = map (λ s. named_in (consumed_bytes k) (span_of s)) k.attributes.items
 
 -- What is kept of m, unless memory ran out: a FETCH where the grammar yields one, which consumed the kept bytes;
 -- none where it yields another response; and else the fault of the answer.

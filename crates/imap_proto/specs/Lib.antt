@@ -1,9 +1,12 @@
 pub mod Responses
 pub mod Outcomes
 pub mod Lines
+pub mod LogicalLines
 pub mod Memory
 pub mod Kept
 pub mod Streams
+pub mod Skipping
+pub mod Fronts
 pub mod Feeds
 pub mod Owned
 pub mod OutcomeTexts

@@ -93,7 +93,7 @@ unfoldable pub spaces : Rule Bytes
 spaces = run0 is_space
 
 -- a datum, spaces, the end of the line
-abbrev pub ended : Rule ResponseValue → Rule ResponseValue
+abbrev pub ended : {V : Type 0} → Rule V → Rule V
 ended a = a ◃ spaces ⨾ crlf
 
 unfoldable pub ended_datum : Rule ResponseValue

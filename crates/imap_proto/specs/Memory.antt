@@ -1,17 +1,19 @@
 -- For which responses no memory is taken, and behind what memory may be wanted at all.
 use Rattle.std.specs.Prelude.{◌≡◌, ◌⊎◌, ◌++◌, codes, Option, None, Some}
-use Rattle.imap_grammar.specs.Memory.{BeginsWord, StartsWith}
-use Rattle.imap_grammar.specs.Rule.{◌⨾◌, ◌▹◌}
-use Rattle.imap_grammar.specs.Tags.{sp, word}
-use Rattle.imap_grammar.specs.Text.{Bytes, Text}
+use Rattle.imap_grammar.specs.Memory.{BeginsWord, StartsWith, Behind}
+use Rattle.imap_grammar.specs.Rule.{opt, ◌⨾◌, ◌▹◌}
+use Rattle.imap_grammar.specs.Tags.{tag, word, sp, maybe_space}
+use Rattle.imap_grammar.specs.Text.{Bytes, Text, IsOwned}
 use Rattle.imap_bytes.specs.Numbers.{number}
+use Rattle.imap_bytes.specs.Texts.{text, YieldsOwned}
 use Rattle.imap_items.specs.Copies.{IsLent}
 use Rattle.imap_items.specs.Statuses.{status}
+use Rattle.imap_extensions.specs.Acls.{AclMayWant}
 use Rattle.imap_extensions.specs.Ids.{IsNil}
-use Rattle.imap_data.specs.Codes.{CodeValue, HoldsNoList, BeginsListCode}
+use Rattle.imap_data.specs.Codes.{CodeValue, HoldsNoList, BeginsListCode, response_code}
 use Rattle.imap_data.specs.DatumValues.{IsNumber}
-use Rattle.imap_data.specs.MailboxData.{BeginsListDatum}
-use Rattle.imap_proto.specs.Lines.{request_tag}
+use Rattle.imap_data.specs.MailboxData.{MailboxMayWant}
+use Rattle.imap_proto.specs.Lines.{request_tag, tagged}
 use Rattle.imap_proto.specs.Responses.{OutcomeValue, ResponseValue, Continue, Data, Expunge, MailboxData, Id}
 
 -- A code without a list, and a borrowed text behind it. A text by itself also doesn't begin as a code that may hold a
@@ -37,40 +39,54 @@ TakesNone other = ⊥
 
 -- ---- behind what memory may be wanted
 
--- a tag, a space and a status stand in front
-abbrev pub BeginsTagged : Bytes → Type 0
-BeginsTagged m = StartsWith (request_tag ⨾ sp ▹ status) m
+-- a code that may hold a list begins, or a text that is not UTF-8 stands there, behind a code or without one
+abbrev pub OutcomeMayWant : Bytes → Type 0
+OutcomeMayWant m = BeginsListCode m ⊎ Behind (opt response_code) (YieldsOwned IsOwned text) m
+
+-- such an outcome, behind `+` and a space that may be missing
+abbrev pub ContinuationMayWant : Bytes → Type 0
+ContinuationMayWant m = Behind (tag "+" ▹ maybe_space) OutcomeMayWant m
+
+-- such an outcome, behind a status and a space
+abbrev pub StatusMayWant : Bytes → Type 0
+StatusMayWant m = Behind (status ⨾ sp) OutcomeMayWant m
+
+-- such an outcome, behind a tag, a space, a status and a space; or the whole line, whose tag is copied
+abbrev pub TaggedMayWant : Bytes → Type 0
+TaggedMayWant m =
+    Behind (request_tag ⨾ sp ▹ status ⨾ sp) OutcomeMayWant m
+    ⊎ StartsWith tagged m
 
 -- ---- and of data, what stands behind `* `
 
 -- what is said of a mailbox, METADATA among it
-abbrev pub BeginsMailboxDatum : Bytes → Type 0
-BeginsMailboxDatum m = BeginsListDatum m ⊎ BeginsWord "METADATA " m
+abbrev pub MailboxDatumMayWant : Bytes → Type 0
+MailboxDatumMayWant m = MailboxMayWant m ⊎ BeginsWord "METADATA " m
 
 -- capabilities, VANISHED, QUOTA and QUOTAROOT, ID, and the lines of rights
-abbrev pub BeginsOtherDatum : Bytes → Type 0
-BeginsOtherDatum m =
+abbrev pub OtherDatumMayWant : Bytes → Type 0
+OtherDatumMayWant m =
     BeginsWord "CAPABILITY" m
     ⊎ BeginsWord "ENABLED" m
     ⊎ BeginsWord "VANISHED" m
     ⊎ BeginsWord "QUOTA" m
     ⊎ BeginsWord "ID" m
-    ⊎ BeginsWord "ACL" m
+    ⊎ AclMayWant m
     ⊎ BeginsWord "LISTRIGHTS" m
     ⊎ BeginsWord "MYRIGHTS" m
 
--- a status, or a number and ` FETCH `, or one of these words. EXISTS, RECENT and EXPUNGE take no memory, nor does what
--- begins with no datum.
-abbrev pub BeginsDatum : Bytes → Type 0
-BeginsDatum m =
-    StartsWith status m
+-- a status with such an outcome, or a number and ` FETCH `, or such data. EXISTS, RECENT and EXPUNGE take no memory, nor
+-- does what begins with no datum.
+abbrev pub DatumMayWant : Bytes → Type 0
+DatumMayWant m =
+    StatusMayWant m
     ⊎ StartsWith (number ▹ word " FETCH ") m
-    ⊎ BeginsMailboxDatum m
-    ⊎ BeginsOtherDatum m
+    ⊎ MailboxDatumMayWant m
+    ⊎ OtherDatumMayWant m
 
--- `+`, or `* ` and such a datum, or the front of a tagged line up to its status
+-- such a continuation, or `* ` and such a datum, or such a tagged line
 abbrev pub MayWantMemory : Bytes → Type 0
 MayWantMemory m =
-    BeginsWord "+" m
-    ⊎ ((rest : Bytes) × (m ≡ codes "* " ++ rest) × BeginsDatum rest)
-    ⊎ BeginsTagged m
+    ContinuationMayWant m
+    ⊎ ((rest : Bytes) × (m ≡ codes "* " ++ rest) × DatumMayWant rest)
+    ⊎ TaggedMayWant m

@@ -3,22 +3,21 @@
 //! The readers of lines are never inlined: one function that had them all in it would clear, at each response, the room
 //! on its stack for the values of all of them.
 
-ghost use Rattle.std.specs.Prelude.{◌≡◌, ◌⊎◌, map, Err as Refused};
+ghost use Rattle.std.specs.Prelude.{◌≡◌, ◌⊎◌, Err as Refused};
 ghost use Rattle.imap_grammar.specs.Answer.{Steps, StepsExactly};
-ghost use Rattle.imap_grammar.specs.Memory.{BeginsWord, StartsWith, NeverFails, FailsOnlyIf, SucceedsFor};
+ghost use Rattle.imap_grammar.specs.Memory.{BeginsWord, NeverFails, FailsOnlyIf, SucceedsFor};
 ghost use Rattle.imap_grammar.specs.Rule.{◌⨾◌};
 ghost use Rattle.imap_grammar.specs.Tags.{crlf};
-ghost use Rattle.imap_items.specs.Statuses as statuses;
-ghost use Rattle.imap_data.specs.MailboxData.{BeginsListDatum};
-ghost use Rattle.imap_attributes.specs.AttributeValues.{attribute_value};
-ghost use Rattle.imap_proto.specs.Memory.{TakesNone};
+ghost use Rattle.imap_extensions.specs.Acls.{AclMayWant};
+ghost use Rattle.imap_data.specs.MailboxData.{NamesMayWant, MailboxMayWant};
+ghost use Rattle.imap_proto.specs.Memory.{StatusMayWant, TakesNone};
 ghost use Rattle.imap_proto.specs.Responses.{response_value};
 ghost use Rattle.imap_proto.specs.Lines as rule;
 
+use crate::fetched::{Space, fetched};
 use crate::outcomes::spaced_outcome;
 use crate::response::Response;
-use imap_body::AttributeValue;
-use imap_body::readers::attribute_list;
+use imap_bytes::at::span::rest;
 use imap_bytes::tags::{cut0, tag, word};
 use imap_bytes::{Err, IResult, named};
 use imap_data::MailboxDatum;
@@ -26,19 +25,8 @@ use imap_data::readers::{
     acl, capability_data, enabled_data, id, list_or_lsub, list_rights, mailbox_datum,
     metadata_solicited, metadata_unsolicited, my_rights, quota, quota_root, status, vanished,
 };
-use imap_grammar::scanning::{Class, run_end};
+use imap_grammar::scanning::run_end;
 use std::alloc::Global;
-
-// A space.
-pub(crate) struct Space;
-
-impl Class for Space {
-    ghost class = { rule.is_space };
-
-    fn has(c: u8) -> bool {
-        c == b' '
-    }
-}
 
 #[tactic(auto, unfolding(crate::specs::Lines::spaces))]
 fn spaces(i: &[u8]) -> IResult<&[u8], &[u8]>
@@ -80,21 +68,12 @@ macro_rules! whole_line {
 #[inline(never)]
 pub(crate) fn status_line(alloc: Global, i: &[u8]) -> IResult<&[u8], Response<'_>>
     ensures steps { Steps rule.status_line response_value i.now result }
-    ensures failure { FailsOnlyIf (StartsWith statuses.status i.now) result }
+    ensures failure { FailsOnlyIf (StatusMayWant i.now) result }
     ensures memory { SucceedsFor TakesNone rule.status_line i.now result }
 {
     let (rest, status) = status(i)?;
     whole_line!(spaced_outcome(alloc, rest), outcome => Response::Data { status, outcome });
     Err(Err::Error)
-}
-
-#[tactic(auto, unfolding(crate::specs::Lines::fetched))]
-fn fetched(alloc: Global, i: &[u8]) -> IResult<&[u8], Vec<AttributeValue<'_>>>
-    ensures steps { Steps rule.fetched (λ x. map attribute_value x.items) i.now result }
-    ensures failure { FailsOnlyIf (BeginsWord " FETCH " i.now) result }
-{
-    let (rest, _) = word(b" FETCH ", i)?;
-    attribute_list(alloc, rest)
 }
 
 /// `EXISTS`, `RECENT` and `EXPUNGE`, whose number stood in front. No memory.
@@ -112,7 +91,7 @@ pub(crate) fn count_line<'a>(n: u32, i: &'a [u8]) -> IResult<&'a [u8], Response<
 }
 
 /// `FETCH`, whose number stood in front.
-#[tactic(auto, unfolding(crate::specs::Lines::fetched_line))]
+#[tactic(auto, using(crate::proofs::Ended::ended_later), unfolding(crate::specs::Lines::fetched_line))]
 #[inline(never)]
 pub(crate) fn fetched_line<'a>(
     alloc: Global,
@@ -122,15 +101,15 @@ pub(crate) fn fetched_line<'a>(
     ensures steps { Steps (rule.fetched_line n) response_value i.now result }
     ensures failure { FailsOnlyIf (BeginsWord " FETCH " i.now) result }
 {
-    whole_line!(fetched(alloc, i), attributes => Response::Fetch(n, attributes));
-    Err(Err::Error)
+    let (q, attributes) = fetched(alloc, i, 0)?;
+    Ok((rest(i, q), Response::Fetch(n, attributes)))
 }
 
 #[tactic(auto, unfolding(crate::specs::Lines::mailbox_line))]
 #[inline(never)]
 pub(crate) fn mailbox_line(alloc: Global, i: &[u8]) -> IResult<&[u8], Response<'_>>
     ensures steps { Steps rule.mailbox_line response_value i.now result }
-    ensures failure { FailsOnlyIf (BeginsListDatum i.now) result }
+    ensures failure { FailsOnlyIf (MailboxMayWant i.now) result }
     ensures memory { SucceedsFor TakesNone rule.mailbox_line i.now result }
 {
     whole_line!(mailbox_datum(alloc, i), found => Response::MailboxData(found));
@@ -141,8 +120,7 @@ pub(crate) fn mailbox_line(alloc: Global, i: &[u8]) -> IResult<&[u8], Response<'
 #[inline(never)]
 pub(crate) fn list_line(alloc: Global, i: &[u8]) -> IResult<&[u8], Response<'_>>
     ensures steps { Steps rule.list_line response_value i.now result }
-    ensures failure { FailsOnlyIf ((BeginsWord "LIST " i.now ⊎ BeginsWord "LSUB " i.now)
-        ⊎ BeginsWord "LISTRIGHTS" i.now) result }
+    ensures failure { FailsOnlyIf (NamesMayWant i.now ⊎ BeginsWord "LISTRIGHTS" i.now) result }
     ensures memory { SucceedsFor TakesNone rule.list_line i.now result }
 {
     whole_line!(list_or_lsub(alloc, i), found => Response::MailboxData(found));
@@ -219,7 +197,7 @@ pub(crate) fn id_line(alloc: Global, i: &[u8]) -> IResult<&[u8], Response<'_>>
 #[inline(never)]
 pub(crate) fn acl_line(alloc: Global, i: &[u8]) -> IResult<&[u8], Response<'_>>
     ensures steps { Steps rule.acl_line response_value i.now result }
-    ensures failure { FailsOnlyIf (BeginsWord "ACL" i.now) result }
+    ensures failure { FailsOnlyIf (AclMayWant i.now) result }
 {
     whole_line!(acl(alloc, i), found => Response::Acl(found));
     Err(Err::Error)

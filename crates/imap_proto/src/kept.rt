@@ -1,64 +1,42 @@
 //! Fetches that are kept: the bytes of one `FETCH` once, and its attributes as positions in them.
 
-ghost use Rattle.std.specs.Prelude.{◌≡◌, ◌≤◌, ◌<◌, Some, length, map, drop, slice_get, IfOk};
-ghost use Rattle.imap_grammar.specs.Memory.{BeginsWord, NeverFails, FailsOnlyIf};
-ghost use Rattle.imap_grammar.specs.Positions.{Ahead, Inside, named_in, StepsAt, StepsExactlyAt};
+ghost use Rattle.std.specs.Prelude.{◌≡◌, ◌≤◌, ◌<◌, Some, Ok as Found, Err as Refused, length, map, drop, slice_get, IfOk, MatchResult};
+ghost use Rattle.imap_grammar.specs.Memory.{FailsOnlyIf};
+ghost use Rattle.imap_grammar.specs.Positions.{StepsAt};
 ghost use Rattle.imap_attributes.specs.AttributeValues.{attribute_value};
-ghost use Rattle.imap_body.specs.SpannedAttributes.{InFront, attribute_in};
-ghost use Rattle.imap_proto.specs.Kept.{Keeps, message_number, consumed_bytes, attributes_of, without_value};
+ghost use Rattle.imap_body.specs.SpannedAttributes.{InFront};
+ghost use Rattle.imap_proto.specs.Kept.{Keeps, message_number, consumed_bytes, attributes_of, spans_of, without_value};
+ghost use Rattle.imap_proto.specs.Feeds.{FeedMayWant};
+ghost use Rattle.imap_proto.specs.Fronts.{BeginsFetch, IsKeptFront};
+ghost use Rattle.imap_proto.specs.declared.kept.Front.TheVariants as front;
 ghost use Rattle.imap_proto.specs.Memory.{MayWantMemory};
 ghost use Rattle.imap_proto.specs.Responses.{fetch_in};
 ghost use Rattle.imap_proto.specs.Lines as rule;
 
-use crate::data::Space;
+use crate::fetched::fetched;
 use crate::response::Response;
+use crate::stream::owned_front;
 use imap_body::AttributeValue;
-use imap_body::spanned::{SpannedAttribute, attribute_list_at};
+use imap_body::spanned::SpannedAttribute;
 use imap_bytes::at::Reached;
 use imap_bytes::at::numbers::number;
-use imap_bytes::at::span::Span;
-use imap_bytes::at::tags::{cut0, tag, word};
+use imap_bytes::at::tags::tag;
 use imap_bytes::lists::tried;
 use imap_bytes::{Err, IResult};
-use imap_grammar::scanning::run_end;
 use std::alloc::{AllocError, Global};
 
-#[tactic(auto, unfolding(crate::specs::Lines::spaces))]
-fn spaces(m: &[u8], p: usize) -> Reached<Span>
-    requires { p ≤ length m.now }
-    ensures steps { StepsExactlyAt rule.spaces (named_in m.now) m.now p result }
-    ensures inside { Inside m.now p result }
-    ensures no_failure { NeverFails result }
-{
-    let (_, i) = m.split_at(p);
-    cut0(run_end::<Space>(i), m, p)
-}
-
-#[tactic(auto, unfolding(crate::specs::Lines::fetched))]
-fn fetched(alloc: Global, m: &[u8], p: usize) -> Reached<Vec<SpannedAttribute>>
-    requires { p ≤ length m.now }
-    ensures steps { StepsAt rule.fetched (λ x. map (attribute_in m.now) x.items) m.now p result }
-    ensures ahead { Ahead m.now p result }
-    ensures rests { InFront (λ n x. map (attribute_in n) x.items) result }
-    ensures failure { FailsOnlyIf (BeginsWord " FETCH " (drop p m.now)) result }
-{
-    let (p, _) = word(b" FETCH ", m, p)?;
-    attribute_list_at(alloc, m, p)
-}
-
 // A line that tells of a message: its number, and its attributes as positions in the line.
-#[tactic(auto, unfolding(crate::specs::Lines::fetch_line, crate::specs::Lines::fetch))]
+#[tactic(auto, using(crate::proofs::Ended::ended_later), unfolding(crate::specs::Lines::fetch_line, crate::specs::Lines::fetch))]
 fn fetch_line(alloc: Global, m: &[u8]) -> Reached<(u32, Vec<SpannedAttribute>)>
     ensures steps { StepsAt rule.fetch_line (fetch_in m.now) m.now 0 result }
     ensures within { IfOk result (λ x. x.0 ≤ length m.now) }
     ensures rests { InFront fetch_in result }
     ensures failure { FailsOnlyIf (MayWantMemory m.now) result }
+    ensures begins { FailsOnlyIf (BeginsFetch m.now) result }
 {
     let (p, _) = tag(b"* ", m, 0)?;
     let (p, number) = number(m, p)?;
     let (p, attributes) = fetched(alloc, m, p)?;
-    let (p, _) = spaces(m, p)?;
-    let (p, _) = tag(b"\r\n", m, p)?;
     Ok((p, (number, attributes)))
 }
 
@@ -141,4 +119,50 @@ impl KeptFetch {
     {
         self.attributes[k].value(self.alloc, &self.bytes)
     }
+
+    /// The bytes of the attribute at k, which must be below `len`: its name and what stands behind that. No memory.
+    pub fn span(&self, k: usize) -> &[u8]
+        requires { k < length (attributes_of self.now) }
+        ensures { slice_get (spans_of self.now) k ≡ Some result.now }
+    {
+        self.attributes[k].span().part(&self.bytes)
+    }
+}
+
+/// What stands at the front of a feed (`Feed::next_kept`).
+#[derive(Drop)]
+pub enum Front {
+    /// A `FETCH`, kept with its bytes.
+    Fetch(KeptFetch),
+    /// Another response, with all its texts owned.
+    Other(Response<'static>),
+}
+
+fn other_front(owned: Reached<Response<'static>>) -> Reached<Front>
+    ensures { MatchResult owned.entry (λ x. result ≡ Found (x.0, front.Other x.1))
+        (λ e. result ≡ Refused e) }
+{
+    match owned {
+        Ok((left, response)) => Ok((left, Front::Other(response))),
+        Err(error) => Err(error),
+    }
+}
+
+// What stands in front, a FETCH kept, and how many bytes are behind it. A FETCH is read once.
+pub(crate) fn kept_front(alloc: Global, held: &[u8]) -> Reached<Front>
+    ensures front { IsKeptFront held.now result }
+    ensures failure { FailsOnlyIf (FeedMayWant held.now) result }
+{
+    let Some((q, (number, attributes))) = tried(fetch_line(alloc, held))? else {
+        return other_front(owned_front(alloc, held));
+    };
+    let (front, rest) = held.split_at(q);
+    let bytes = Vec::from_slice(alloc, front)?;
+    let fetch = KeptFetch {
+        alloc,
+        number,
+        attributes,
+        bytes,
+    };
+    Ok((rest.len(), Front::Fetch(fetch)))
 }

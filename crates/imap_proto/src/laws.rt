@@ -9,6 +9,8 @@ ghost use Rattle.imap_grammar.specs.Equality.{Tells};
 ghost use Rattle.imap_grammar.specs.Copying.{CopiesFreely};
 ghost use Rattle.imap_proto.specs.Outcomes as outcomes;
 ghost use Rattle.imap_proto.specs.Lines as rule;
+ghost use Rattle.imap_proto.specs.LogicalLines.{logical_line, NoLineIsDenied, LinesEnd};
+ghost use Rattle.imap_proto.specs.Skipping.{item, SomePast, OnePast, PastGoesOn, PastBeginsSo, FedIsPassed, FeedsPast, PastCuttingsAlike};
 ghost use Rattle.imap_proto.specs.Streams.{SomeSplit, OneSplit, BeginningsWait, SplitsGoOn, FeedsSplit, CuttingsAlike};
 ghost use Rattle.imap_proto.specs.Feeds.{OneWhole, lent_whole};
 ghost use Rattle.imap_grammar.specs.ReadBack.{Spells};
@@ -41,6 +43,15 @@ pub fn stable()
     ensures data_line { Stable rule.data_line }
     ensures tagged { Stable rule.tagged }
     ensures response { Stable rule.response }
+    ensures logical_line { Stable logical_line }
+    ensures item { Stable item }
+{}
+
+/// Logical lines (RFC 3501, sections 2.2 and 4.3): no bytes are denied, and each line ends in CRLF.
+#[tactic(auto, using(crate::proofs::LogicalLines::no_line_is_denied, crate::proofs::LogicalLines::lines_end))]
+pub fn logical_lines()
+    ensures no_line_is_denied { NoLineIsDenied }
+    ensures lines_end { LinesEnd }
 {}
 
 /// A stream of responses has one split, however its bytes are cut into pieces; and what a response consumed waits
@@ -54,6 +65,19 @@ pub fn streams()
     ensures feeds_split { FeedsSplit }
     ensures cuttings_alike { CuttingsAlike }
     ensures one_whole { OneWhole }
+{}
+
+/// A stream that is read on behind the lines which are denied has one outcome, its responses and its skipped lines in
+/// their order, however its bytes are cut into pieces. Where nothing is denied it is the split.
+#[tactic(auto, using(crate::proofs::Skipping::some_past, crate::proofs::Skipping::one_past, crate::proofs::Skipping::past_goes_on, crate::proofs::Skipping::past_begins_so, crate::proofs::Skipping::fed_is_passed, crate::proofs::Skipping::feeds_past, crate::proofs::Skipping::past_cuttings_alike))]
+pub fn skipping()
+    ensures some_past { SomePast }
+    ensures one_past { OnePast }
+    ensures past_goes_on { PastGoesOn }
+    ensures past_begins_so { PastBeginsSo }
+    ensures fed_is_passed { FedIsPassed }
+    ensures feeds_past { FeedsPast }
+    ensures past_cuttings_alike { PastCuttingsAlike }
 {}
 
 /// What the grammar takes spells the response. On the canonical text of a response that it yields, the grammar yields

@@ -5,9 +5,11 @@
 #![tactic(auto)]
 
 mod data;
+mod fetched;
 pub mod kept;
 pub mod laws;
 mod lines;
+mod logical_lines;
 mod outcome;
 mod outcomes;
 mod response;

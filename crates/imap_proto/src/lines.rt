@@ -1,9 +1,9 @@
 //! Lines: continuations, untagged data and tagged statuses.
 
 ghost use Rattle.imap_grammar.specs.Answer.{Steps, StepsExactly};
-ghost use Rattle.imap_grammar.specs.Memory.{BeginsWord, FailsOnlyIf, SucceedsFor};
+ghost use Rattle.imap_grammar.specs.Memory.{FailsOnlyIf, SucceedsFor};
 ghost use Rattle.imap_grammar.specs.Rule.{run1};
-ghost use Rattle.imap_proto.specs.Memory.{BeginsTagged, MayWantMemory, TakesNone};
+ghost use Rattle.imap_proto.specs.Memory.{ContinuationMayWant, MayWantMemory, TaggedMayWant, TakesNone};
 ghost use Rattle.imap_proto.specs.Responses.{response_value};
 ghost use Rattle.imap_proto.specs.Lines as rule;
 
@@ -25,7 +25,7 @@ use std::alloc::Global;
 #[inline(never)]
 fn continuation(alloc: Global, i: &[u8]) -> IResult<&[u8], Response<'_>>
     ensures steps { Steps rule.continuation response_value i.now result }
-    ensures failure { FailsOnlyIf (BeginsWord "+" i.now) result }
+    ensures failure { FailsOnlyIf (ContinuationMayWant i.now) result }
     ensures memory { SucceedsFor TakesNone rule.continuation i.now result }
 {
     let (rest, _) = tag(b"+", i)?;
@@ -63,11 +63,11 @@ fn request_tag(i: &[u8]) -> IResult<&[u8], &str>
     }
 }
 
-#[tactic(auto, using(crate::proofs::Memory::begins_tagged), unfolding(crate::specs::Lines::tagged))]
+#[tactic(auto, unfolding(crate::specs::Lines::tagged))]
 #[inline(never)]
 fn tagged(alloc: Global, i: &[u8]) -> IResult<&[u8], Response<'_>>
     ensures steps { Steps rule.tagged response_value i.now result }
-    ensures failure { FailsOnlyIf (BeginsTagged i.now) result }
+    ensures failure { FailsOnlyIf (TaggedMayWant i.now) result }
 {
     let (rest, tag_text) = request_tag(i)?;
     let (rest, _) = tag(b" ", rest)?;

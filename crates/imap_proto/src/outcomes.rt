@@ -2,10 +2,12 @@
 
 ghost use Rattle.std.specs.Prelude.{◌≡◌, option_map, string_bytes};
 ghost use Rattle.imap_grammar.specs.Answer.{Steps};
-ghost use Rattle.imap_grammar.specs.Memory.{SucceedsFor};
-ghost use Rattle.imap_grammar.specs.Text.{text_of};
+ghost use Rattle.imap_grammar.specs.Memory.{Behind, FailsOnlyIf, SucceedsFor};
+ghost use Rattle.imap_grammar.specs.Tags.{sp};
+ghost use Rattle.imap_grammar.specs.Text.{text_of, IsOwned};
+ghost use Rattle.imap_bytes.specs.Texts.{text as text_rule, YieldsOwned};
 ghost use Rattle.imap_proto.specs.Responses.{outcome_value};
-ghost use Rattle.imap_proto.specs.Memory.{OutcomeTakesNone};
+ghost use Rattle.imap_proto.specs.Memory.{OutcomeMayWant, OutcomeTakesNone};
 ghost use Rattle.imap_proto.specs.Outcomes as outcomes;
 ghost use Rattle.imap_proto.specs.Outcomes.{after_first};
 
@@ -70,6 +72,7 @@ fn behind_code(text: CowStr<'_>) -> Option<CowStr<'_>>
 #[inline(never)]
 fn plain_outcome(alloc: Global, i: &[u8]) -> IResult<&[u8], Outcome<'_>>
     ensures steps { Steps outcomes.plain_outcome outcome_value i.now result }
+    ensures failure { FailsOnlyIf (YieldsOwned IsOwned text_rule i.now) result }
     ensures memory { SucceedsFor OutcomeTakesNone outcomes.plain_outcome i.now result }
 {
     let (rest, text) = text(alloc, i)?;
@@ -88,6 +91,7 @@ fn plain_outcome(alloc: Global, i: &[u8]) -> IResult<&[u8], Outcome<'_>>
 #[inline(never)]
 fn coded_outcome(alloc: Global, i: &[u8]) -> IResult<&[u8], Outcome<'_>>
     ensures steps { Steps outcomes.outcome outcome_value i.now result }
+    ensures failure { FailsOnlyIf (OutcomeMayWant i.now) result }
     ensures memory { SucceedsFor OutcomeTakesNone outcomes.outcome i.now result }
 {
     match tried(response_code(alloc, i))? {
@@ -112,6 +116,7 @@ fn coded_outcome(alloc: Global, i: &[u8]) -> IResult<&[u8], Outcome<'_>>
 #[tactic(auto, using(crate::proofs::FirstBytes::outcome_uncoded))]
 pub(crate) fn outcome(alloc: Global, i: &[u8]) -> IResult<&[u8], Outcome<'_>>
     ensures steps { Steps outcomes.outcome outcome_value i.now result }
+    ensures failure { FailsOnlyIf (OutcomeMayWant i.now) result }
     ensures memory { SucceedsFor OutcomeTakesNone outcomes.outcome i.now result }
 {
     match i.first() {
@@ -124,6 +129,7 @@ pub(crate) fn outcome(alloc: Global, i: &[u8]) -> IResult<&[u8], Outcome<'_>>
 #[tactic(auto, unfolding(crate::specs::Outcomes::spaced_outcome))]
 pub(crate) fn spaced_outcome(alloc: Global, i: &[u8]) -> IResult<&[u8], Outcome<'_>>
     ensures steps { Steps outcomes.spaced_outcome outcome_value i.now result }
+    ensures failure { FailsOnlyIf (Behind sp OutcomeMayWant i.now) result }
     ensures memory { SucceedsFor OutcomeTakesNone outcomes.spaced_outcome i.now result }
 {
     match tried(tag(b" ", i))? {

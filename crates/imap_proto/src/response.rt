@@ -1,6 +1,6 @@
 //! Responses.
 
-ghost use Rattle.std.specs.Prelude.{◌≡◌, map, option_map, string_bytes, IfOk, IsOk};
+ghost use Rattle.std.specs.Prelude.{◌≡◌, [], map, option_map, string_bytes, IfOk, IsOk};
 ghost use Rattle.imap_grammar.specs.Answer.{Answers, Steps};
 ghost use Rattle.imap_grammar.specs.Memory.{FailsOnlyIf, SucceedsFor};
 ghost use Rattle.imap_extensions.specs.Ids.{id_value, IsNil};
@@ -38,10 +38,14 @@ impl RequestId {
         self.0.as_bytes()
     }
 
-    /// The same tag. It takes memory; `Err`: memory ran out.
+    /// The same tag. It takes memory unless the tag is empty; `Err`: memory ran out.
     pub fn clone(&self) -> Result<Self, AllocError>
-        ensures { IfOk result (λ copy. string_bytes copy.0 ≡ string_bytes self.now.0) }
+        ensures same { IfOk result (λ copy. string_bytes copy.0 ≡ string_bytes self.now.0) }
+        ensures memory { string_bytes self.now.0 ≡ [] → IsOk result }
     {
+        if self.0.is_empty() {
+            return Ok(RequestId(String::new(*self.0.allocator())));
+        }
         Ok(RequestId(self.0.clone()?))
     }
 }
@@ -182,8 +186,9 @@ impl<'a> Response<'a> {
     /// It takes memory for lists, envelopes and body structures, for the map of an ID, for the tag of a tagged line,
     /// for the entry and the value of a `Metadata`, and for texts that are not UTF-8. So `Failure` is answered only for
     /// the tag of a tagged line that is there whole; in an outcome, where the word of a code that may hold a list stands
-    /// or the text is not UTF-8; and behind `* ` and a number and ` FETCH `, or one of some words. It is not answered
-    /// where the response is one number (`EXPUNGE`, `EXISTS`, `RECENT`, Gmail's), `ID NIL`, or an untagged status or a
+    /// or the text is not UTF-8; behind `* ` and a number and ` FETCH `, or one of some words; and behind FLAGS, LIST,
+    /// LSUB, STATUS, SEARCH, SORT and ACL only where a first item of their list or a text that is not UTF-8 stands. It is
+    /// not answered where the response is one number (`EXPUNGE`, `EXISTS`, `RECENT`, Gmail's), `ID NIL`, or an untagged status or a
     /// continuation with no list in its code and a borrowed text. One kind is excepted: a text without a code that
     /// begins as a code with a list does, as `[CAPABILITY`, since it is tried as that code first.
     #[inline(always)]

@@ -2,13 +2,20 @@
 //!
 //! However the bytes are cut into pieces, the same responses come of them: `laws::streams`.
 
-ghost use Rattle.std.specs.Prelude.{◌≡◌, ◌≤◌, ◌<◌, ◌+◌, ◌++◌, [], List, ℕ, length, map, drop, IfOk, IfErr, IfSome, OnOk, OnErr, MatchResult, Ok as Found, Err as Refused};
+ghost use Rattle.std.specs.Prelude.{◌≡◌, ◌≤◌, ◌<◌, ◌+◌, ◌++◌, [], List, ℕ, length, map, drop, IfOk, IfErr, IfSome, IsOk, OnOk, OnErr, MatchResult, Ok as Found, Err as Refused};
 ghost use Rattle.imap_grammar.specs.declared.answer.Err.TheVariants.{Failure};
 ghost use Rattle.imap_grammar.specs.Memory.{FailsOnlyIf};
 ghost use Rattle.imap_proto.specs.declared.stream.FeedError.TheVariants.{OutOfMemory};
 ghost use Rattle.imap_proto.specs.Streams.{Fed, joined};
+ghost use Rattle.imap_grammar.specs.Meaning.{Denies};
+ghost use Rattle.imap_grammar.specs.Rule.{meaning};
+ghost use Rattle.imap_proto.specs.Lines as rule;
+ghost use Rattle.imap_proto.specs.Fronts.{GaveFront, HasGivenFront, PassesFront};
+ghost use Rattle.imap_proto.specs.Skipping.{Passed, PassesPiece, PassesResponse, PassesLine, Dropped};
 ghost use Rattle.imap_proto.specs.Feeds.{Gave, HasGivenMore, IsFedMore, IsOwnedFront, IsFront, Settles, Puts, WaitsFor, RefusesAs, FeedMayWant, TakesAll, IsWhole};
 
+use crate::kept::{Front, kept_front};
+pub use crate::logical_lines::logical_line;
 use crate::response::Response;
 use crate::whole;
 use imap_bytes::at::Reached;
@@ -106,7 +113,7 @@ fn reached<R: Drop>(left: usize, owned: Result<R, AllocError>) -> Reached<R>
 }
 
 // The response at the front with all its texts owned, and how many bytes are behind it.
-fn owned_front(alloc: Global, held: &[u8]) -> Reached<Response<'static>>
+pub(crate) fn owned_front(alloc: Global, held: &[u8]) -> Reached<Response<'static>>
     ensures front { IsOwnedFront held.now result }
     ensures within { IfOk result (λ x. x.0 ≤ length held.now) }
     ensures failure { FailsOnlyIf (FeedMayWant held.now) result }
@@ -122,6 +129,7 @@ impl Feed {
     pub fn new(alloc: Global) -> Feed
         ensures empty { result ≡ [] }
         ensures begins { Fed [] [] result }
+        ensures passes { Passed [] [] result }
     {
         Feed {
             alloc,
@@ -135,6 +143,7 @@ impl Feed {
     pub fn feed(&mut self, piece: &[u8]) -> Result<(), AllocError>
         ensures fed { OnOk result (self.new ≡ self.old ++ piece.now) }
         ensures goes_on { OnOk result (IsFedMore self.old piece.now self.new) }
+        ensures passes { OnOk result (PassesPiece self.old piece.now self.new) }
         ensures kept { OnErr result (self.new ≡ self.old) }
     {
         self.bytes.extend_from_slice(piece)?;
@@ -161,6 +170,7 @@ impl Feed {
     pub fn next(&mut self) -> Result<Option<Response<'static>>, FeedError>
         ensures gives { IfOk result (λ r. Gave self.old r self.new) }
         ensures goes_on { IfOk result (λ r. IfSome r (λ x. HasGivenMore self.old x self.new)) }
+        ensures passes { IfOk result (λ r. IfSome r (λ x. PassesResponse self.old x self.new)) }
         ensures fewer { IfOk result (λ r. IfSome r (λ _. length self.new < length self.old)) }
         ensures denied { IfErr result (RefusesAs self.old) }
         ensures kept { OnErr result (self.new ≡ self.old) }
@@ -170,6 +180,50 @@ impl Feed {
         }
         let front = owned_front(self.alloc, self.held());
         self.settle(front)
+    }
+
+    /// What `next` gives, but a `FETCH` is kept: its bytes once, and where its attributes stand in them. It is read
+    /// once, and no text of it is copied apart from those bytes.
+    ///
+    /// It takes memory, for a `FETCH` as `KeptFetch::keep` does, and for another response as `next` does; its faults
+    /// are those of `next`. `next` and `next_kept` may be called by turns.
+    pub fn next_kept(&mut self) -> Result<Option<Front>, FeedError>
+        ensures gives { IfOk result (λ r. GaveFront self.old r self.new) }
+        ensures goes_on { IfOk result (λ r. IfSome r (λ x. HasGivenFront self.old x self.new)) }
+        ensures passes { IfOk result (λ r. IfSome r (λ x. PassesFront self.old x self.new)) }
+        ensures fewer { IfOk result (λ r. IfSome r (λ _. length self.new < length self.old)) }
+        ensures denied { IfErr result (RefusesAs self.old) }
+        ensures kept { OnErr result (self.new ≡ self.old) }
+    {
+        if self.wanted > 0 {
+            return Ok(None);
+        }
+        let kept = kept_front(self.alloc, self.held());
+        self.settle(kept)
+    }
+
+    /// Drops the logical line at the front of what it holds (RFC 3501, sections 2.2 and 4.3), and tells its length with
+    /// its CRLF: so `next` reads what is behind it. `None` where the line isn't whole yet: then nothing changes, and
+    /// the same call may be made again behind more bytes. No memory.
+    ///
+    /// It is meant for a line that `next` has `Denied`, one with no rule. What came of the bytes is the same then,
+    /// however they were cut: `laws::skipping`. A whole response is dropped too, where one stands in front. The feed
+    /// knows neither whether the server meant a literal where the line's bytes look like one, as in a text that ends in
+    /// `{5}`, nor where a line of a server that breaks the rules ends: so what follows may be a part of the same line.
+    /// And a tagged line that is skipped is lost to the command that waits for it.
+    pub fn skip_line(&mut self) -> Option<usize>
+        ensures drops { Dropped self.old result self.new }
+        ensures passes { Denies (meaning rule.response) self.old →
+            IfSome result (λ n. PassesLine self.old n self.new) }
+        ensures fewer { IfSome result (λ n. (0 < n) × (length self.new + n ≡ length self.old)) }
+    {
+        match logical_line(self.held()) {
+            Ok((rest, line)) => {
+                let skipped = Ok((rest.len(), line.len()));
+                self.settle(skipped).unwrap_or(None)
+            }
+            Err(_) => None,
+        }
     }
 
     // Moves on behind what stands in front, or waits for what is lacking.
@@ -234,10 +288,18 @@ fn take_all(feed: &mut Feed, responses: &mut Vec<Response<'static>>) -> Result<E
 
 /// All responses that stand in the pieces, one behind another, and what is left behind them.
 ///
-/// It takes memory; `Err`: memory ran out. Behind a denial no response is read.
+/// It takes memory unless there are no pieces; `Err`: memory ran out. Behind a denial no response is read.
 pub fn read_pieces(alloc: Global, pieces: &[&[u8]]) -> Result<Whole, AllocError>
     ensures whole { IfOk result (IsWhole (joined (map (λ p. p.now) pieces.now))) }
+    ensures memory { pieces.now ≡ [] → IsOk result }
 {
+    if pieces.is_empty() {
+        return Ok(Whole {
+            responses: Vec::new(alloc),
+            rest: Vec::new(alloc),
+            end: End::Waits,
+        });
+    }
     let mut feed = Feed::new(alloc);
     let mut responses = Vec::new(alloc);
     let mut end = End::Waits;

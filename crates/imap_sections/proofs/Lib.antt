@@ -4,3 +4,4 @@ pub mod Equality
 pub mod Visits
 pub mod PartNumbers
 pub mod Memory
+pub mod Dotted

@@ -11,7 +11,8 @@ use Rattle.imap_proto.specs.Responses.{ResponseValue, Capabilities, Continue, Do
 use Rattle.imap_session.specs.declared.event.Event.{Event}
 use Rattle.imap_session.specs.declared.errors.SessionError.{SessionError}
 use Rattle.imap_session.specs.declared.errors.SessionError.TheVariants as error
-use Rattle.imap_session.specs.Machine.{Machine, Denied, took, stopped_for}
+use Rattle.imap_session.specs.Machine.{Machine, took, stopped_for}
+use Rattle.imap_session.specs.States.{Denied}
 use Rattle.imap_session.specs.Answers.{AnswersNext, NextMayWant, JudgesFront, Settles, event_of}
 
 -- owned texts move nothing else

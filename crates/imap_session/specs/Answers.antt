@@ -1,5 +1,5 @@
 -- What the calls of a session answer, by the machine.
-use Rattle.std.specs.Prelude.{◌≡◌, ◌≢◌, ℕ, Bool, true, false, not, ◌==◌, ◌||◌, List, Option, None, Some, Result, Ok, Err}
+use Rattle.std.specs.Prelude.{◌≡◌, ◌≢◌, ℕ, Bool, true, false, not, ◌==◌, ◌||◌, List, length, Option, None, Some, Result, Ok, Err}
 use Rattle.std.specs.declared.alloc.Global.{Global}
 use Rattle.std.specs.declared.vec.Vec.{Vec}
 use Rattle.imap_items.specs.declared.types.statuses.Status.{Status}
@@ -20,7 +20,8 @@ use Rattle.imap_session.specs.declared.errors.SendError.{SendError}
 use Rattle.imap_session.specs.declared.errors.SendError.TheVariants as refusal
 use Rattle.imap_session.specs.declared.errors.SessionError.{SessionError}
 use Rattle.imap_session.specs.declared.errors.SessionError.TheVariants as error
-use Rattle.imap_session.specs.Machine.{Machine, Pending, Sent, Busy, Exhausted, Sends, IsExpected, took, stopped_for, Takes, Waits, Stop, Stops, Denied, StrangeTag, Nexts}
+use Rattle.imap_session.specs.Machine.{Machine, Pending, Sent, Busy, Exhausted, Sends, IsExpected, took, stopped_for, Takes, Waits, Stops, Nexts, Skips, Keeps, SkipsLine}
+use Rattle.imap_session.specs.States.{Stop, Denied, StrangeTag}
 use Rattle.imap_session.specs.Tags.{last_number}
 
 -- a response, or how the pending command was finished
@@ -61,6 +62,12 @@ AnswersNext a (Ok None) b = Nexts a Waits b
 AnswersNext a (Err error.Denied) b = Nexts a (Stops Denied) b
 AnswersNext a (Err error.StrangeTag) b = Nexts a (Stops StrangeTag) b
 AnswersNext a (Err error.OutOfMemory) b = Unit {0}
+
+-- `skip_line` answers as the machine, with the length of the line
+abbrev pub AnswersSkip : Machine → Option ℕ → Machine → Type 0
+AnswersSkip a (Some n) b =
+    (why : Stop) × (line : Bytes) × SkipsLine a (Skips why line) b × (n ≡ length line)
+AnswersSkip a None b = SkipsLine a Keeps b
 
 -- the error that says why it stopped
 abbrev pub Stopped : Stop → SessionError → Type 0

@@ -6,20 +6,16 @@ use Rattle.imap_grammar.specs.Text.{Bytes}
 use Rattle.imap_command.specs.declared.command.State.{State}
 use Rattle.imap_command.specs.declared.command.State.TheVariants.{NotAuthenticated}
 use Rattle.imap_proto.specs.Lines.{response}
+use Rattle.imap_proto.specs.LogicalLines.{logical_line}
 use Rattle.imap_proto.specs.Responses.{ResponseValue, Done}
 use Rattle.imap_proto.specs.Streams.{Waiting}
-use Rattle.imap_session.specs.States.{moved}
+use Rattle.imap_session.specs.States.{Stop, Denied, StrangeTag, moved}
 use Rattle.imap_session.specs.Tags.{tag, last_number, line}
 
 -- a command that the server has not finished: its tag, and the state that it leads to, if it leads to one
 pub record Pending : Type 0 where
   pub tag : Bytes
   pub next_state : Option State
-
--- why no more responses are taken: no response begins so, or a line has a tag that no pending command has
-pub data Stop : Type 0 where
-  Denied : Stop
-  StrangeTag : Stop
 
 pub record Machine : Type 0 where
   pub state : State
@@ -138,3 +134,27 @@ Nexts a Waits b = (a.stopped ≡ None) × Waiting a.held × (b ≡ a)
 Nexts a (Stops why) b =
     ((a.stopped ≡ Some why) × (b ≡ a))
     ⊎ ((a.stopped ≡ None) × StopsFor a why × (b ≡ stopped_for why a))
+
+-- ---- skip_line
+
+-- what is answered: the line that was skipped, and why it had stopped there; or that none was
+pub data Skipping : Type 0 where
+  Skips : Stop → Bytes → Skipping
+  Keeps : Skipping
+
+-- behind a line, where this is left of the bytes
+abbrev pub went_on : Bytes → Machine → Machine
+went_on left a = record a { stopped = None; held = left }
+
+-- It is answered so, and this is the machine then: where it has stopped, the logical line at the front is skipped, and
+-- it goes on behind that. Where it hasn't stopped, or the line isn't whole, it is as it was.
+abbrev pub SkipsLine : Machine → Skipping → Machine → Type 0
+SkipsLine a (Skips why line) b =
+    (left : Bytes)
+    × (a.stopped ≡ Some why)
+    × (meaning logical_line).yields a.held line left
+    × (b ≡ went_on left a)
+SkipsLine a Keeps b =
+    ((a.stopped ≡ None)
+    ⊎ ((line left : Bytes) → ¬ ((meaning logical_line).yields a.held line left)))
+    × (b ≡ a)

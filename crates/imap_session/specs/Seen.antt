@@ -4,7 +4,8 @@ use Rattle.imap_session.specs.declared.pending.Pending.{Pending as Kept}
 use Rattle.imap_session.specs.declared.session.Stop.{Stop as Noted}
 use Rattle.imap_session.specs.declared.session.Stop.TheVariants as noted
 use Rattle.imap_session.specs.declared.session.Session.TheInside.{Inside}
-use Rattle.imap_session.specs.Machine.{Pending, Stop, Denied, StrangeTag, Machine}
+use Rattle.imap_session.specs.Machine.{Pending, Machine}
+use Rattle.imap_session.specs.States.{Stop, Denied, StrangeTag}
 use Rattle.imap_session.specs.Tags.{tag}
 
 abbrev pub pending_of : Kept → Pending

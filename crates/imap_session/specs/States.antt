@@ -1,16 +1,24 @@
 -- The state of a connection (RFC 3501, section 3), by the commands that were accepted and the responses that were
--- taken. Nothing here knows bytes or tags.
+-- taken; lines that were skipped don't change it. Nothing here reads bytes or knows tags.
 use Rattle.std.specs.Prelude.{Bool, true, false, List, [], ◌∷◌, reverse, Option, None, Some}
+use Rattle.imap_grammar.specs.Text.{Bytes}
 use Rattle.imap_command.specs.declared.command.State.{State}
 use Rattle.imap_command.specs.declared.command.State.TheVariants.{NotAuthenticated, Authenticated, Selected, Logout}
 use Rattle.imap_items.specs.declared.types.statuses.Status.{Status}
 use Rattle.imap_items.specs.declared.types.statuses.Status.TheVariants as status
 use Rattle.imap_proto.specs.Responses.{ResponseValue, Done, Data}
 
--- a command was accepted, which leads to this state, if it leads to one; or a response was taken
+-- why no more responses are taken: no response begins so, or a line has a tag that no pending command has
+pub data Stop : Type 0 where
+  Denied : Stop
+  StrangeTag : Stop
+
+-- A command was accepted, which leads to this state, if it leads to one; or a response was taken; or a line was
+-- skipped, for which no more responses were taken.
 pub data Happening : Type 0 where
   Accepted : Option State → Happening
   Took : ResponseValue → Happening
+  Skipped : Stop → Bytes → Happening
 
 -- ---- one response
 
@@ -57,17 +65,20 @@ abbrev pub is_first : List Happening → Bool
 is_first [] = true
 is_first (Accepted next ∷ before) = is_first before
 is_first (Took v ∷ before) = false
+is_first (Skipped why line ∷ before) = is_first before
 
 -- the state that the newest command leads to
 abbrev pub led_to : List Happening → Option State
 led_to [] = None
 led_to (Accepted next ∷ before) = next
 led_to (Took v ∷ before) = led_to before
+led_to (Skipped why line ∷ before) = led_to before
 
 abbrev pub state_behind : List Happening → State
 state_behind [] = NotAuthenticated
 state_behind (Accepted next ∷ before) = state_behind before
 state_behind (Took v ∷ before) = moved v (is_first before) (led_to before) (state_behind before)
+state_behind (Skipped why line ∷ before) = state_behind before
 
 -- ---- in order
 
@@ -80,9 +91,17 @@ abbrev pub taken : List Happening → List ResponseValue
 taken [] = []
 taken (Accepted next ∷ more) = taken more
 taken (Took v ∷ more) = v ∷ taken more
+taken (Skipped why line ∷ more) = taken more
 
--- which commands were accepted between which responses, whatever these say: `None` stands for a response
-abbrev pub outline : List Happening → List (Option (Option State))
+-- one of what happened, whatever it says
+pub data Mark : Type 0 where
+  Command : Option State → Mark
+  Response : Mark
+  Line : Mark
+
+-- which commands were accepted between which responses and which skipped lines, whatever these say
+abbrev pub outline : List Happening → List Mark
 outline [] = []
-outline (Accepted next ∷ more) = Some next ∷ outline more
-outline (Took v ∷ more) = None ∷ outline more
+outline (Accepted next ∷ more) = Command next ∷ outline more
+outline (Took v ∷ more) = Response ∷ outline more
+outline (Skipped why line ∷ more) = Line ∷ outline more

@@ -32,11 +32,12 @@ impl From<AllocError> for SendError {
 /// Why a session gives no event.
 #[derive(Debug, PartialEq, Eq, Drop, Error)]
 pub enum SessionError {
-    /// No response begins with what it holds, whatever is fed behind that. Every later call of `next` says so again.
+    /// No response begins with what it holds, whatever is fed behind that. Every later call of `next` says so again,
+    /// until `skip_line` has dropped the line.
     #[error("denied")]
     Denied,
     /// A tagged line has another tag than the pending command, or no command is pending. Every later call of `next`
-    /// says so again.
+    /// says so again, until `skip_line` has dropped the line.
     #[error("strange tag")]
     StrangeTag,
     /// Memory ran out. The session is as it was before, and the same call may be made again.

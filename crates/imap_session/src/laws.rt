@@ -3,19 +3,25 @@
 ghost use Rattle.std.specs.Prelude.{◌≡◌};
 ghost use Rattle.imap_grammar.specs.Equality.{Tells};
 ghost use Rattle.imap_session.specs.Answers.{event_value, lent_event};
-ghost use Rattle.imap_session.specs.Runs.{NoneIsLost, StateFollows, CuttingsAlike};
+ghost use Rattle.imap_session.specs.Runs.{AllIsPassed, NoneIsLost, OutcomeFollows, StateFollows, CuttingsAlike};
 
 use crate::errors::{SendError, SessionError};
 use crate::event::Event;
 use imap_proto::laws;
 
-/// After any steps of a new session, the responses that were taken, and then those that stand in the bytes it holds,
-/// are those that stand in all bytes that it was fed, with the same rest and the same end: none is skipped, and none is
-/// lost. Its state is the one that the accepted commands and the taken responses give, in their order. So where the
-/// same bytes are cut otherwise, and the same commands are accepted between the same responses, the state is the same.
-#[tactic(auto, using(crate::proofs::Runs::none_is_lost, crate::proofs::Runs::state_follows, crate::proofs::Runs::cuttings_alike))]
+/// After any steps of a new session, the responses that were taken and the lines that were skipped, and then the bytes
+/// that it holds, are all bytes that it was fed. Where no line was skipped, the responses that were taken, and then
+/// those that stand in the held bytes, are those that stand in all bytes that it was fed, with the same rest and the
+/// same end: none is skipped, and none is lost. Where only denied lines were skipped, the same holds of the responses
+/// and lines of the outcome that a stream has which is read on behind denied lines (`imap_proto::laws::skipping`). Its
+/// state is the one that the accepted commands and the taken responses give, in their order. So where the same bytes
+/// are cut otherwise, and the same commands are accepted between the same responses and skipped lines, these and the
+/// state are the same.
+#[tactic(auto, using(crate::proofs::Runs::all_is_passed, crate::proofs::Runs::none_is_lost, crate::proofs::Runs::outcome_follows, crate::proofs::Runs::state_follows, crate::proofs::Runs::cuttings_alike))]
 pub fn runs()
+    ensures all_is_passed { AllIsPassed }
     ensures none_is_lost { NoneIsLost }
+    ensures outcome_follows { OutcomeFollows }
     ensures state_follows { StateFollows }
     ensures cuttings_alike { CuttingsAlike }
 {}

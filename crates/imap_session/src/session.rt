@@ -1,12 +1,12 @@
 //! A session.
 
-ghost use Rattle.std.specs.Prelude.{◌≡◌, ◌<◌, length, IfOk, IfErr, IfSome, OnOk, OnErr};
+ghost use Rattle.std.specs.Prelude.{◌≡◌, ◌<◌, ◌+◌, length, IfOk, IfErr, IfSome, OnOk, OnErr};
 ghost use Rattle.imap_proto.specs.Responses.{response_value};
 ghost use Rattle.imap_session.specs.declared.errors.SendError.TheVariants as refusal;
 ghost use Rattle.imap_session.specs.declared.errors.SessionError.TheVariants as error;
 ghost use Rattle.imap_session.specs.Machine.{new, fed, took, stopped_for};
 ghost use Rattle.imap_session.specs.Seen.{stop_of};
-ghost use Rattle.imap_session.specs.Answers.{AnswersSend, IsReady, AnswersNext, NextMayWant, Settles, Stopped};
+ghost use Rattle.imap_session.specs.Answers.{AnswersSend, IsReady, AnswersNext, AnswersSkip, NextMayWant, Settles, Stopped};
 
 use crate::errors::{SendError, SessionError};
 use crate::event::{Event, event_of};
@@ -129,8 +129,9 @@ impl Session {
     ///
     /// `Denied`: no response begins so. `StrangeTag`: a tagged line has another tag than the pending command, or no
     /// command is pending; the line is still held. Behind both each later call answers the same, whatever is fed, and
-    /// takes no memory. Otherwise it takes memory; `OutOfMemory`: memory ran out, the session is as it was, and the
-    /// same call may be made again. An event takes at least one byte, so a loop over `next` ends.
+    /// takes no memory, until `skip_line` has dropped the line. Otherwise it takes memory; `OutOfMemory`: memory ran
+    /// out, the session is as it was, and the same call may be made again. An event takes at least one byte, so a loop
+    /// over `next` ends.
     pub fn next(&mut self) -> Result<Option<Event>, SessionError>
         ensures step { AnswersNext self.old result self.new }
         ensures fewer { IfOk result (λ r.
@@ -149,6 +150,27 @@ impl Session {
             Ok(true) => Err(self.stop(Stop::StrangeTag)),
             Err(_) => Err(SessionError::OutOfMemory),
         }
+    }
+
+    /// Behind `Denied` or `StrangeTag`: drops the logical line at the front of the held bytes (RFC 3501, sections 2.2
+    /// and 4.3), tells its length with its CRLF, and goes on behind it, as if the line had not come. `None` where the
+    /// line isn't whole yet, and where the session hasn't stopped, so that no line in good order is lost: then nothing
+    /// changes, and the same call may be made again behind more bytes. No memory.
+    ///
+    /// What such a line told is lost: where the pending command's own tagged line was denied, no later line finishes
+    /// that command. What a line without a rule means by its bytes isn't known: `Feed::skip_line` says where a skipped
+    /// line may end too early or too late.
+    pub fn skip_line(&mut self) -> Option<usize>
+        ensures step { AnswersSkip self.old result self.new }
+        ensures fewer { IfSome result (λ n.
+            (0 < n) × (length self.new.held + n ≡ length self.old.held)) }
+    {
+        if self.stopped.is_none() {
+            return None;
+        }
+        let skipped = self.feed.skip_line()?;
+        self.stopped = None;
+        Some(skipped)
     }
 
     // Answers what the feed gave.

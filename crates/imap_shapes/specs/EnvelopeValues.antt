@@ -1,5 +1,5 @@
 -- What an envelope says, each of its byte strings as a text (RFC 3501, section 9: envelope, address).
-use Rattle.std.specs.Prelude.{List, Option, map}
+use Rattle.std.specs.Prelude.{◌≡◌, List, Option, None, map}
 use Rattle.std.specs.Option.{option_map}
 use Rattle.std.specs.declared.alloc.Global.{Global}
 use Rattle.std.specs.declared.vec.Vec.{Vec}
@@ -21,6 +21,10 @@ address_seen f a =
       mailbox = option_map f a.mailbox;
       host = option_map f a.host;
     }
+
+-- it holds no text
+abbrev pub IsBlank : {B : Type 0} → Address B → Type 0
+IsBlank a = (a.name ≡ None) × (a.adl ≡ None) × (a.mailbox ≡ None) × (a.host ≡ None)
 
 abbrev pub addresses_seen :
     {B : Type 0} → (B → Text) → Option (Vec (Address B) Global) → Option (List AddressValue)

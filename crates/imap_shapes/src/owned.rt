@@ -6,7 +6,7 @@
 ghost use Rattle.std.specs.Prelude.{◌≡◌, IfOk, IsOk};
 ghost use Rattle.imap_grammar.specs.Text.{text_of};
 ghost use Rattle.imap_shapes.specs.Spans.{bytes_of, bytes_owned, text_owned};
-ghost use Rattle.imap_shapes.specs.EnvelopeValues.{address_seen, envelope_seen};
+ghost use Rattle.imap_shapes.specs.EnvelopeValues.{IsBlank, address_seen, envelope_seen};
 ghost use Rattle.imap_shapes.specs.FieldValues.{encoding_seen, fields_seen, HoldsNone};
 ghost use Rattle.imap_shapes.specs.ExtensionValues.{disposition_seen, extension_seen, ext_1part_seen, ext_mpart_seen};
 ghost use Rattle.imap_shapes.specs.BodyValues.{type_seen, common_seen, single_seen, body_seen};
@@ -20,10 +20,12 @@ use crate::types::fields::{BodyFields, ContentEncoding};
 use std::alloc::{AllocError, Global};
 
 impl<'a> Address<'a> {
-    /// The same address with all texts owned. It takes memory, also for texts that are owned already; `Err`: memory ran
-    /// out.
+    /// The same address with all texts owned. It takes memory only for texts, also for those that are owned already;
+    /// `Err`: memory ran out.
     pub fn into_owned(self, alloc: Global) -> Result<Address<'static>, AllocError>
-        ensures { IfOk result (λ x. address_seen bytes_of x ≡ address_seen bytes_owned self.entry) }
+        ensures owned { IfOk result (λ x.
+            address_seen bytes_of x ≡ address_seen bytes_owned self.entry) }
+        ensures memory { IsBlank self.entry → IsOk result }
     {
         let owned = self.try_map(&Owning::new(alloc));
         drop(self);

@@ -18,8 +18,8 @@ fn is<E: Drop>(command: Result<Command, E>, args: &str, next_state: Option<State
     }
 }
 
-// Asserts that a command was made so.
-fn assert_is<E: Drop>(
+/// Asserts that a command was made so.
+pub fn assert_is<E: Drop>(
     rt: &impl Abort,
     command: Result<Command, E>,
     args: &str,
@@ -149,27 +149,30 @@ fn is_refused(answer: Result<Command, BuildError>, refusal: &BuildError) -> bool
     }
 }
 
-fn assert_refused(rt: &impl Abort, answer: Result<Command, BuildError>, refusal: BuildError) {
-    assert!(rt; is_refused(answer, &refusal), "{refusal}");
+/// Asserts that a command was refused so.
+pub fn assert_refused(rt: &impl Abort, answer: Result<Command, BuildError>, refusal: &BuildError) {
+    assert!(rt; is_refused(answer, refusal), "{refusal}");
 }
 
 #[test]
 fn refused_arguments(rt: HostRuntime) {
     let alloc = rt.alloc();
     let login = CommandBuilder::login(alloc, "a", "b\n");
-    assert_refused(&rt, login, BuildError::LineFeed);
+    assert_refused(&rt, login, &BuildError::LineFeed);
     let login = CommandBuilder::login(alloc, "\0\n", "x");
-    assert_refused(&rt, login, BuildError::Nul);
+    assert_refused(&rt, login, &BuildError::Nul);
     let list = CommandBuilder::list(alloc, "a\r\n", "b");
-    assert_refused(&rt, list, BuildError::CarriageReturn);
-    assert_refused(&rt, selected(alloc, "\n\r"), BuildError::LineFeed);
-    assert_refused(&rt, examined(alloc, "a\0"), BuildError::Nul);
+    assert_refused(&rt, list, &BuildError::CarriageReturn);
+    assert_refused(&rt, selected(alloc, "\n\r"), &BuildError::LineFeed);
+    assert_refused(&rt, examined(alloc, "a\0"), &BuildError::Nul);
 }
 
 static REFUSALS: &[(BuildError, &str)] = &[
     (BuildError::CarriageReturn, "carriage return in an argument"),
     (BuildError::LineFeed, "line feed in an argument"),
     (BuildError::Nul, "zero byte in an argument"),
+    (BuildError::BadName, "not the name of a command"),
+    (BuildError::BadWord, "not a word"),
     (BuildError::OutOfMemory, "out of memory"),
 ];
 

@@ -1,11 +1,15 @@
 //! Fetches that are kept, and attributes as positions: what they tell of their message, and of another one in its
 //! place.
 
-use crate::answers::{NOTHING, Rows, assert_row, parses, says, says_at, shows, told};
+use crate::answers::{NOTHING, Rows, assert_row, parses, says, says_at, shows, told, value_of};
+use crate::owned::response_alone;
 use crate::{codes, extensions, fetches, mailboxes, statuses};
+use imap_attributes::owned_attributes;
+use imap_body::AttributeValue;
 use imap_body::spanned::{SpannedAttribute, attribute_list_at};
 use imap_body::spans::Span;
 use imap_bytes::at::Reached;
+use imap_proto::Response;
 use imap_proto::imap_core::Err;
 use imap_proto::kept::KeptFetch;
 use std::alloc::{AllocError, Global};
@@ -47,8 +51,8 @@ fn told_fetch(alloc: Global, kept: &KeptFetch) -> Result<Fetch, AllocError> {
     Ok(Fetch(kept.number(), attributes))
 }
 
-// Whether a kept fetch is told so as a response, with what is left of the line behind its bytes.
-fn tells(alloc: Global, kept: &KeptFetch, line: &[u8], want: &str) -> bool {
+/// Whether a kept fetch is told so as a response, with what is left of the line behind its bytes.
+pub fn tells(alloc: Global, kept: &KeptFetch, line: &[u8], want: &str) -> bool {
     let front = kept.bytes();
     match (line.get(front.len()..), told_fetch(alloc, kept)) {
         (Some(rest), Ok(fetch)) => {
@@ -64,6 +68,75 @@ pub fn is_kept(alloc: Global, line: &[u8], want: &str) -> bool {
         Ok(Some(kept)) => tells(alloc, &kept, line, want),
         Ok(None) => false,
         Err(error) => says(alloc, Err::<(&[u8], u32), _>(error), want),
+    }
+}
+
+// What is kept, as a list.
+fn kept_attributes<'a>(
+    alloc: Global,
+    kept: &'a KeptFetch,
+) -> Result<Vec<AttributeValue<'a>>, AllocError> {
+    let mut attributes = Vec::new(alloc);
+    for k in 0..kept.len() {
+        attributes.push(kept.attribute(k)?)?;
+    }
+    Ok(attributes)
+}
+
+// The attributes of a response that is a FETCH.
+fn attributes_of<'a>(answer: Result<Response<'a>, Err>) -> Option<Vec<AttributeValue<'a>>> {
+    match answer {
+        Ok(Response::Fetch(_, attributes)) => Some(attributes),
+        Ok(other) => {
+            drop(other);
+            None
+        }
+        Err(_) => None,
+    }
+}
+
+// Whether both are there, and are equal.
+fn are_equal<T: PartialEq + Drop>(one: Option<T>, other: Option<T>) -> bool {
+    match (&one, &other) {
+        (Some(one), Some(other)) => one == other,
+        _ => false,
+    }
+}
+
+// Whether what is kept equals what is parsed.
+fn equals_parsed<'a>(alloc: Global, kept: &'a KeptFetch, line: &'a [u8]) -> bool {
+    are_equal(
+        kept_attributes(alloc, kept).ok(),
+        attributes_of(value_of(Response::parse(alloc, line))),
+    )
+}
+
+// What is kept, made owned.
+fn owned_kept(alloc: Global, kept: &KeptFetch) -> Option<Vec<AttributeValue<'static>>> {
+    match kept_attributes(alloc, kept) {
+        Ok(attributes) => {
+            let owned = owned_attributes(alloc, &attributes);
+            drop(attributes);
+            owned.ok()
+        }
+        Err(_) => None,
+    }
+}
+
+// Whether what is kept, made owned, equals what is parsed and made owned.
+fn equals_owned(alloc: Global, kept: &KeptFetch, line: &[u8]) -> bool {
+    are_equal(
+        owned_kept(alloc, kept),
+        attributes_of(response_alone(alloc, line)),
+    )
+}
+
+// Whether the line's fetch, if it is kept, equals what is parsed, borrowed and owned.
+fn is_equal_kept(alloc: Global, line: &[u8]) -> bool {
+    match KeptFetch::keep(alloc, line) {
+        Ok(Some(kept)) => equals_parsed(alloc, &kept, line) && equals_owned(alloc, &kept, line),
+        Ok(None) => false,
+        Err(_) => true,
     }
 }
 
@@ -93,6 +166,7 @@ fn assert_none_kept(rt: &impl Abort, alloc: Global, tables: &[Rows]) {
 fn assert_kept(rt: &impl Abort, alloc: Global, rows: Rows) {
     for (line, want) in rows {
         assert_row(rt, is_kept(alloc, line, want), want);
+        assert_row(rt, is_equal_kept(alloc, line), want);
     }
 }
 
@@ -115,7 +189,7 @@ fn no_fetch_no_keeping(rt: HostRuntime) {
 struct KeptLine {
     line: &'static [u8],
     number: u32,
-    attributes: usize,
+    attributes: &'static [&'static [u8]],
     bytes: usize,
     told: &'static str,
     alone: &'static str,
@@ -127,7 +201,7 @@ static KEPT: &[KeptLine] = &[
     KeptLine {
         line: b"* 2 FETCH (UID 7 FLAGS (\\Seen))\r\nzz",
         number: 2,
-        attributes: 2,
+        attributes: &[b"UID 7", b"FLAGS (\\Seen)"],
         bytes: 33,
         told: r#"Fetch(2, [Uid(7), Flags(["\\Seen"])]) then "zz""#,
         alone: r#"Fetch(2, [Uid(7), Flags(["\\Seen"])])"#,
@@ -135,7 +209,7 @@ static KEPT: &[KeptLine] = &[
     KeptLine {
         line: b"* 1 FETCH (ENVELOPE ({5}\r\n))\r\nxy",
         number: 1,
-        attributes: 1,
+        attributes: &[b"ENVELOPE ({5}\r\n)"],
         bytes: 30,
         told: r#"Fetch(1, [Unknown]) then "xy""#,
         alone: "Incomplete(Size(1))",
@@ -143,19 +217,29 @@ static KEPT: &[KeptLine] = &[
     KeptLine {
         line: b"* 1 FETCH (ENVELOPE ({15}\r\n) UID 7)\r\nabcdex",
         number: 1,
-        attributes: 2,
+        attributes: &[b"ENVELOPE ({15}\r\n)", b"UID 7"],
         bytes: 37,
         told: r#"Fetch(1, [Unknown, Uid(7)]) then "abcdex""#,
         alone: "Incomplete(Size(5))",
     },
 ];
 
+// Whether these are the bytes of the attributes.
+fn has_spans(kept: &KeptFetch, want: &[&[u8]]) -> bool {
+    for k in 0..kept.len() {
+        if want.get(k) != Some(&kept.span(k)) {
+            return false;
+        }
+    }
+    kept.len() == want.len()
+}
+
 // Whether what is kept of the line is this.
 fn is_kept_so(alloc: Global, want: &KeptLine) -> bool {
     match KeptFetch::keep(alloc, want.line) {
         Ok(Some(kept)) => {
             kept.number() == want.number
-                && kept.len() == want.attributes
+                && has_spans(&kept, want.attributes)
                 && kept.bytes().len() == want.bytes
                 && tells(alloc, &kept, want.line, want.told)
                 && parses(alloc, kept.bytes(), want.alone)

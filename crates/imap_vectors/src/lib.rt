@@ -25,13 +25,19 @@ mod extensions;
 #[cfg(test)]
 mod fetches;
 #[cfg(test)]
+mod fronts;
+#[cfg(test)]
 mod kept;
+#[cfg(test)]
+mod lines_skipped;
 #[cfg(test)]
 mod lists;
 #[cfg(test)]
 mod mailboxes;
 #[cfg(test)]
 mod nests;
+#[cfg(test)]
+mod other_commands;
 #[cfg(test)]
 mod owned;
 #[cfg(test)]

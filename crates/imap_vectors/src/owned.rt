@@ -202,8 +202,8 @@ pub fn parses_owned(alloc: Global, line: &[u8], want: &str) -> bool {
     says_owned(alloc, Response::parse(alloc, line), want)
 }
 
-// The response at the front of a copy of these bytes, made owned: the copy is gone when it is answered.
-fn response_alone(alloc: Global, line: &[u8]) -> Result<Response<'static>, Err> {
+/// The response at the front of a copy of these bytes, made owned: the copy is gone when it is answered.
+pub fn response_alone(alloc: Global, line: &[u8]) -> Result<Response<'static>, Err> {
     let copy = Vec::from_slice(alloc, line)?;
     value_of(owned(alloc, Response::parse(alloc, &copy)))
 }

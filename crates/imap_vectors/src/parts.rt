@@ -16,6 +16,8 @@ enum Sought {
     Text,
     /// A single part of so many octets.
     Octets(u32),
+    /// One of this subtype.
+    Subtype(&'static str),
 }
 
 fn octets(body: &BodyStructure<'_>) -> Option<u32> {
@@ -33,6 +35,9 @@ fn is_sought(body: &BodyStructure<'_>, sought: Sought) -> bool {
         (Sought::Basic, BodyStructure::Basic { .. }) => true,
         (Sought::Text, BodyStructure::Text { .. }) => true,
         (Sought::Octets(n), body) => octets(body) == Some(n),
+        (Sought::Subtype(name), body) => {
+            *body.content_type().subtype == *name && *body.common().ty.subtype == *name
+        }
         _ => false,
     }
 }
@@ -90,6 +95,11 @@ static SEARCHES: &[(&[u8], Sought, &str)] = &[
     (MIXED, Sought::Basic, "Some([2])"),
     (MESSAGE, Sought::Text, "None"),
     (MESSAGE, Sought::Octets(9), "Some([])"),
+    (MESSAGE, Sought::Subtype("RFC822"), "Some([])"),
+    (MESSAGE, Sought::Subtype("B"), "None"),
+    (MIXED, Sought::Subtype("PLAIN"), "Some([1])"),
+    (MIXED, Sought::Subtype("PNG"), "Some([2])"),
+    (MIXED, Sought::Subtype("MIXED"), "Some([])"),
 ];
 
 // The path of the first body that is sought in the body at the front.

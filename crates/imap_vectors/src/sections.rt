@@ -1,10 +1,10 @@
 //! Sections of bodies: which part of a message is meant.
 
-use crate::answers::{Reads, Rows, WAITS, assert_reads, says};
+use crate::answers::{Reads, Rows, WAITS, assert_reads, is_text, says};
 use imap_proto::rfc3501::body::{
     MessageSection, SectionPath, section, section_msgtext, section_part,
 };
-use std::alloc::Global;
+use std::alloc::{AllocError, Global};
 use std::test::*;
 
 static SECTIONS: Rows = &[
@@ -62,6 +62,23 @@ static PATHS: Rows = &[
     (b"]", "Error"),
 ];
 
+static SHOWN: Rows = &[
+    (b"1.2.mime]", "1.2.MIME"),
+    (b"007]", "7"),
+    (b"1.12.header.fields.not (a)]", "1.12.HEADER"),
+    (b"4294967295.2.3.4]", "4294967295.2.3.4"),
+    (b"text]", "TEXT"),
+    (b"x", "Error"),
+];
+
+// How the path at the front is shown.
+fn shown(alloc: Global, input: &[u8]) -> Result<String, AllocError> {
+    match SectionPath::parse(alloc, input) {
+        Ok((_, path)) => format!(in alloc; "{path}"),
+        Err(error) => format!(in alloc; "{error:?}"),
+    }
+}
+
 /// A reader of sections.
 enum Reader {
     Section,
@@ -69,6 +86,7 @@ enum Reader {
     Text,
     MessageSection,
     Path,
+    ShownPath,
 }
 
 impl Reads for Reader {
@@ -79,6 +97,7 @@ impl Reads for Reader {
             Reader::Text => says(alloc, section_msgtext(input), want),
             Reader::MessageSection => says(alloc, MessageSection::parse(input), want),
             Reader::Path => says(alloc, SectionPath::parse(alloc, input), want),
+            Reader::ShownPath => is_text(shown(alloc, input), want),
         }
     }
 }
@@ -92,6 +111,7 @@ fn sections(rt: HostRuntime) {
 fn parts_and_paths(rt: HostRuntime) {
     assert_reads(&rt, rt.alloc(), &Reader::Part, PARTS);
     assert_reads(&rt, rt.alloc(), &Reader::Path, PATHS);
+    assert_reads(&rt, rt.alloc(), &Reader::ShownPath, SHOWN);
 }
 
 // `MIME` is of parts alone.

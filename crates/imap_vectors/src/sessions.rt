@@ -33,6 +33,8 @@ enum Step {
     Send(Named, &'static str),
     // Bytes are fed: the events behind them, each with the state then, and the error that comes behind these.
     Feed(&'static [u8], &'static str),
+    // A line of so many bytes is skipped, or none is.
+    Skip(Option<usize>),
 }
 
 static LOGIN: &[Step] = &[
@@ -84,6 +86,40 @@ static CLOSED: &[Step] = &[
 static DENIED: &[Step] = &[
     Step::Feed(b"* X\r\n", "Denied"),
     Step::Feed(b"a OK\r\n", "Denied"),
+];
+
+// A denied line whose literal isn't whole at first; a tagged line that answers no command, which comes before its
+// command is sent; and a denied line that would have finished the command.
+static SKIPPED: &[Step] = &[
+    Step::Skip(None),
+    Step::Feed(
+        b"* OK a\r\n",
+        "Response(Data { status: Ok, outcome: Outcome { code: None, information: Some(\"a\") } }) NotAuthenticated ",
+    ),
+    Step::Skip(None),
+    Step::Feed(b"* X {3}\r\n\r\n", "Denied"),
+    Step::Skip(None),
+    Step::Feed(b"x\r\nA1 OK\r\n* PREAUTH b\r\n", "Denied"),
+    Step::Skip(Some(14)),
+    Step::Send(Named::Login, "A1 LOGIN \"u\" \"p\"\r\n"),
+    Step::Feed(
+        b"A1 OK\r\nA1 OK",
+        "Finished { status: Ok, outcome: Outcome { code: None, information: None } } Authenticated \
+         Response(Data { status: PreAuth, outcome: Outcome { code: None, information: Some(\"b\") } }) Authenticated \
+         StrangeTag",
+    ),
+    Step::Skip(Some(7)),
+    Step::Send(Named::SelectX, "A2 SELECT \"x\"\r\n"),
+    Step::Feed(b"\r\n", "StrangeTag"),
+    Step::Skip(Some(7)),
+    Step::Feed(b"A2 FINE\r\nA2 NO\r\n", "Denied"),
+    Step::Skip(Some(9)),
+    Step::Feed(
+        b"* 1 EXISTS\r\n",
+        "Finished { status: No, outcome: Outcome { code: None, information: None } } Authenticated \
+         Response(MailboxData(Exists(1))) Authenticated ",
+    ),
+    Step::Skip(None),
 ];
 
 // The line of a command that is sent, or why there is none.
@@ -162,6 +198,7 @@ fn assert_step(rt: &impl Abort, alloc: Global, session: &mut Session, step: &Ste
             Ok(command) => assert_row(rt, is_text(told_line(alloc, session, command), want), want),
             Err(_) => assert_row(rt, false, want),
         },
+        Step::Skip(want) => assert!(rt; session.skip_line() == *want, "{want:?}"),
         Step::Feed(bytes, want) => {
             assert_row(
                 rt,
@@ -184,7 +221,7 @@ fn assert_steps(rt: &impl Abort, alloc: Global, steps: &[Step], size: usize)
 
 #[test]
 fn sessions(rt: HostRuntime) {
-    for steps in [LOGIN, GREETED, LATE_PREAUTH, CLOSED, DENIED] {
+    for steps in [LOGIN, GREETED, LATE_PREAUTH, CLOSED, DENIED, SKIPPED] {
         assert_steps(&rt, rt.alloc(), steps, 100);
         assert_steps(&rt, rt.alloc(), steps, 1);
     }

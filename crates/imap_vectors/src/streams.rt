@@ -9,6 +9,7 @@ use imap_proto::Response;
 use imap_proto::imap_core::{Err, IResult};
 use imap_proto::stream::{Feed, read_pieces};
 use std::alloc::{AllocError, Global};
+use std::process::Abort;
 use std::test::*;
 
 // Whether a line says nothing of its message, parsed and kept, and may be cut.
@@ -127,11 +128,13 @@ pub fn may_be_cut(alloc: Global, line: &[u8]) -> bool {
 }
 
 /// What is done with a feed, or asked of it.
-enum Step {
+pub enum Step {
     /// These bytes are fed.
     Feed(&'static [u8]),
     /// The next call gives what is told so.
     Next(&'static str),
+    /// A line of so many bytes is skipped, or none is.
+    Skip(Option<usize>),
     /// These bytes are held.
     Held(&'static [u8]),
 }
@@ -167,15 +170,20 @@ fn does(alloc: Global, feed: &mut Feed, step: &Step) -> bool {
     match step {
         Step::Feed(bytes) => feed.feed(bytes).is_ok(),
         Step::Next(want) => gives(alloc, feed, want),
+        Step::Skip(want) => feed.skip_line() == *want,
         Step::Held(want) => holds(feed, want),
+    }
+}
+
+/// Asserts that a new feed does each of the steps.
+pub fn assert_steps(rt: &impl Abort, alloc: Global, steps: &[Step]) {
+    let mut feed = Feed::new(alloc);
+    for (k, step) in steps.iter().enumerate() {
+        assert!(rt; does(alloc, &mut feed, step), "step {k}");
     }
 }
 
 #[test]
 fn feeding(rt: HostRuntime) {
-    let alloc = rt.alloc();
-    let mut feed = Feed::new(alloc);
-    for (k, step) in STEPS.iter().enumerate() {
-        assert!(rt; does(alloc, &mut feed, step), "step {k}");
-    }
+    assert_steps(&rt, rt.alloc(), STEPS);
 }

@@ -3,7 +3,7 @@
 ghost use Rattle.std.specs.Prelude.{◌≡◌, ◌≤◌, length, drop, map, IfOk, IfErr};
 ghost use Rattle.imap_grammar.specs.Answer.{Answers, Steps};
 ghost use Rattle.imap_grammar.specs.Memory.{BeginsWord, FailsOnlyIf};
-ghost use Rattle.imap_grammar.specs.Positions.{named_in};
+ghost use Rattle.imap_grammar.specs.Positions.{Ahead, named_in, StepsAt};
 ghost use Rattle.imap_grammar.specs.declared.answer.Err.TheVariants.{Failure};
 ghost use Rattle.imap_attributes.specs.AttributeValues.{attribute_value, parts_in};
 ghost use Rattle.imap_body.specs.SpannedAttributes.{IsSliced, IsMadeAt};
@@ -97,5 +97,16 @@ pub fn attribute_list(alloc: Global, i: &[u8]) -> IResult<&[u8], Vec<AttributeVa
     ensures answer { Answers rules.attribute_list (λ x. map attribute_value x.items) i.now result }
     ensures memory { FailsOnlyIf (BeginsWord "(" i.now) result }
 {
-    sliced(i, kept_list(&Named { alloc, message: i }, alloc, i, 0))
+    sliced(i, attribute_values_at(alloc, i, 0))
+}
+
+/// The attributes of a message in parentheses, from p on (RFC 3501, section 9: msg-att). Its errors and what memory it
+/// takes are those of `attribute_list`.
+pub fn attribute_values_at(alloc: Global, m: &[u8], p: usize) -> Reached<Vec<AttributeValue<'_>>>
+    requires { p ≤ length m.now }
+    ensures steps { StepsAt rules.attribute_list (λ x. map attribute_value x.items) m.now p result }
+    ensures ahead { Ahead m.now p result }
+    ensures memory { FailsOnlyIf (BeginsWord "(" (drop p m.now)) result }
+{
+    kept_list(&Named { alloc, message: m }, alloc, m, p)
 }

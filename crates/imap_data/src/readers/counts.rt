@@ -1,6 +1,8 @@
 //! Items of STATUS, and numbers that were found.
 
 ghost use Rattle.imap_grammar.specs.Answer.{Steps, StepsExactly};
+ghost use Rattle.imap_grammar.specs.Lists.{opened};
+ghost use Rattle.imap_grammar.specs.Memory.{FailsOnlyIf, StartsWith};
 ghost use Rattle.imap_grammar.specs.Rule.{many};
 ghost use Rattle.imap_data.specs.Counts as counts;
 
@@ -77,9 +79,10 @@ pub(crate) fn status_item(i: &[u8]) -> IResult<&[u8], StatusAttribute>
     }
 }
 
-// Items of STATUS in parentheses, maybe none.
+// Items of STATUS in parentheses, maybe none. It takes memory only behind the first of them.
 pub(crate) fn status_items(alloc: Global, i: &[u8]) -> IResult<&[u8], Vec<StatusAttribute>>
-    ensures { Steps counts.status_items (λ x. x.items) i.now result }
+    ensures steps { Steps counts.status_items (λ x. x.items) i.now result }
+    ensures memory { FailsOnlyIf (StartsWith (opened counts.status_item) i.now) result }
 {
     parenthesized_list(alloc, status_item, i)
 }
@@ -94,16 +97,18 @@ pub(crate) fn found_number(i: &[u8]) -> IResult<&[u8], u32>
 }
 
 fn spaced_numbers(alloc: Global, i: &[u8]) -> IResult<&[u8], Vec<u32>>
-    ensures { Steps (many counts.found_number) (λ x. x.items) i.now result }
+    ensures steps { Steps (many counts.found_number) (λ x. x.items) i.now result }
+    ensures memory { FailsOnlyIf (StartsWith counts.found_number i.now) result }
 {
     repeated(alloc, found_number, i)
 }
 
 // Numbers, each behind a space, maybe none, and maybe a space behind them (RFC 3501, section 9: mailbox-data; RFC
-// 5256, section 5: sort-data).
+// 5256, section 5: sort-data). It takes memory only where a first number stands.
 #[tactic(auto, unfolding(crate::specs::Counts::found_numbers))]
 pub(crate) fn found_numbers(alloc: Global, i: &[u8]) -> IResult<&[u8], Vec<u32>>
-    ensures { Steps counts.found_numbers (λ x. x.items) i.now result }
+    ensures steps { Steps counts.found_numbers (λ x. x.items) i.now result }
+    ensures memory { FailsOnlyIf (StartsWith counts.found_number i.now) result }
 {
     let (rest, numbers) = spaced_numbers(alloc, i)?;
     let (rest, _) = maybe_space(rest)?;

@@ -2,9 +2,9 @@
 
 ghost use Rattle.std.specs.Prelude.{◌⊎◌};
 ghost use Rattle.imap_grammar.specs.Answer.{Answers, Steps, StepsExactly};
-ghost use Rattle.imap_grammar.specs.Memory.{BeginsWord, FailsOnlyIf, StartsWith, SucceedsFor};
+ghost use Rattle.imap_grammar.specs.Memory.{Behind, BeginsWord, FailsOnlyIf, StartsWith, SucceedsFor};
 ghost use Rattle.imap_data.specs.MailboxData as rules;
-ghost use Rattle.imap_data.specs.MailboxData.{BeginsListDatum};
+ghost use Rattle.imap_data.specs.MailboxData.{FlagsMayWant, NamesMayWant, StatusMayWant, NumbersMayWant, MailboxMayWant};
 ghost use Rattle.imap_data.specs.DatumValues.{datum_value, IsNumber, Listed};
 ghost use Rattle.imap_data.specs.Counts as counts;
 ghost use Rattle.imap_data.specs.Names as names;
@@ -25,7 +25,7 @@ use std::alloc::Global;
 #[inline(always)]
 fn flags(alloc: Global, i: &[u8]) -> IResult<&[u8], MailboxDatum<'_>>
     ensures steps { Steps rules.flags datum_value i.now result }
-    ensures memory { FailsOnlyIf (BeginsWord "FLAGS " i.now) result }
+    ensures memory { FailsOnlyIf (FlagsMayWant i.now) result }
 {
     worded!(i: b"FLAGS ", flag_list(alloc) => MailboxDatum::Flags)
 }
@@ -35,7 +35,7 @@ fn flags(alloc: Global, i: &[u8]) -> IResult<&[u8], MailboxDatum<'_>>
 fn listed<'a>(alloc: Global, text: &[u8], i: &'a [u8]) -> IResult<&'a [u8], MailboxDatum<'a>>
     ensures steps { Steps (gives Listed (tag_by same_letter text.now ▹ names.list_data)) datum_value
         i.now result }
-    ensures memory { FailsOnlyIf (StartsWith (tag_by same_letter text.now) i.now) result }
+    ensures memory { FailsOnlyIf (Behind (tag_by same_letter text.now) names.ListMayWant i.now) result }
 {
     let (rest, _) = word(text, i)?;
     let (rest, list) = list_data(alloc, rest)?;
@@ -46,7 +46,7 @@ fn listed<'a>(alloc: Global, text: &[u8], i: &'a [u8]) -> IResult<&'a [u8], Mail
 #[inline(always)]
 fn status(alloc: Global, i: &[u8]) -> IResult<&[u8], MailboxDatum<'_>>
     ensures steps { Steps rules.status datum_value i.now result }
-    ensures memory { FailsOnlyIf (BeginsWord "STATUS " i.now) result }
+    ensures memory { FailsOnlyIf (StatusMayWant i.now) result }
 {
     let (rest, _) = word(b"STATUS ", i)?;
     let (rest, mailbox) = mailbox(alloc, rest)?;
@@ -69,14 +69,14 @@ fn datum_of_number(i: &[u8]) -> IResult<&[u8], MailboxDatum<'_>>
 
 /// `LIST` or `LSUB`, and what it says of a mailbox (RFC 3501, section 9: mailbox-data).
 ///
-/// Any other word, or a part that is missing, is `Error`. It takes memory only behind `LIST` or `LSUB`, for the
-/// attributes, and for texts that are not UTF-8.
+/// Any other word, or a part that is missing, is `Error`. It takes memory only behind `LIST` or `LSUB`: behind a first
+/// attribute, and for texts that are not UTF-8.
 #[tactic(auto, using(imap_grammar::proofs::Agreement::answered), unfolding(crate::specs::MailboxData::list_or_lsub, crate::specs::MailboxData::list, crate::specs::MailboxData::lsub))]
 #[inline(always)]
 pub fn list_or_lsub(alloc: Global, i: &[u8]) -> IResult<&[u8], MailboxDatum<'_>>
     ensures steps { Steps rules.list_or_lsub datum_value i.now result }
     ensures answer { Answers rules.list_or_lsub datum_value i.now result }
-    ensures memory { FailsOnlyIf (BeginsWord "LIST " i.now ⊎ BeginsWord "LSUB " i.now) result }
+    ensures memory { FailsOnlyIf (NamesMayWant i.now) result }
 {
     first!(listed(alloc, b"LIST ", i));
     listed(alloc, b"LSUB ", i)
@@ -87,7 +87,8 @@ pub fn list_or_lsub(alloc: Global, i: &[u8]) -> IResult<&[u8], MailboxDatum<'_>>
 fn found<'a>(alloc: Global, text: &[u8], i: &'a [u8]) -> IResult<&'a [u8], Vec<u32>>
     ensures steps { Steps (tag_by same_letter text.now ▹ counts.found_numbers) (λ x. x.items) i.now
         result }
-    ensures memory { FailsOnlyIf (StartsWith (tag_by same_letter text.now) i.now) result }
+    ensures memory { FailsOnlyIf (Behind (tag_by same_letter text.now)
+        (StartsWith counts.found_number) i.now) result }
 {
     let (rest, _) = word(text, i)?;
     found_numbers(alloc, rest)
@@ -97,8 +98,7 @@ fn found<'a>(alloc: Global, text: &[u8], i: &'a [u8]) -> IResult<&'a [u8], Vec<u
 #[inline(always)]
 fn datum_of_s(alloc: Global, i: &[u8]) -> IResult<&[u8], MailboxDatum<'_>>
     ensures steps { Steps rules.datum_of_s datum_value i.now result }
-    ensures memory { FailsOnlyIf (BeginsWord "STATUS " i.now ⊎ BeginsWord "SEARCH" i.now
-        ⊎ BeginsWord "SORT" i.now) result }
+    ensures memory { FailsOnlyIf (StatusMayWant i.now ⊎ NumbersMayWant i.now) result }
 {
     first!(status(alloc, i));
     first!(found(alloc, b"SEARCH", i), numbers => MailboxDatum::Search(numbers));
@@ -124,7 +124,7 @@ fn datum_of_x(alloc: Global, i: &[u8]) -> IResult<&[u8], MailboxDatum<'_>>
 fn datum(alloc: Global, i: &[u8]) -> IResult<&[u8], MailboxDatum<'_>>
     ensures steps { Steps rules.mailbox_datum datum_value i.now result }
     ensures memory { SucceedsFor IsNumber rules.mailbox_datum i.now result }
-    ensures worded { FailsOnlyIf (BeginsListDatum i.now) result }
+    ensures worded { FailsOnlyIf (MailboxMayWant i.now) result }
 {
     match i.first() {
         None => Err(Err::Incomplete(Needed::Unknown)),
@@ -141,14 +141,15 @@ fn datum(alloc: Global, i: &[u8]) -> IResult<&[u8], MailboxDatum<'_>>
 /// words in any case (RFC 3501, section 9: mailbox-data; RFC 5256, section 5: sort-data; Gmail's X-GM-EXT-1).
 ///
 /// Any other word, and data that its rule denies, is `Error`. It takes memory only behind the word of data that hold a
-/// list: for the list, and for texts that are not UTF-8. A datum that is one number takes none.
+/// list: behind a first item of the list, and for texts that are not UTF-8; of Gmail's labels behind their word. So
+/// what holds an empty list takes none, nor does a datum that is one number.
 #[tactic(auto, using(imap_grammar::proofs::Agreement::answered))]
 #[inline(always)]
 pub fn mailbox_datum(alloc: Global, i: &[u8]) -> IResult<&[u8], MailboxDatum<'_>>
     ensures steps { Steps rules.mailbox_datum datum_value i.now result }
     ensures answer { Answers rules.mailbox_datum datum_value i.now result }
     ensures memory { SucceedsFor IsNumber rules.mailbox_datum i.now result }
-    ensures worded { FailsOnlyIf (BeginsListDatum i.now) result }
+    ensures worded { FailsOnlyIf (MailboxMayWant i.now) result }
 {
     datum(alloc, i)
 }

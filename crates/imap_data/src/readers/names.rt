@@ -3,10 +3,13 @@
 ghost use Rattle.std.specs.Prelude.{map};
 ghost use Rattle.std.specs.Option.{option_map};
 ghost use Rattle.imap_grammar.specs.Answer.{Steps, StepsExactly};
-ghost use Rattle.imap_grammar.specs.Text.{text_of};
+ghost use Rattle.imap_grammar.specs.Lists.{opened};
+ghost use Rattle.imap_grammar.specs.Memory.{FailsOnlyIf, StartsWith};
+ghost use Rattle.imap_grammar.specs.Text.{text_of, IsOwned};
+ghost use Rattle.imap_bytes.specs.Texts.{YieldsOwned, quoted_utf8 as quoted_rule};
 ghost use Rattle.imap_data.specs.NameGroups as groups;
 ghost use Rattle.imap_data.specs.Names as names;
-ghost use Rattle.imap_data.specs.Names.{attribute_value, list_value};
+ghost use Rattle.imap_data.specs.Names.{attribute_value, list_value, ListMayWant};
 
 use crate::types::names::{MailboxListData, NameAttribute};
 use imap_bytes::tags::{second, tag};
@@ -90,7 +93,8 @@ pub(crate) fn name_attribute(i: &[u8]) -> IResult<&[u8], NameAttribute<'_>>
 }
 
 fn name_attributes(alloc: Global, i: &[u8]) -> IResult<&[u8], Vec<NameAttribute<'_>>>
-    ensures { Steps names.name_attributes (λ x. map attribute_value x.items) i.now result }
+    ensures steps { Steps names.name_attributes (λ x. map attribute_value x.items) i.now result }
+    ensures memory { FailsOnlyIf (StartsWith (opened names.name_attribute) i.now) result }
 {
     parenthesized_list(alloc, name_attribute, i)
 }
@@ -98,7 +102,8 @@ fn name_attributes(alloc: Global, i: &[u8]) -> IResult<&[u8], Vec<NameAttribute<
 // The hierarchy delimiter, `None` for NIL.
 #[tactic(auto, unfolding(crate::specs::Names::delimiter))]
 fn delimiter(alloc: Global, i: &[u8]) -> IResult<&[u8], Option<CowStr<'_>>>
-    ensures { Steps names.delimiter (option_map text_of) i.now result }
+    ensures steps { Steps names.delimiter (option_map text_of) i.now result }
+    ensures memory { FailsOnlyIf (YieldsOwned IsOwned quoted_rule i.now) result }
 {
     first!(quoted_utf8(alloc, i), text => Some(text));
     let (rest, _) = nil(i)?;
@@ -109,7 +114,8 @@ fn delimiter(alloc: Global, i: &[u8]) -> IResult<&[u8], Option<CowStr<'_>>>
 #[tactic(auto, unfolding(crate::specs::Names::list_data))]
 #[inline(always)]
 pub(crate) fn list_data(alloc: Global, i: &[u8]) -> IResult<&[u8], MailboxListData<'_>>
-    ensures { Steps names.list_data list_value i.now result }
+    ensures steps { Steps names.list_data list_value i.now result }
+    ensures memory { FailsOnlyIf (ListMayWant i.now) result }
 {
     let (rest, name_attributes) = name_attributes(alloc, i)?;
     let (rest, _) = tag(b" ", rest)?;

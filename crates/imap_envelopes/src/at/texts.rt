@@ -12,9 +12,8 @@ ghost use Rattle.imap_envelopes.specs.Spanned.{maybe_bytes_in, maybe_text_in};
 
 use imap_bytes::at::Reached;
 use imap_bytes::at::numbers::number;
-use imap_bytes::at::strings::{nil, nstring, string};
+use imap_bytes::at::strings::{nstring, string};
 use imap_bytes::at::tags::tag;
-use imap_bytes::first;
 use imap_shapes::spans::{Span, SpannedText};
 
 /// An nstring, its bytes as they stand (RFC 3501, section 9: nstring). No memory.
@@ -87,9 +86,8 @@ pub fn nstring_text(m: &[u8], p: usize) -> Reached<Option<SpannedText>>
     ensures rests { RestsOn maybe_text_in result }
     ensures no_failure { NeverFails result }
 {
-    first!(nil(m, p), _ => None);
-    let (q, text) = string_text(m, p)?;
-    Ok((q, Some(text)))
+    let (q, content) = nstring(m, p)?;
+    Ok((q, content.map(SpannedText::Part)))
 }
 
 /// A space, then an nstring, to be decoded (RFC 3501, section 9: nstring). No memory.

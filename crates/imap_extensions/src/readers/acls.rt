@@ -2,10 +2,11 @@
 
 ghost use Rattle.std.specs.Prelude.{◌≡◌, map, IfOk};
 ghost use Rattle.imap_grammar.specs.Answer.{Answers, Steps};
-ghost use Rattle.imap_grammar.specs.Memory.{BeginsWord, FailsOnlyIf};
+ghost use Rattle.imap_grammar.specs.Memory.{BeginsWord, FailsOnlyIf, StartsWith};
+ghost use Rattle.imap_bytes.specs.Texts.{astring_utf8 as astring_rule};
 ghost use Rattle.imap_items.specs.Rights as letters;
 ghost use Rattle.imap_extensions.specs.Acls as rules;
-ghost use Rattle.imap_extensions.specs.Acls.{acl_entry_value, acl_value, list_rights_value, my_rights_value};
+ghost use Rattle.imap_extensions.specs.Acls.{AclMayWant, acl_entry_value, acl_value, list_rights_value, my_rights_value};
 
 use crate::types::acls::{Acl, AclEntry, ListRights, MyRights};
 use imap_bytes::lists::{Separator, maybe_separated};
@@ -16,10 +17,11 @@ use imap_items::readers::mailboxes::mailbox;
 use imap_items::readers::rights::rights;
 use std::alloc::{AllocError, Global};
 
-// An identifier and its rights.
+// An identifier and its rights. It takes memory only where an identifier stands.
 #[tactic(auto, unfolding(crate::specs::Acls::acl_entry))]
 pub(crate) fn acl_entry(alloc: Global, i: &[u8]) -> IResult<&[u8], AclEntry<'_>>
-    ensures { Steps rules.acl_entry acl_entry_value i.now result }
+    ensures steps { Steps rules.acl_entry acl_entry_value i.now result }
+    ensures memory { FailsOnlyIf (StartsWith astring_rule i.now) result }
 {
     let (rest, identifier) = astring_utf8(alloc, i)?;
     let (rest, _) = blanks1(rest)?;
@@ -28,10 +30,12 @@ pub(crate) fn acl_entry(alloc: Global, i: &[u8]) -> IResult<&[u8], AclEntry<'_>>
 }
 
 fn acl_entries(alloc: Global, i: &[u8]) -> IResult<&[u8], Vec<AclEntry<'_>>>
-    ensures { Steps rules.acl_entries (λ x. map acl_entry_value x.items) i.now result }
+    ensures steps { Steps rules.acl_entries (λ x. map acl_entry_value x.items) i.now result }
+    ensures memory { FailsOnlyIf (StartsWith astring_rule i.now) result }
 {
     let entry = |i|
-        ensures { Steps rules.acl_entry acl_entry_value i.entry.now result }
+        ensures steps { Steps rules.acl_entry acl_entry_value i.entry.now result }
+        ensures memory { FailsOnlyIf (StartsWith astring_rule i.entry.now) result }
     { acl_entry(alloc, i) };
     maybe_separated(alloc, Separator::Blanks, entry, i)
 }
@@ -39,12 +43,12 @@ fn acl_entries(alloc: Global, i: &[u8]) -> IResult<&[u8], Vec<AclEntry<'_>>>
 /// `ACL`, a mailbox, and the rights of each identifier on it, maybe of none (RFC 4314, section 7: acl-data).
 ///
 /// Any other word, or no mailbox behind it, is `Error`; the entries end before one that is denied. It takes memory only
-/// behind `ACL`, for them, and for texts that are not UTF-8.
+/// behind `ACL`: for a mailbox that is not UTF-8, and where an identifier stands behind the mailbox.
 #[tactic(auto, using(imap_grammar::proofs::Agreement::answered), unfolding(crate::specs::Acls::acl))]
 pub fn acl(alloc: Global, i: &[u8]) -> IResult<&[u8], Acl<'_>>
     ensures steps { Steps rules.acl acl_value i.now result }
     ensures answer { Answers rules.acl acl_value i.now result }
-    ensures memory { FailsOnlyIf (BeginsWord "ACL" i.now) result }
+    ensures memory { FailsOnlyIf (AclMayWant i.now) result }
 {
     let (rest, _) = word(b"ACL", i)?;
     let (rest, _) = blanks1(rest)?;

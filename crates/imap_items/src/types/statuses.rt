@@ -1,7 +1,7 @@
 //! The status of a line.
 
 /// What a status line says (RFC 3501, section 7.1).
-#[derive(Debug, Drop, PartialEq, Eq)]
+#[derive(Clone, Copy, Debug, PartialEq, Eq)]
 pub enum Status {
     /// `OK`
     Ok,

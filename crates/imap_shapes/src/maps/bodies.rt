@@ -4,7 +4,7 @@ ghost use Rattle.std.specs.Prelude.{◌≡◌, IfOk, map};
 ghost use Rattle.std.specs.Option.{option_map};
 ghost use Rattle.imap_grammar.specs.Text.{Text};
 ghost use Rattle.imap_shapes.specs.ExtensionValues.{extension_seen};
-ghost use Rattle.imap_shapes.specs.BodyValues.{type_seen, common_seen, single_seen, common_of, extension_of, body_seen};
+ghost use Rattle.imap_shapes.specs.BodyValues.{type_seen, common_seen, single_seen, extension_of, body_seen};
 
 use super::change::Change;
 use super::extensions::{mapped_disposition, mapped_extension};
@@ -83,19 +83,6 @@ impl<S> BodyContentSinglePart<S> {
 }
 
 impl<S, B> BodyStructure<S, B> {
-    // What every body says.
-    fn common(&self) -> &BodyContentCommon<S>
-        ensures { (f : S → Text) (g : B → Text) →
-            common_of (body_seen f g self.now) ≡ common_seen f result.now }
-    {
-        match self {
-            BodyStructure::Basic { common, .. }
-            | BodyStructure::Text { common, .. }
-            | BodyStructure::Message { common, .. }
-            | BodyStructure::Multipart { common, .. } => common,
-        }
-    }
-
     // Its extension data.
     fn extension(&self) -> &Option<BodyExtension<S>>
         ensures { (f : S → Text) (g : B → Text) →

@@ -1,7 +1,7 @@
 //! Maps of envelopes and addresses.
 
-ghost use Rattle.std.specs.Prelude.{◌≡◌, IfOk, map};
-ghost use Rattle.imap_shapes.specs.EnvelopeValues.{address_seen, addresses_seen, envelope_seen};
+ghost use Rattle.std.specs.Prelude.{◌≡◌, IfOk, IsOk, map};
+ghost use Rattle.imap_shapes.specs.EnvelopeValues.{IsBlank, address_seen, addresses_seen, envelope_seen};
 
 use super::change::Change;
 use super::parts::mapped_optional_text;
@@ -11,8 +11,9 @@ use std::alloc::{AllocError, Global};
 impl<B> Address<B> {
     /// The same address with each text changed.
     pub(crate) fn try_map<C: Change<B>>(&self, c: &C) -> Result<Address<C::To>, AllocError>
-        ensures { IfOk result (λ a.
+        ensures changed { IfOk result (λ a.
             address_seen C.after a ≡ address_seen (C.before c.now) self.now) }
+        ensures memory { IsBlank self.now → IsOk result }
     {
         Ok(Address {
             name: mapped_optional_text(c, &self.name)?,

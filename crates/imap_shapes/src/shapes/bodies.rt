@@ -1,5 +1,9 @@
 //! Body structures.
 
+ghost use Rattle.std.specs.Prelude.{◌≡◌};
+ghost use Rattle.imap_grammar.specs.Text.{Text};
+ghost use Rattle.imap_shapes.specs.BodyValues.{body_seen, common_of, common_seen, type_seen};
+
 use super::envelopes::Envelope;
 use super::extensions::{BodyExtension, ContentDisposition};
 use super::fields::{BodyParams, ContentEncoding};
@@ -92,4 +96,27 @@ pub enum BodyStructure<S, B> {
         /// Extension data that later versions may define, if there is any.
         extension: Option<BodyExtension<S>>,
     },
+}
+
+impl<S, B> BodyStructure<S, B> {
+    /// What every body says, whichever kind it is of: of a message that of the part, not of the body inside. No memory.
+    pub fn common(&self) -> &BodyContentCommon<S>
+        ensures { (f : S → Text) (g : B → Text) →
+            common_of (body_seen f g self.now) ≡ common_seen f result.now }
+    {
+        match self {
+            BodyStructure::Basic { common, .. }
+            | BodyStructure::Text { common, .. }
+            | BodyStructure::Message { common, .. }
+            | BodyStructure::Multipart { common, .. } => common,
+        }
+    }
+
+    /// The type of its content, whichever kind it is of (RFC 3501, section 7.4.2: BODYSTRUCTURE). No memory.
+    pub fn content_type(&self) -> &ContentType<S>
+        ensures { (f : S → Text) (g : B → Text) →
+            (common_of (body_seen f g self.now)).ty ≡ type_seen f result.now }
+    {
+        &self.common().ty
+    }
 }

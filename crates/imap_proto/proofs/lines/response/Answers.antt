@@ -2,18 +2,25 @@ use Rattle.std.proofs.Common.{rules, ◌≡◌, ◌⊎◌, ◌∙◌, sym, subst
 use Rattle.imap_grammar.specs.declared.answer.Err.TheVariants.{Error}
 use Rattle.imap_grammar.specs.Answer.{Gives}
 use Rattle.imap_grammar.specs.Step.{step}
-use Rattle.imap_grammar.specs.Memory.{BeginsWord, StartsWith}
+use Rattle.imap_grammar.specs.Memory.{BeginsWord}
 use Rattle.imap_grammar.proofs.Memory.{same_kind, none_of_kind, none_yielded, exactly_fails}
-use Rattle.imap_items.specs.Statuses.{status}
-use Rattle.imap_data.specs.MailboxData.{BeginsListDatum}
-use Rattle.imap_proto.specs.Lines.{response, tagged, count_line, fetched_line, vanished_line, quota_line, annotation_line, enabled_line, capability_line, acl_line, mailbox_line, list_line}
-use Rattle.imap_proto.specs.Memory.{TakesNone}
+use Rattle.imap_data.specs.MailboxData.{NamesMayWant, MailboxMayWant}
+use Rattle.imap_extensions.specs.Acls.{AclMayWant}
+use Rattle.imap_proto.specs.Lines.{response, continuation, tagged, status_line, count_line, fetched_line, vanished_line, quota_line, annotation_line, enabled_line, capability_line, acl_line, mailbox_line, list_line}
+use Rattle.imap_proto.specs.Memory.{StatusMayWant, TakesNone}
 use Rattle.imap_proto.specs.Responses.{response_value}
-use Rattle.imap_proto.proofs.FirstBytes.{response_star, response_other, datum_of_number, datum_of_vanished, datum_of_quota, datum_of_annotation, datum_of_enabled, datum_of_capability, datum_of_acl, datum_of_mailbox, datum_of_list, datum_of_status, datum_of_id, datum_other}
+use Rattle.imap_proto.proofs.FirstBytes.{response_none, response_plus, response_star, response_other, datum_of_number, datum_of_vanished, datum_of_quota, datum_of_annotation, datum_of_enabled, datum_of_capability, datum_of_acl, datum_of_mailbox, datum_of_list, datum_of_status, datum_of_id, datum_other}
 use Rattle.imap_proto.proofs.Memory.{tagged_other, fetched_other, vanished_other, quota_other, annotation_other, enabled_other, capability_other, acl_other, wants_datum, wants_fetched, quota_root_begins}
 use Rattle.imap_proto.proofs.Numbered.{number_stopped, number_and_fetch}
 use Rattle.imap_proto.proofs.Starred.{starred, moved, first_byte}
 use Rattle.imap_proto.proofs.lines.response.Goals as goal
+use Rattle.imap_proto.proofs.lines.response.Goals.{in-None-1, in-Some+in-43-1}
+
+pub returns-in-None-clause-memory : goal.returns-in-None-clause-memory
+returns-in-None-clause-memory c = elim c.in-None-1.branch [
+  | in-None-1 w ↦ same_kind TakesNone response continuation _ _ (response_none _ (search rules)) c.continuation.ensures.memory
+  | in-Some+in-43-1 w ↦ same_kind TakesNone response continuation _ _ (response_plus _ (search rules)) c.continuation.ensures.memory
+]
 
 pub returns-in-Some-clause-memory : goal.returns-in-Some-clause-memory
 returns-in-Some-clause-memory c = same_kind TakesNone response tagged _ _ (response_other _ (search rules) (search rules)) (none_of_kind TakesNone tagged _ _ tagged_other)
@@ -78,16 +85,20 @@ pub returns-in-Some-eq102-clause-memory : goal.returns-in-Some-eq102-clause-memo
 returns-in-Some-eq102-clause-memory c =
     moved TakesNone response mailbox_line _ _ _ (starred _ _ _ (response_star _ (search rules)) c.in-Ok.ensures.steps ∙ datum_of_mailbox _ (search rules)) c.mailbox_line.ensures.memory
 
+pub returns-in-Some-eq111-clause-memory : goal.returns-in-Some-eq111-clause-memory
+returns-in-Some-eq111-clause-memory c =
+    moved TakesNone response status_line _ _ _ (starred _ _ _ (response_star _ (search rules)) c.in-Ok.ensures.steps ∙ datum_of_status _ (search rules)) c.status_line.ensures.memory
+
 -- ---- behind what memory may be wanted
 
 pub returns-in-Some-eq111-clause-failure : goal.returns-in-Some-eq111-clause-failure
-returns-in-Some-eq111-clause-failure c = wants_datum (StartsWith status) _ _ _ _ (λ r p. inl p) c.in-Ok.ensures.steps c.status_line.ensures.failure
+returns-in-Some-eq111-clause-failure c = wants_datum StatusMayWant _ _ _ _ (λ r p. inl p) c.in-Ok.ensures.steps c.status_line.ensures.failure
 
 pub returns-in-Some-eq102-clause-failure : goal.returns-in-Some-eq102-clause-failure
-returns-in-Some-eq102-clause-failure c = wants_datum BeginsListDatum _ _ _ _ (λ r p. inr (inr (inl (inl p)))) c.in-Ok.ensures.steps c.mailbox_line.ensures.failure
+returns-in-Some-eq102-clause-failure c = wants_datum MailboxMayWant _ _ _ _ (λ r p. inr (inr (inl (inl p)))) c.in-Ok.ensures.steps c.mailbox_line.ensures.failure
 
 pub returns-in-Some-eq108-clause-failure : goal.returns-in-Some-eq108-clause-failure
-returns-in-Some-eq108-clause-failure c = wants_datum (λ r. (BeginsWord "LIST " r ⊎ BeginsWord "LSUB " r) ⊎ BeginsWord "LISTRIGHTS" r) _ _ _ _ (λ r p. elim p [ inl q ↦ elim q [ inl b ↦ inr (inr (inl (inl (inr (inl b))))) | inr b ↦ inr (inr (inl (inl (inr (inr (inl b)))))) ] | inr b ↦ inr (inr (inr (inr (inr (inr (inr (inr (inr (inl b))))))))) ]) c.in-Ok.ensures.steps c.list_line.ensures.failure
+returns-in-Some-eq108-clause-failure c = wants_datum (λ r. NamesMayWant r ⊎ BeginsWord "LISTRIGHTS" r) _ _ _ _ (λ r p. elim p [ inl q ↦ inr (inr (inl (inl (inr (inl q))))) | inr b ↦ inr (inr (inr (inr (inr (inr (inr (inr (inr (inl b))))))))) ]) c.in-Ok.ensures.steps c.list_line.ensures.failure
 
 pub returns-in-Some-eq99-clause-failure : goal.returns-in-Some-eq99-clause-failure
 returns-in-Some-eq99-clause-failure c = wants_datum (BeginsWord "CAPABILITY") _ _ _ _ (λ r p. inr (inr (inr (inl p)))) c.in-Ok.ensures.steps c.capability_line.ensures.failure
@@ -108,7 +119,7 @@ pub returns-in-Some-eq105-clause-failure : goal.returns-in-Some-eq105-clause-fai
 returns-in-Some-eq105-clause-failure c = wants_datum (BeginsWord "ID") _ _ _ _ (λ r p. inr (inr (inr (inr (inr (inr (inr (inl p)))))))) c.in-Ok.ensures.steps c.id_line.ensures.failure
 
 pub returns-in-Some-eq97-clause-failure : goal.returns-in-Some-eq97-clause-failure
-returns-in-Some-eq97-clause-failure c = wants_datum (BeginsWord "ACL") _ _ _ _ (λ r p. inr (inr (inr (inr (inr (inr (inr (inr (inl p))))))))) c.in-Ok.ensures.steps c.acl_line.ensures.failure
+returns-in-Some-eq97-clause-failure c = wants_datum AclMayWant _ _ _ _ (λ r p. inr (inr (inr (inr (inr (inr (inr (inr (inl p))))))))) c.in-Ok.ensures.steps c.acl_line.ensures.failure
 
 pub returns-in-Some-eq102-second-clause-failure : goal.returns-in-Some-eq102-second-clause-failure
 returns-in-Some-eq102-second-clause-failure c = wants_fetched _ _ _ _ _ _ c.in-Ok.ensures.steps c.in-Ok-number.ensures.steps c.fetched_line.ensures.failure

@@ -1,6 +1,6 @@
-use Rattle.std.proofs.Common.{subst, map, ◌∙◌}
+use Rattle.std.proofs.Common.{sym, subst, map, ◌∙◌}
 use Rattle.imap_proto.specs.Streams.{joined}
-use Rattle.imap_proto.proofs.Wholes.{ReadSoFar, joined_from, read_nothing, read_piece, read_denied, all_read}
+use Rattle.imap_proto.proofs.Wholes.{ReadSoFar, none_read, joined_from, read_nothing, read_piece, read_denied, all_read}
 use Rattle.imap_proto.proofs.stream.read_pieces.Goals as goal
 use Rattle.imap_proto.proofs.stream.read_pieces.Goals.{in-Waits+in_ok-end-in-Waits, in-Denied}
 
@@ -17,6 +17,8 @@ loop-piece-preserved c =
       | in-Denied w ↦ (rw (w.feed-is, w.responses-is, w.end-is, c.in_ok-feed.ensures.fed) (read_denied all _ _ _ _ _ w.in-Denied.is before))
     ]
 
-pub returns : goal.returns
-returns c =
-    record { whole = all_read c.args.pieces.now c.loop-piece.piece-index _ _ _ _ c.loop-piece-test.false c.loop-piece.invariant (c.in_ok-rest.ensures.items ∙ c.held.ensures) }
+pub returns-clause-whole : goal.returns-clause-whole
+returns-clause-whole c = all_read c.args.pieces.now c.loop-piece.piece-index _ _ _ _ c.loop-piece-test.false c.loop-piece.invariant (c.in_ok-rest.ensures.items ∙ c.held.ensures)
+
+pub returns-then-is_empty-clause-whole : goal.returns-then-is_empty-clause-whole
+returns-then-is_empty-clause-whole c = rw (c.new.ensures.items, c.new-then-is_empty.ensures.items) (none_read c.args.pieces.now (sym c.is_empty.ensures ∙ c.if-is_empty.true))

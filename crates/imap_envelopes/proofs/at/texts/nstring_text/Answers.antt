@@ -1,9 +1,9 @@
-use Rattle.imap_shapes.specs.Spans.{text_in}
-use Rattle.imap_shapes.proofs.Places.{nothing_rests, something_rests}
+use Rattle.std.proofs.Common.{rules, drop}
+use Rattle.imap_bytes.proofs.MappedNil.{decoded_nstring}
 use Rattle.imap_envelopes.proofs.at.texts.nstring_text.Goals as goal
 
-pub returns-clause-rests : goal.returns-clause-rests
-returns-clause-rests c = nothing_rests text_in _
+pub returns-in_err-q-clause-steps : goal.returns-in_err-q-clause-steps
+returns-in_err-q-clause-steps c = rw (decoded_nstring (drop c.args.p c.args.m.now), c.in_err-q.ensures.steps) (search rules)
 
-pub returns-3-clause-rests : goal.returns-3-clause-rests
-returns-3-clause-rests c = something_rests text_in _ _ c.in_ok-q.ensures.rests
+pub returns-clause-steps : goal.returns-clause-steps
+returns-clause-steps c = rw (decoded_nstring (drop c.args.p c.args.m.now), c.in_ok-q.ensures.steps) (search rules)

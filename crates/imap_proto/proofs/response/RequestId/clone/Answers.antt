@@ -1,5 +1,5 @@
 use Rattle.std.proofs.Common.{rules}
 use Rattle.imap_proto.proofs.response.RequestId.clone.Goals as goal
 
-pub returns : goal.returns
-returns c = search rules depth 2
+pub returns-clause-same : goal.returns-clause-same
+returns-clause-same c = search rules depth 2

@@ -2,6 +2,7 @@ use Rattle.std.proofs.Common.{rules, arith, [], ◌∷◌, ◌++◌, drop, sym, 
 use Rattle.std.proofs.lemmas.List.{drop-append-le}
 use Rattle.imap_grammar.specs.Text.{Bytes}
 use Rattle.imap_proto.specs.Streams.{Fed, fed}
+use Rattle.imap_proto.specs.Skipping.{Passed, fed_piece}
 use Rattle.imap_proto.proofs.stream.Feed.feed.Goals as goal
 
 pub invariant_of-self : goal.invariant_of-self
@@ -15,3 +16,6 @@ returns-clause-fed c =
 
 pub returns-clause-goes_on : goal.returns-clause-goes_on
 returns-clause-goes_on c = λ pieces vs f. subst (Fed (pieces ++ c.args.piece.now ∷ []) vs) (sym (returns-clause-fed c)) (fed pieces vs _ _ f)
+
+pub returns-clause-passes : goal.returns-clause-passes
+returns-clause-passes c = λ pieces items p. subst (Passed (pieces ++ c.args.piece.now ∷ []) items) (sym (returns-clause-fed c)) (fed_piece pieces items _ _ p)

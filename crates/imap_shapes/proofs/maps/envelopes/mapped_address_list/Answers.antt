@@ -7,7 +7,7 @@ pub loop-address-preserved : goal.loop-address-preserved
 loop-address-preserved g c =
     let old = address_seen (g.C.Change.before c.args.c.now) in
     let new = address_seen g.C.Change.after in
-    ap (map new) c.push_reserved.ensures.items ∙ ap (λ l. map new (l ++ (c.in-Ok.made ∷ []))) c.reserve.ensures.items ∙ mapped_further new old c.loop-address.mapped.items c.deref-address-items.result.now c.loop-address.address-index _ _ c.loop-address-test.true c.loop-address.invariant (c.in-Ok.ensures ∙ ap old c.address-item.is)
+    ap (map new) c.push_reserved.ensures.items ∙ ap (λ l. map new (l ++ (c.in-Ok.made ∷ []))) c.reserve.ensures.items ∙ mapped_further new old c.loop-address.mapped.items c.deref-address-items.result.now c.loop-address.address-index _ _ c.loop-address-test.true c.loop-address.invariant (c.in-Ok.ensures.changed ∙ ap old c.address-item.is)
 
 pub returns : goal.returns
 returns g c =
