@@ -29,10 +29,10 @@ class Call:
 
 
 def sources(top):
-    """The source files of the libraries, each with its crate; the tests are none."""
+    """The source files of the libraries, each with its crate; neither the tests are one, nor the callers of `imap_uses`."""
     for path in sorted((top / "crates").glob("*/src/**/*.rt")):
         crate = path.relative_to(top / "crates").parts[0]
-        if crate != "imap_vectors":
+        if crate not in ("imap_uses", "imap_vectors"):
             yield crate, path, path.read_text()
 
 

@@ -12,6 +12,7 @@ REFUSED = "refused "
 # What no call of the program is named for, since a library makes it of another one alone: with the call that makes it.
 UNDER = {
     "imap_attributes::Parts::push_unboxed": "imap_body::attribute",
+    "imap_attributes::AttributeSpans::unescaped": "imap_body::SpannedAttribute::unescaped",
     "imap_attributes::AttributeSpans::value": "imap_body::SpannedAttribute::value",
     "imap_body::attribute_values_at": "imap_body::attribute_list",
     "imap_envelopes::at::envelope": "imap_envelopes::envelope",

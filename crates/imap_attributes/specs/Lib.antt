@@ -1,2 +1,3 @@
 pub mod AttributeValues
 pub mod Changed
+pub mod Unescaped

@@ -5,6 +5,7 @@ mod attributes;
 pub mod laws;
 mod maps;
 mod owned;
+mod unescaped;
 mod values;
 
 pub use attributes::{AttributeKept, AttributeParts, AttributeSpans, AttributeValue};

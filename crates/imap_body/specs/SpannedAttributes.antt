@@ -18,6 +18,7 @@ use Rattle.imap_shapes.specs.declared.spans.SpannedText.{SpannedText}
 use Rattle.imap_shapes.specs.declared.spans.SpannedText.TheVariants as spanned
 use Rattle.imap_attributes.specs.AttributeValues.{AttributeValue, AttributeSpans, attribute_seen, parts_said}
 use Rattle.imap_attributes.specs.Changed.{lent_attribute}
+use Rattle.imap_attributes.specs.Unescaped.{HasNoEscape, unescaped_text, unescaped_bytes}
 use Rattle.imap_body.specs.Attributes.{attribute}
 
 -- The value that the attribute stands for in m, by the values of its texts and byte strings. Its positions count from
@@ -34,6 +35,10 @@ span_of s = s.span
 -- What it names in m.
 abbrev pub attribute_in : Bytes → SpannedAttribute SpannedText Span → AttributeValue
 attribute_in m s = attribute_said text_in bytes_in m s
+
+-- The same, each quoted string without its escapes.
+abbrev pub unescaped_attribute_in : Bytes → SpannedAttribute SpannedText Span → AttributeValue
+unescaped_attribute_in m s = attribute_said unescaped_text unescaped_bytes m s
 
 -- All positions of the attribute lie in its span: counted from where that starts, none is behind its end.
 abbrev pub Within :
@@ -94,6 +99,13 @@ KeepsAt {S} {B} text bytes keeps m p (Ok x) s =
     × (s ≡ Ok (drop x.0 m, map (attribute_said text bytes m) read))
     × TurnsAt text bytes m p x.0 read
 KeepsAt text bytes keeps m p (Err e) s = Stops e s
+
+-- Where no `\` stands behind a `"` in its bytes, an attribute says the same with its strings as they stand and without
+-- their escapes.
+abbrev pub SameWithoutEscapes : Type 0
+SameWithoutEscapes =
+    (m : Bytes) (s : SpannedAttribute SpannedText Span) → HasNoEscape (named_in m (span_of s))
+    → unescaped_attribute_in m s ≡ attribute_in m s
 
 -- ---- from positions to slices
 

@@ -26,7 +26,7 @@ ghost use Rattle.imap_shapes.specs.Lent.{lent_address, lent_addresses, lent_enve
 ghost use Rattle.imap_sections.specs.SectionTexts.{canonical_section_text, canonical_part, canonical_path, canonical_section, spells_message_text, spells_section_text, spells_part, spells_path, spells_section};
 ghost use Rattle.imap_attributes.specs.AttributeValues.{attribute_value, ModSeq, Rfc822Size, Uid, GmailMsgId, GmailThrId};
 ghost use Rattle.imap_attributes.specs.Changed.{lent_attribute};
-ghost use Rattle.imap_body.specs.SpannedAttributes.{places_of_body, places_of, spanned_value};
+ghost use Rattle.imap_body.specs.SpannedAttributes.{SameWithoutEscapes, places_of_body, places_of, spanned_value};
 ghost use Rattle.imap_body.specs.AttributeTexts.{canonical_attribute, canonical_attributes, spells_attributes, AttributeReadsBack, ReadsEachBelow};
 ghost use Rattle.imap_envelopes.specs.EnvelopeTexts.{canonical_address, canonical_addresses, canonical_envelope, spells_address, spells_addresses, spells_envelope};
 ghost use Rattle.imap_structure.specs.FieldTexts.{canonical_params, canonical_encoding, canonical_fields, spells_params, spells_encoding, spells_fields};
@@ -261,6 +261,12 @@ pub fn equality()
 pub fn cloning()
     ensures message_section { CopiesFreely ⟦<MessageSection as Clone>⟧.is_infallible
         ⟦<MessageSection as Clone>⟧.is_clone }
+{}
+
+/// Where no `\` stands behind a `"` in its bytes, an attribute has no escape: `value` and `unescaped` say the same of it
+/// (RFC 3501, section 9: quoted).
+pub fn escapes()
+    ensures { SameWithoutEscapes }
 {}
 
 /// Texts that don't spell the value: an address with a field too many, a field of extension data in another place, one

@@ -7,7 +7,7 @@ ghost use Rattle.imap_grammar.specs.Positions.{AnswersAt, Ahead, StepsAt};
 ghost use Rattle.imap_grammar.specs.Text.{Text};
 ghost use Rattle.imap_attributes.specs.AttributeValues.{attribute_seen, attribute_value};
 ghost use Rattle.imap_shapes.specs.BodyValues.{body_seen, boxed_seen};
-ghost use Rattle.imap_body.specs.SpannedAttributes.{span_of, attribute_in, attribute_said, EndsAt, InFront, InTurn, WithinItsSpan};
+ghost use Rattle.imap_body.specs.SpannedAttributes.{span_of, attribute_in, unescaped_attribute_in, attribute_said, EndsAt, InFront, InTurn, WithinItsSpan};
 ghost use Rattle.imap_body.specs.Attributes as rules;
 
 use crate::at::attributes::attribute;
@@ -47,6 +47,20 @@ impl SpannedAttribute {
         ensures { IfOk result (λ v. attribute_value v ≡ attribute_in m.now self.now) }
     {
         self.parts.value(alloc, self.span.part(m))
+    }
+
+    /// The same, each quoted string without its escapes (RFC 3501, section 9: quoted): of `\\` and `\"` the second byte
+    /// stays. A string is quoted where a `"` stands before its bytes in m; literals and atoms are as they stand.
+    ///
+    /// It takes memory as `value` does, and for each quoted string that has a `\`; `Err`: memory ran out.
+    pub fn unescaped<'a>(
+        &self,
+        alloc: Global,
+        m: &'a [u8],
+    ) -> Result<AttributeValue<'a>, AllocError>
+        ensures { IfOk result (λ v. attribute_value v ≡ unescaped_attribute_in m.now self.now) }
+    {
+        self.parts.unescaped(alloc, self.span.part(m))
     }
 }
 

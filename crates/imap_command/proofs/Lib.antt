@@ -8,6 +8,7 @@ pub mod ToldApart
 pub mod OneLine
 pub mod Refusals
 pub mod WordBytes
+pub mod SectionWords
 pub mod OtherLine
 pub mod ShownApart
 pub mod OtherApart

@@ -1,5 +1,5 @@
 -- What the calls of a command that has no builder of its own show, and the command's text.
-use Rattle.std.proofs.Common.{◌≡◌, ℕ, List, [], ◌∷◌, ◌++◌, map, reverse, drop, true, false, cond, All, refl, ap, sym, subst, ◌∙◌, append_assoc, append-nil, arith}
+use Rattle.std.proofs.Common.{◌≡◌, ℕ, List, [], ◌∷◌, ◌++◌, map, reverse, drop, true, false, cond, Option, None, Some, All, refl, ap, sym, subst, ◌∙◌, append_assoc, append-nil, arith}
 use Rattle.std.specs.Prelude.{decimal, codes, ◌==◌}
 use Rattle.std.specs.List.{list_all}
 use Rattle.std.proofs.lemmas.Bool.{eqb-true}
@@ -8,12 +8,14 @@ use Rattle.std.proofs.lemmas.List.{reverse-reverse}
 use Rattle.std.proofs.lemmas.List.Elements.{All-nil, All-cons, All-head, All-tail, All-append}
 use Rattle.imap_command.specs.Arguments.{quoted}
 use Rattle.imap_command.specs.OtherWords.{is_word_byte, is_word, is_name, is_name_word, before_first, between_spaces, bracketed, word_refusal}
-use Rattle.imap_command.specs.OtherCalls.{Argument, word, string, number, num, range, range_from, list, strings, literal, InRange, Unrefused, argument_text, separator, goes_on, Stage, arguments, numbers, after, stage, begun}
+use Rattle.imap_command.specs.OtherCalls.{Argument, word, string, number, num, range, range_from, list, strings, section, literal, InRange, Unrefused, argument_text, separator, goes_on, Stage, arguments, numbers, after, stage, begun}
 use Rattle.imap_command.specs.OtherLine.{Sound}
-use Rattle.imap_command.specs.OtherApart.{Item, plain, text, Shown, single, listed, plain_word, argument_shown, with_member, and_argument, shown, WordsToldApart}
+use Rattle.imap_command.specs.Sections.{Section, section_names, names_text, before_names, behind_names}
+use Rattle.imap_command.specs.OtherApart.{Item, plain, text, names, Shown, single, listed, plain_word, section_shown, argument_shown, with_member, and_argument, shown, WordsToldApart}
 use Rattle.imap_command.specs.OtherApart as shows
 use Rattle.imap_command.proofs.Runs.{both}
-use Rattle.imap_command.proofs.ShownApart.{item_text, shown_text, GoodItem, Good, ending, words_apart}
+use Rattle.imap_command.proofs.SectionWords.{before_word, behind_word}
+use Rattle.imap_command.proofs.ShownApart.{item_text, shown_text, GoodItem, Good, items_of_strings, good_strings, ending, words_apart}
 use Rattle.imap_command.proofs.WordBytes.{word-append, accepted_word, accepted_name, decimal_word, decimal_bytes, range_word, open_range_word, name_word, word_bytes, all_accepted}
 
 -- words, the last first, each behind a space
@@ -86,14 +88,17 @@ items_of_words : (words : List (List ℕ)) → map item_text (map plain words) �
 items_of_words [] = refl
 items_of_words (w ∷ words) = ap (λ l. w ∷ l) (items_of_words words)
 
-items_of_strings : (texts : List (List ℕ)) → map item_text (map text texts) ≡ map quoted texts
-items_of_strings [] = refl
-items_of_strings (t ∷ texts) = ap (λ l. quoted t ∷ l) (items_of_strings texts)
+-- what an argument shows is behind the words before it, each behind a space
+led_section : (asked : Section) (listed_names : Option (List (List ℕ))) (words : List Shown) → led (section_shown asked listed_names ++ words) ≡ led words ++ (32 ∷ (before_names asked ++ (names_text listed_names ++ behind_names asked)))
+led_section asked None words = refl
+led_section asked (Some listed_names) words =
+    append_assoc (led words) (32 ∷ before_names asked) (32 ∷ (bracketed (map quoted listed_names) ++ behind_names asked))
 
-shown_argument : (argument : Argument) → shown_text (argument_shown argument) ≡ argument_text argument
-shown_argument (list words) = ap bracketed (items_of_words words)
-shown_argument (strings texts) = ap bracketed (items_of_strings texts)
-shown_argument argument = refl
+led_argument : (argument : Argument) (words : List Shown) → led (argument_shown argument ++ words) ≡ led words ++ (32 ∷ argument_text argument)
+led_argument (list listed_words) words = ap (λ t. led words ++ (32 ∷ bracketed t)) (items_of_words listed_words)
+led_argument (strings texts) words = ap (λ t. led words ++ (32 ∷ bracketed t)) (items_of_strings texts)
+led_argument (section asked) words = led_section asked (section_names asked.text) words
+led_argument argument words = refl
 
 led_after : (s : Stage) (argument : Argument) (words : List Shown) → LastPlain s words → led (and_argument (goes_on s argument) argument words) ≡ led words ++ (separator s argument ++ argument_text argument)
 led_after numbers (num n) (single (plain bytes) ∷ before) h =
@@ -105,7 +110,7 @@ led_after numbers (range_from first) (single (plain bytes) ∷ before) h =
 led_after numbers (num n) words h = absurd h
 led_after numbers (range first last) words h = absurd h
 led_after numbers (range_from first) words h = absurd h
-led_after s argument words h = ap (λ t. led words ++ (32 ∷ t)) (shown_argument argument)
+led_after s argument words h = led_argument argument words
 
 led_shown : (name : List ℕ) (given : List Argument) → led (shown name given) ≡ 32 ∷ begun name given
 led_shown name [] =
@@ -123,6 +128,9 @@ good_reversed (w ∷ words) h =
     subst (All Good) (sym (turned w words))
     (All-append Good (reverse words) (w ∷ []) (good_reversed words (All-tail Good w words h)) (All-cons Good w [] (All-head Good w words h) (All-nil Good)))
 
+one : (w : Shown) → Good w → All Good (w ∷ [])
+one w h = All-cons Good w [] h (All-nil Good)
+
 good_name : (texts : List (List ℕ)) → list_all is_name_word texts ≡ true → All Good (map plain_word texts)
 good_name [] h = All-nil Good
 good_name (t ∷ texts) h =
@@ -134,24 +142,30 @@ good_words [] h = All-nil GoodItem
 good_words (w ∷ words) h =
     All-cons GoodItem (plain w) (map plain words) (All-head (λ t. is_word t ≡ true) w words h) (good_words words (All-tail (λ t. is_word t ≡ true) w words h))
 
-good_strings : (texts : List (List ℕ)) → All GoodItem (map text texts)
-good_strings [] = All-nil GoodItem
-good_strings (t ∷ texts) = All-cons GoodItem (text t) (map text texts) tt (good_strings texts)
+good_section : (asked : Section) (listed_names : Option (List (List ℕ))) → All Good (section_shown asked listed_names)
+good_section asked None =
+    one (plain_word (before_names asked ++ behind_names asked)) (word-append (before_names asked) (behind_names asked) (before_word asked) (word_bytes (behind_names asked) (behind_word asked)))
+good_section asked (Some listed_names) =
+    All-cons Good (single (names listed_names (behind_names asked))) (plain_word (before_names asked) ∷ []) (behind_word asked)
+    (one (plain_word (before_names asked)) (before_word asked))
 
-good_argument : (argument : Argument) → Unrefused argument → InRange argument → Good (argument_shown argument)
-good_argument (word bytes) h fits = accepted_word bytes h
-good_argument (string content) h fits = tt
-good_argument (number n) h fits = decimal_word n
-good_argument (num n) h fits = decimal_word n
-good_argument (range first last) h fits = range_word first last
-good_argument (range_from first) h fits = open_range_word first
-good_argument (list words) h fits = good_words words (all_accepted word_refusal (λ t. is_word t ≡ true) accepted_word words h)
-good_argument (strings texts) h fits = good_strings texts
-good_argument (literal n) h fits = omega (arith, fits)
+good_argument : (argument : Argument) → Unrefused argument → InRange argument → All Good (argument_shown argument)
+good_argument (word bytes) h fits = one (plain_word bytes) (accepted_word bytes h)
+good_argument (string content) h fits = one (single (text content)) tt
+good_argument (number n) h fits = one (plain_word (decimal n)) (decimal_word n)
+good_argument (num n) h fits = one (plain_word (decimal n)) (decimal_word n)
+good_argument (range first last) h fits = one (plain_word (argument_text (range first last))) (range_word first last)
+good_argument (range_from first) h fits = one (plain_word (argument_text (range_from first))) (open_range_word first)
+good_argument (list words) h fits =
+    one (listed (map plain words)) (good_words words (all_accepted word_refusal (λ t. is_word t ≡ true) accepted_word words h))
+good_argument (strings texts) h fits = one (listed (map text texts)) (good_strings texts)
+good_argument (section asked) h fits = good_section asked (section_names asked.text)
+good_argument (literal n) h fits = one (shows.announced n) (omega (arith, fits))
 
 good_member : (member : List ℕ) (w : Shown) → list_all is_word_byte member ≡ true → Good w → Good (with_member member w)
 good_member member (single (plain bytes)) h good = word-append bytes (44 ∷ member) good h
 good_member member (single (text content)) h good = good
+good_member member (single (names contents end)) h good = good
 good_member member (listed items) h good = good
 good_member member (shows.announced n) h good = good
 
@@ -168,7 +182,7 @@ good_after numbers (range_from first) (w ∷ before) h fits good =
     let member : List ℕ = decimal first ++ codes ":*" in
     All-cons Good (with_member member w) before (good_member member w (word_bytes member (open_range_word first)) (All-head Good w before good)) (All-tail Good w before good)
 good_after s argument words h fits good =
-    All-cons Good (argument_shown argument) words (good_argument argument h fits) good
+    All-append Good (argument_shown argument) words (good_argument argument h fits) good
 
 good_shown : (name : List ℕ) (given : List Argument) → is_name name ≡ true → All Unrefused given → All InRange given → All Good (shown name given)
 good_shown name [] h k fits =

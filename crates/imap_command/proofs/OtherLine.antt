@@ -1,14 +1,16 @@
 -- A command that has no builder of its own stays in its line, and announces a literal at the end alone.
-use Rattle.std.proofs.Common.{◌≡◌, ◌≢◌, ℕ, List, [], ◌∷◌, ◌++◌, map, true, false, cond, None, All, refl, ap, ◌∙◌, append_assoc, append-nil, sym}
+use Rattle.std.proofs.Common.{◌≡◌, ◌≢◌, ℕ, List, [], ◌∷◌, ◌++◌, map, true, false, cond, Option, None, Some, All, refl, ap, ◌∙◌, append_assoc, append-nil, sym}
 use Rattle.std.specs.Prelude.{decimal, codes, ◌==◌}
 use Rattle.std.specs.List.{list_all, flat_map}
 use Rattle.std.proofs.lemmas.List.Elements.{All-nil, All-cons, All-head, All-tail}
 use Rattle.imap_command.specs.Arguments.{refusal, quoted, escaped_byte}
 use Rattle.imap_command.specs.OtherWords.{is_word, is_name, behind_space, spaced, bracketed, word_refusal}
-use Rattle.imap_command.specs.OtherCalls.{Argument, word, string, number, num, range, range_from, list, strings, literal, argument_text, separator, goes_on, Stage, arguments, numbers, announced, refused, after, stage, Open, Unrefused, begun}
+use Rattle.imap_command.specs.Sections.{Section, section_names, names_refusal, names_text, before_names, behind_names, section_refusal, section_text}
+use Rattle.imap_command.specs.OtherCalls.{Argument, word, string, number, num, range, range_from, list, strings, section, literal, argument_text, separator, goes_on, Stage, arguments, numbers, announced, refused, after, stage, Open, Unrefused, begun}
 use Rattle.imap_command.specs.OtherLine.{Sound, OtherOneLine, LiteralEndsLine, outside, inside, from_brace}
 use Rattle.imap_command.proofs.OneLine.{refusal-append, refusal-escaped, refusal-decimal, option_or-none, all_stay}
 use Rattle.imap_command.proofs.Runs.{both, opened}
+use Rattle.imap_command.proofs.SectionWords.{before_word, behind_word, accepted_names}
 use Rattle.imap_command.proofs.WordBytes.{unlike_byte, word_bytes, accepted_word, accepted_name, decimal_bytes, range_word, open_range_word, in_line, line_bytes, name_in_line, unrefused_in_line, all_accepted}
 
 -- each argument that is not refused stays in line
@@ -35,6 +37,20 @@ plain_strings (text ∷ others) h =
     All-cons (λ t. refusal t ≡ None) (quoted text) (map quoted others) (plain_quoted text (All-head (λ t. refusal t ≡ None) text others h))
     (plain_strings others (All-tail (λ t. refusal t ≡ None) text others h))
 
+plain_names : (listed_names : Option (List (List ℕ))) → names_refusal listed_names ≡ None → refusal (names_text listed_names) ≡ None
+plain_names None h = refl
+plain_names (Some texts) h =
+    plain_bracketed (map quoted texts) (plain_strings texts (all_accepted refusal (λ t. refusal t ≡ None) (λ t k. k) texts h))
+
+plain-append : (a b : List ℕ) → refusal a ≡ None → refusal b ≡ None → refusal (a ++ b) ≡ None
+plain-append a b h k = rw (refusal-append a b, h) k
+
+plain_section : (asked : Section) → section_refusal asked ≡ None → refusal (section_text asked) ≡ None
+plain_section asked h =
+    plain-append (before_names asked) (names_text (section_names asked.text) ++ behind_names asked) (plain_word (before_names asked) (before_word asked))
+    (plain-append (names_text (section_names asked.text)) (behind_names asked) (plain_names (section_names asked.text) (accepted_names asked h))
+    (plain_word (behind_names asked) (behind_word asked)))
+
 plain_argument : (argument : Argument) → Unrefused argument → refusal (argument_text argument) ≡ None
 plain_argument (word text) h = plain_word text (accepted_word text h)
 plain_argument (string text) h = plain_quoted text h
@@ -46,6 +62,7 @@ plain_argument (list words) h =
     plain_bracketed words (all_accepted word_refusal (λ t. refusal t ≡ None) (λ t k. plain_word t (accepted_word t k)) words h)
 plain_argument (strings texts) h =
     plain_bracketed (map quoted texts) (plain_strings texts (all_accepted refusal (λ t. refusal t ≡ None) (λ t k. k) texts h))
+plain_argument (section asked) h = plain_section asked h
 plain_argument (literal n) h = simp (refusal-append, refusal-decimal)
 
 plain_separator : (s : Stage) (argument : Argument) → refusal (separator s argument) ≡ None
@@ -114,6 +131,16 @@ passed_strings : (texts : List (List ℕ)) → All Passed (map quoted texts)
 passed_strings [] = All-nil Passed
 passed_strings (text ∷ others) = All-cons Passed (quoted text) (map quoted others) (passed_quoted text) (passed_strings others)
 
+passed_names : (listed_names : Option (List (List ℕ))) → Passed (names_text listed_names)
+passed_names None = λ rest. refl
+passed_names (Some texts) = λ rest. passed_bracketed (map quoted texts) (passed_strings texts) rest
+
+passed_section : (asked : Section) → Passed (section_text asked)
+passed_section asked =
+    passed-append (before_names asked) (names_text (section_names asked.text) ++ behind_names asked) (passed_word (before_names asked) (before_word asked))
+    (passed-append (names_text (section_names asked.text)) (behind_names asked) (passed_names (section_names asked.text))
+    (passed_word (behind_names asked) (behind_word asked)))
+
 passed_separator : (s : Stage) (argument : Argument) → Passed (separator s argument)
 passed_separator s argument rest =
     elim (goes_on s argument) as (λ v. from_brace outside (cond v (codes ",") (codes " ") ++ rest) ≡ from_brace outside rest) [ true ↦ refl | false ↦ refl ]
@@ -135,6 +162,7 @@ passed_argument (range_from first) s h o = passed_word (decimal first ++ codes "
 passed_argument (list words) s h o =
     passed_bracketed words (all_accepted word_refusal Passed (λ t k. passed_word t (accepted_word t k)) words h)
 passed_argument (strings texts) s h o = passed_bracketed (map quoted texts) (passed_strings texts)
+passed_argument (section asked) s h o = passed_section asked
 passed_argument (literal n) s h o = absurd (not_open s n o)
 
 open_before : (s : Stage) (argument : Argument) → after s argument ≢ refused → Open s
@@ -180,6 +208,7 @@ open_after arguments (range first last) other h = tt
 open_after arguments (range_from first) other h = tt
 open_after arguments (list words) other h = tt
 open_after arguments (strings texts) other h = tt
+open_after arguments (section asked) other h = tt
 open_after numbers (word text) other h = tt
 open_after numbers (string text) other h = tt
 open_after numbers (number n) other h = tt
@@ -188,6 +217,7 @@ open_after numbers (range first last) other h = tt
 open_after numbers (range_from first) other h = tt
 open_after numbers (list words) other h = tt
 open_after numbers (strings texts) other h = tt
+open_after numbers (section asked) other h = tt
 
 found_of_others : (name : List ℕ) (argument : Argument) (before : List Argument) → ((n : ℕ) → argument ≢ literal n) → Sound name (argument ∷ before) → from_brace outside (begun name (argument ∷ before)) ≡ []
 found_of_others name argument before other sound =

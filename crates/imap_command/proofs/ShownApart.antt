@@ -2,10 +2,11 @@
 use Rattle.std.proofs.Common.{◌≡◌, ℕ, ◌<◌, ◌^◌, List, [], ◌∷◌, ◌++◌, map, drop, true, false, All, refl, ap, sym, subst, ◌∙◌, append_assoc, arith}
 use Rattle.std.specs.Prelude.{decimal, codes, ◌==◌}
 use Rattle.std.specs.List.{list_all, flat_map}
-use Rattle.std.proofs.lemmas.List.Elements.{All-head, All-tail}
+use Rattle.std.proofs.lemmas.Bool.Decides.{nat_tests}
+use Rattle.std.proofs.lemmas.List.Elements.{All-nil, All-cons, All-head, All-tail}
 use Rattle.imap_command.specs.Arguments.{quoted}
 use Rattle.imap_command.specs.OtherWords.{is_word_byte, is_word, behind_space, bracketed}
-use Rattle.imap_command.specs.OtherApart.{Item, plain, text, Shown, single, listed, announced}
+use Rattle.imap_command.specs.OtherApart.{Item, plain, text, names, Shown, single, listed, announced}
 use Rattle.imap_command.proofs.Runs.{both, front, beyond, front-append, beyond-append, is_digit, number, number-decimal, beyond-decimal, quoted_content, behind_quoted, quoted_content-quoted, behind_quoted-quoted}
 use Rattle.imap_command.proofs.WordBytes.{word_bytes}
 
@@ -13,6 +14,7 @@ use Rattle.imap_command.proofs.WordBytes.{word_bytes}
 abbrev pub item_text : Item → List ℕ
 item_text (plain bytes) = bytes
 item_text (text content) = quoted content
+item_text (names contents end) = bracketed (map quoted contents) ++ end
 
 abbrev pub shown_text : Shown → List ℕ
 shown_text (single item) = item_text item
@@ -23,6 +25,7 @@ shown_text (announced n) = codes "{" ++ (decimal n ++ codes "}")
 abbrev pub GoodItem : Item → Type 0
 GoodItem (plain bytes) = is_word bytes ≡ true
 GoodItem (text content) = Unit {0}
+GoodItem (names contents end) = is_word end ≡ true
 
 abbrev pub Good : Shown → Type 0
 Good (single item) = GoodItem item
@@ -42,12 +45,22 @@ word_begins c (b ∷ word) behind rest stop good e =
     let begins : is_word_byte c ≡ true = subst (λ x. is_word_byte x ≡ true) same parts.0 in
     cc
 
-not_begun : (c : ℕ) (item : Item) (behind rest : List ℕ) → is_word_byte c ≡ false → (34 == c) ≡ false → GoodItem item → item_text item ++ behind ≡ c ∷ rest → ⊥
-not_begun c (plain bytes) behind rest stop other good e = word_begins c bytes behind rest stop good e
-not_begun c (text content) behind rest stop other good e =
-    let same : 34 ≡ c = ap first_byte e in
-    let differs : (34 == 34) ≡ false = subst (λ x. (34 == x) ≡ false) (sym same) other in
-    cc
+unlike_itself : (b : ℕ) → (b == b) ≡ false → ⊥
+unlike_itself b h = grind (arith, nat_tests)
+
+-- a text whose first byte is another
+other_first : (b c : ℕ) (more rest : List ℕ) → (b == c) ≡ false → b ∷ more ≡ c ∷ rest → ⊥
+other_first b c more rest other e =
+    let same : b ≡ c = ap first_byte e in
+    let differs : (b == b) ≡ false = subst (λ x. (b == x) ≡ false) (sym same) other in
+    absurd (unlike_itself b differs)
+
+not_begun : (c : ℕ) (item : Item) (behind rest : List ℕ) → is_word_byte c ≡ false → (34 == c) ≡ false → (40 == c) ≡ false → GoodItem item → item_text item ++ behind ≡ c ∷ rest → ⊥
+not_begun c (plain bytes) behind rest stop no_quote no_bracket good e = word_begins c bytes behind rest stop good e
+not_begun c (text content) behind rest stop no_quote no_bracket good e =
+    other_first 34 c (drop 1 (quoted content ++ behind)) rest no_quote e
+not_begun c (names contents end) behind rest stop no_quote no_bracket good e =
+    other_first 40 c (drop 1 (item_text (names contents end) ++ behind)) rest no_bracket e
 
 -- a text that begins with a byte that ends a word
 abbrev pub Stops : List ℕ → Type 0
@@ -61,74 +74,147 @@ beyond_word : (word behind : List ℕ) → is_word word ≡ true → Stops behin
 beyond_word word behind good stops =
     ap (λ t. beyond is_word_byte (word ++ t)) stops.2 ∙ beyond-append is_word_byte word stops.0 stops.1 (word_bytes word good) stops.3 ∙ sym stops.2
 
-item_apart : (i j : Item) (a b : List ℕ) → GoodItem i → GoodItem j → Stops a → Stops b → item_text i ++ a ≡ item_text j ++ b → (i ≡ j) × (a ≡ b)
-item_apart (plain x) (plain y) a b good_x good_y stops_a stops_b e = (
-  ap plain (sym (front_word x a good_x stops_a) ∙ ap (front is_word_byte) e ∙ front_word y b good_y stops_b),
+-- Texts of one kind are told apart where a byte behind them ends a word, and none begins with `)`.
+abbrev pub FrontsApart : {X : Type 0} → (X → List ℕ) → (X → Type 0) → Type 0
+FrontsApart {X = X} text_of Fit =
+    ((x y : X) (a b : List ℕ) → Fit x → Fit y → Stops a → Stops b → text_of x ++ a ≡ text_of y ++ b → (x ≡ y) × (a ≡ b))
+    × ((x : X) (behind rest : List ℕ) → Fit x → text_of x ++ behind ≡ 41 ∷ rest → ⊥)
+
+-- the others of a list, with its end and what follows
+abbrev later : {X : Type 0} → (X → List ℕ) → List X → List ℕ → List ℕ
+later text_of [] behind = 41 ∷ behind
+later text_of (x ∷ xs) behind = 32 ∷ (text_of x ++ later text_of xs behind)
+
+later_stops : {X : Type 0} (text_of : X → List ℕ) (xs : List X) (behind : List ℕ) → Stops (later text_of xs behind)
+later_stops text_of [] behind = (41, behind, refl, refl)
+later_stops text_of (x ∷ xs) behind = (32, text_of x ++ later text_of xs behind, refl, refl)
+
+later_apart : {X : Type 0} (text_of : X → List ℕ) (Fit : X → Type 0) → FrontsApart text_of Fit → (xs ys : List X) (a b : List ℕ) → All Fit xs → All Fit ys → later text_of xs a ≡ later text_of ys b → (xs ≡ ys) × (a ≡ b)
+later_apart text_of Fit told [] [] a b fit_xs fit_ys e = (refl, ap (drop 1) e)
+later_apart text_of Fit told [] (y ∷ ys) a b fit_xs fit_ys e =
+    let same : 41 ≡ 32 = ap first_byte e in absurd (omega (arith, same))
+later_apart text_of Fit told (x ∷ xs) [] a b fit_xs fit_ys e =
+    let same : 32 ≡ 41 = ap first_byte e in absurd (omega (arith, same))
+later_apart text_of Fit told (x ∷ xs) (y ∷ ys) a b fit_xs fit_ys e =
+    let first = told.0 x y (later text_of xs a) (later text_of ys b) (All-head Fit x xs fit_xs) (All-head Fit y ys fit_ys) (later_stops text_of xs a) (later_stops text_of ys b) (ap (drop 1) e) in
+    let more = later_apart text_of Fit told xs ys a b (All-tail Fit x xs fit_xs) (All-tail Fit y ys fit_ys) first.1 in
+    let same_first : x ≡ y = first.0 in
+    let same_others : xs ≡ ys = more.0 in
+    (cc, more.1)
+
+-- a list behind its `(`, with what follows
+abbrev inside_list : {X : Type 0} → (X → List ℕ) → List X → List ℕ → List ℕ
+inside_list text_of [] behind = 41 ∷ behind
+inside_list text_of (x ∷ xs) behind = text_of x ++ later text_of xs behind
+
+later_written : {X : Type 0} (text_of : X → List ℕ) (xs : List X) (behind : List ℕ) → flat_map behind_space (map text_of xs) ++ (41 ∷ behind) ≡ later text_of xs behind
+later_written text_of [] behind = refl
+later_written text_of (x ∷ xs) behind =
+    ap (λ l. 32 ∷ l)
+    (append_assoc (text_of x) (flat_map behind_space (map text_of xs)) (41 ∷ behind)
+    ∙ ap (λ l. text_of x ++ l) (later_written text_of xs behind))
+
+list_written : {X : Type 0} (text_of : X → List ℕ) (xs : List X) (behind : List ℕ) → bracketed (map text_of xs) ++ behind ≡ 40 ∷ inside_list text_of xs behind
+list_written text_of [] behind = refl
+list_written text_of (x ∷ xs) behind =
+    ap (λ l. 40 ∷ l)
+    (append_assoc (text_of x ++ flat_map behind_space (map text_of xs)) (41 ∷ []) behind
+    ∙ append_assoc (text_of x) (flat_map behind_space (map text_of xs)) (41 ∷ behind)
+    ∙ ap (λ l. text_of x ++ l) (later_written text_of xs behind))
+
+inside_apart : {X : Type 0} (text_of : X → List ℕ) (Fit : X → Type 0) → FrontsApart text_of Fit → (xs ys : List X) (a b : List ℕ) → All Fit xs → All Fit ys → inside_list text_of xs a ≡ inside_list text_of ys b → (xs ≡ ys) × (a ≡ b)
+inside_apart text_of Fit told [] [] a b fit_xs fit_ys e = (refl, ap (drop 1) e)
+inside_apart text_of Fit told [] (y ∷ ys) a b fit_xs fit_ys e =
+    absurd (told.1 y (later text_of ys b) a (All-head Fit y ys fit_ys) (sym e))
+inside_apart text_of Fit told (x ∷ xs) [] a b fit_xs fit_ys e =
+    absurd (told.1 x (later text_of xs a) b (All-head Fit x xs fit_xs) e)
+inside_apart text_of Fit told (x ∷ xs) (y ∷ ys) a b fit_xs fit_ys e =
+    later_apart text_of Fit told (x ∷ xs) (y ∷ ys) a b fit_xs fit_ys (ap (λ l. 32 ∷ l) e)
+
+listed_apart : {X : Type 0} (text_of : X → List ℕ) (Fit : X → Type 0) → FrontsApart text_of Fit → (xs ys : List X) (a b : List ℕ) → All Fit xs → All Fit ys → bracketed (map text_of xs) ++ a ≡ bracketed (map text_of ys) ++ b → (xs ≡ ys) × (a ≡ b)
+listed_apart text_of Fit told xs ys a b fit_xs fit_ys e =
+    inside_apart text_of Fit told xs ys a b fit_xs fit_ys (ap (drop 1) (sym (list_written text_of xs a) ∙ e ∙ list_written text_of ys b))
+
+-- quoted strings
+abbrev Any : List ℕ → Type 0
+Any content = Unit {0}
+
+all_any : (contents : List (List ℕ)) → All Any contents
+all_any [] = All-nil Any
+all_any (content ∷ contents) = All-cons Any content contents tt (all_any contents)
+
+quoted_apart : FrontsApart quoted Any
+quoted_apart = (
+  λ x y a b any_x any_y stops_a stops_b e. (
+    sym (quoted_content-quoted x a) ∙ ap quoted_content e ∙ quoted_content-quoted y b,
+    sym (behind_quoted-quoted x a) ∙ ap behind_quoted e ∙ behind_quoted-quoted y b,
+  ),
+  λ x behind rest any_x e. other_first 34 41 (drop 1 (quoted x ++ behind)) rest refl e,
+)
+
+-- words, quoted strings, and lists of these with a word behind
+word_apart : (x y a b : List ℕ) → is_word x ≡ true → is_word y ≡ true → Stops a → Stops b → x ++ a ≡ y ++ b → (x ≡ y) × (a ≡ b)
+word_apart x y a b good_x good_y stops_a stops_b e = (
+  sym (front_word x a good_x stops_a) ∙ ap (front is_word_byte) e ∙ front_word y b good_y stops_b,
   sym (beyond_word x a good_x stops_a) ∙ ap (beyond is_word_byte) e ∙ beyond_word y b good_y stops_b,
 )
-item_apart (text x) (text y) a b good_x good_y stops_a stops_b e = (
-  ap text (sym (quoted_content-quoted x a) ∙ ap quoted_content e ∙ quoted_content-quoted y b),
-  sym (behind_quoted-quoted x a) ∙ ap behind_quoted e ∙ behind_quoted-quoted y b,
-)
+
+names_apart : (x y : List (List ℕ)) (end last a b : List ℕ) → is_word end ≡ true → is_word last ≡ true → Stops a → Stops b → item_text (names x end) ++ a ≡ item_text (names y last) ++ b → (names x end ≡ names y last) × (a ≡ b)
+names_apart x y end last a b good_x good_y stops_a stops_b e =
+    let found = listed_apart quoted Any quoted_apart x y (end ++ a) (last ++ b) (all_any x) (all_any y) (sym (append_assoc (bracketed (map quoted x)) end a) ∙ e ∙ append_assoc (bracketed (map quoted y)) last b) in
+    let ends = word_apart end last a b good_x good_y stops_a stops_b found.1 in
+    let same_names : x ≡ y = found.0 in
+    let same_ends : end ≡ last = ends.0 in
+    (cc, ends.1)
+
+item_apart : (i j : Item) (a b : List ℕ) → GoodItem i → GoodItem j → Stops a → Stops b → item_text i ++ a ≡ item_text j ++ b → (i ≡ j) × (a ≡ b)
+item_apart (plain x) (plain y) a b good_x good_y stops_a stops_b e =
+    let found = word_apart x y a b good_x good_y stops_a stops_b e in (ap plain found.0, found.1)
+item_apart (text x) (text y) a b good_x good_y stops_a stops_b e =
+    let found = quoted_apart.0 x y a b good_x good_y stops_a stops_b e in (ap text found.0, found.1)
+item_apart (names x end) (names y last) a b good_x good_y stops_a stops_b e =
+    names_apart x y end last a b good_x good_y stops_a stops_b e
 item_apart (plain x) (text y) a b good_x good_y stops_a stops_b e =
     absurd (word_begins 34 x a (drop 1 (quoted y ++ b)) refl good_x e)
 item_apart (text x) (plain y) a b good_x good_y stops_a stops_b e =
     absurd (word_begins 34 y b (drop 1 (quoted x ++ a)) refl good_y (sym e))
+item_apart (plain x) (names y last) a b good_x good_y stops_a stops_b e =
+    absurd (word_begins 40 x a (drop 1 (item_text (names y last) ++ b)) refl good_x e)
+item_apart (names x end) (plain y) a b good_x good_y stops_a stops_b e =
+    absurd (word_begins 40 y b (drop 1 (item_text (names x end) ++ a)) refl good_y (sym e))
+item_apart (text x) (names y last) a b good_x good_y stops_a stops_b e =
+    absurd (other_first 34 40 (drop 1 (quoted x ++ a)) (drop 1 (item_text (names y last) ++ b)) refl e)
+item_apart (names x end) (text y) a b good_x good_y stops_a stops_b e =
+    absurd (other_first 34 40 (drop 1 (quoted y ++ b)) (drop 1 (item_text (names x end) ++ a)) refl (sym e))
 
--- the others of a list, with its end and what follows
-abbrev later : List Item → List ℕ → List ℕ
-later [] behind = 41 ∷ behind
-later (item ∷ items) behind = 32 ∷ (item_text item ++ later items behind)
+items_apart : FrontsApart item_text GoodItem
+items_apart = (
+  item_apart,
+  λ item behind rest good e. not_begun 41 item behind rest refl refl refl good e,
+)
 
-later_stops : (items : List Item) (behind : List ℕ) → Stops (later items behind)
-later_stops [] behind = (41, behind, refl, refl)
-later_stops (item ∷ items) behind = (32, item_text item ++ later items behind, refl, refl)
+-- a list of quoted strings by itself, as items
+pub items_of_strings : (contents : List (List ℕ)) → map item_text (map text contents) ≡ map quoted contents
+items_of_strings [] = refl
+items_of_strings (content ∷ contents) = ap (λ l. quoted content ∷ l) (items_of_strings contents)
 
-later_apart : (items others : List Item) (a b : List ℕ) → All GoodItem items → All GoodItem others → later items a ≡ later others b → (items ≡ others) × (a ≡ b)
-later_apart [] [] a b good_items good_others e = (refl, ap (drop 1) e)
-later_apart [] (j ∷ others) a b good_items good_others e =
-    let same : 41 ≡ 32 = ap first_byte e in absurd (omega (arith, same))
-later_apart (i ∷ items) [] a b good_items good_others e =
-    let same : 32 ≡ 41 = ap first_byte e in absurd (omega (arith, same))
-later_apart (i ∷ items) (j ∷ others) a b good_items good_others e =
-    let first = item_apart i j (later items a) (later others b) (All-head GoodItem i items good_items) (All-head GoodItem j others good_others) (later_stops items a) (later_stops others b) (ap (drop 1) e) in
-    let more = later_apart items others a b (All-tail GoodItem i items good_items) (All-tail GoodItem j others good_others) first.1 in
-    let same_first : i ≡ j = first.0 in
-    let same_others : items ≡ others = more.0 in
-    (cc, more.1)
+pub good_strings : (contents : List (List ℕ)) → All GoodItem (map text contents)
+good_strings [] = All-nil GoodItem
+good_strings (content ∷ contents) =
+    All-cons GoodItem (text content) (map text contents) tt (good_strings contents)
 
--- a list behind its `(`, with what follows
-abbrev inside_list : List Item → List ℕ → List ℕ
-inside_list [] behind = 41 ∷ behind
-inside_list (item ∷ items) behind = item_text item ++ later items behind
-
-later_written : (items : List Item) (behind : List ℕ) → flat_map behind_space (map item_text items) ++ (41 ∷ behind) ≡ later items behind
-later_written [] behind = refl
-later_written (item ∷ items) behind =
-    ap (λ l. 32 ∷ l)
-    (append_assoc (item_text item) (flat_map behind_space (map item_text items)) (41 ∷ behind)
-    ∙ ap (λ l. item_text item ++ l) (later_written items behind))
-
-list_written : (items : List Item) (behind : List ℕ) → bracketed (map item_text items) ++ behind ≡ 40 ∷ inside_list items behind
-list_written [] behind = refl
-list_written (item ∷ items) behind =
-    ap (λ l. 40 ∷ l)
-    (append_assoc (item_text item ++ flat_map behind_space (map item_text items)) (41 ∷ []) behind
-    ∙ append_assoc (item_text item) (flat_map behind_space (map item_text items)) (41 ∷ behind)
-    ∙ ap (λ l. item_text item ++ l) (later_written items behind))
-
-inside_apart : (items others : List Item) (a b : List ℕ) → All GoodItem items → All GoodItem others → inside_list items a ≡ inside_list others b → (items ≡ others) × (a ≡ b)
-inside_apart [] [] a b good_items good_others e = (refl, ap (drop 1) e)
-inside_apart [] (j ∷ others) a b good_items good_others e =
-    absurd (not_begun 41 j (later others b) a refl refl (All-head GoodItem j others good_others) (sym e))
-inside_apart (i ∷ items) [] a b good_items good_others e =
-    absurd (not_begun 41 i (later items a) b refl refl (All-head GoodItem i items good_items) e)
-inside_apart (i ∷ items) (j ∷ others) a b good_items good_others e =
-    later_apart (i ∷ items) (j ∷ others) a b good_items good_others (ap (λ l. 32 ∷ l) e)
-
-listed_apart : (items others : List Item) (a b : List ℕ) → All GoodItem items → All GoodItem others → bracketed (map item_text items) ++ a ≡ bracketed (map item_text others) ++ b → (items ≡ others) × (a ≡ b)
-listed_apart items others a b good_items good_others e =
-    inside_apart items others a b good_items good_others (ap (drop 1) (sym (list_written items a) ∙ e ∙ list_written others b))
+-- a list has a word right behind it, or none
+item_not_listed : (item : Item) (items : List Item) (a b : List ℕ) → GoodItem item → All GoodItem items → Stops b → item_text item ++ a ≡ bracketed (map item_text items) ++ b → ⊥
+item_not_listed (plain bytes) items a b good_item good_items stops_b e =
+    word_begins 40 bytes a (drop 1 (bracketed (map item_text items) ++ b)) refl good_item e
+item_not_listed (text content) items a b good_item good_items stops_b e =
+    other_first 34 40 (drop 1 (quoted content ++ a)) (drop 1 (bracketed (map item_text items) ++ b)) refl e
+item_not_listed (names contents end) items a b good_item good_items stops_b e =
+    let texts : bracketed (map item_text (map text contents)) ++ (end ++ a) ≡ bracketed (map item_text items) ++ b =
+    ap (λ t. bracketed t ++ (end ++ a)) (items_of_strings contents)
+    ∙ sym (append_assoc (bracketed (map quoted contents)) end a) ∙ e in
+    let found = listed_apart item_text GoodItem items_apart (map text contents) items (end ++ a) b (good_strings contents) good_items texts in
+    word_begins stops_b.0 end a stops_b.1 stops_b.3 good_item (found.1 ∙ stops_b.2)
 
 announced_apart : (n m : ℕ) (a b : List ℕ) → n < 2 ^ 64 → m < 2 ^ 64 → shown_text (announced n) ++ a ≡ shown_text (announced m) ++ b → (n ≡ m) × (a ≡ b)
 announced_apart n m a b fits fits_too e =
@@ -143,17 +229,17 @@ first_apart : (w v : Shown) (a b : List ℕ) → Good w → Good v → Stops a �
 first_apart (single i) (single j) a b good_w good_v stops_a stops_b e =
     let found = item_apart i j a b good_w good_v stops_a stops_b e in (ap single found.0, found.1)
 first_apart (single i) (listed items) a b good_w good_v stops_a stops_b e =
-    absurd (not_begun 40 i a (drop 1 (shown_text (listed items) ++ b)) refl refl good_w e)
+    absurd (item_not_listed i items a b good_w good_v stops_b e)
 first_apart (single i) (announced n) a b good_w good_v stops_a stops_b e =
-    absurd (not_begun 123 i a (drop 1 (shown_text (announced n) ++ b)) refl refl good_w e)
+    absurd (not_begun 123 i a (drop 1 (shown_text (announced n) ++ b)) refl refl refl good_w e)
 first_apart (listed items) (single j) a b good_w good_v stops_a stops_b e =
-    absurd (not_begun 40 j b (drop 1 (shown_text (listed items) ++ a)) refl refl good_v (sym e))
+    absurd (item_not_listed j items b a good_v good_w stops_a (sym e))
 first_apart (listed items) (listed others) a b good_w good_v stops_a stops_b e =
-    let found = listed_apart items others a b good_w good_v e in (ap listed found.0, found.1)
+    let found = listed_apart item_text GoodItem items_apart items others a b good_w good_v e in (ap listed found.0, found.1)
 first_apart (listed items) (announced n) a b good_w good_v stops_a stops_b e =
     let same : 40 ≡ 123 = ap first_byte e in absurd (omega (arith, same))
 first_apart (announced n) (single j) a b good_w good_v stops_a stops_b e =
-    absurd (not_begun 123 j b (drop 1 (shown_text (announced n) ++ a)) refl refl good_v (sym e))
+    absurd (not_begun 123 j b (drop 1 (shown_text (announced n) ++ a)) refl refl refl good_v (sym e))
 first_apart (announced n) (listed items) a b good_w good_v stops_a stops_b e =
     let same : 123 ≡ 40 = ap first_byte e in absurd (omega (arith, same))
 first_apart (announced n) (announced m) a b good_w good_v stops_a stops_b e =

@@ -5,6 +5,7 @@ pub mod Calls
 pub mod Apart
 pub mod OneLine
 pub mod OtherWords
+pub mod Sections
 pub mod OtherCalls
 pub mod OtherLine
 pub mod OtherApart

@@ -3,6 +3,7 @@
 use Rattle.std.specs.Prelude.{◌≡◌, Bool, true, false, if◌then◌else◌, ℕ, ◌<◌, ◌^◌, List, [], ◌∷◌, ◌++◌, codes, decimal, map, Option, None}
 use Rattle.imap_command.specs.Arguments.{refusal, quoted}
 use Rattle.imap_command.specs.OtherWords.{word_refusal, first_refusal, bracketed}
+use Rattle.imap_command.specs.Sections.{Section, SectionInRange, section_refusal, section_text}
 use Rattle.imap_command.specs.declared.errors.BuildError.{BuildError}
 
 -- the calls that add arguments, by their names
@@ -15,6 +16,7 @@ pub data Argument : Type 0 where
   range_from : ℕ → Argument
   list : List (List ℕ) → Argument
   strings : List (List ℕ) → Argument
+  section : Section → Argument
   literal : ℕ → Argument
 
 -- a call's numbers fit the types of its parameters
@@ -23,6 +25,7 @@ InRange (number n) = n < 2 ^ 64
 InRange (num n) = n < 2 ^ 32
 InRange (range first last) = (first < 2 ^ 32) × (last < 2 ^ 32)
 InRange (range_from first) = first < 2 ^ 32
+InRange (section asked) = SectionInRange asked
 InRange (literal n) = n < 2 ^ 32
 InRange argument = Unit {0}
 
@@ -32,6 +35,7 @@ argument_refusal (word text) = word_refusal text
 argument_refusal (string text) = refusal text
 argument_refusal (list words) = first_refusal word_refusal words
 argument_refusal (strings texts) = first_refusal refusal texts
+argument_refusal (section asked) = section_refusal asked
 argument_refusal argument = None
 
 -- The typed states: the markers' names, and after a call that the types refuse. A set is open in `numbers`.
@@ -82,6 +86,7 @@ argument_text (range first last) = decimal first ++ (codes ":" ++ decimal last)
 argument_text (range_from first) = decimal first ++ codes ":*"
 argument_text (list words) = bracketed words
 argument_text (strings texts) = bracketed (map quoted texts)
+argument_text (section asked) = section_text asked
 argument_text (literal n) = codes "{" ++ (decimal n ++ codes "}")
 
 -- the text so far

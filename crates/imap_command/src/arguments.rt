@@ -40,6 +40,17 @@ pub(crate) fn with_arguments(
     Ok(args)
 }
 
+/// The argument as a quoted string (RFC 3501, section 9: quoted), as the calls of a builder write it.
+///
+/// `CarriageReturn`, `LineFeed`, `Nul`: the first such byte of the argument. It takes memory; `OutOfMemory`: memory ran
+/// out.
+pub fn quoted_string(alloc: Global, argument: &str) -> Result<Vec<u8>, BuildError>
+    ensures judged { Judges (refusal argument.now) result }
+    ensures text { IfOk result (λ text. text.items ≡ quoted argument.now) }
+{
+    with_argument(alloc, b"", argument)
+}
+
 fn refused(byte: u8) -> Option<BuildError>
     ensures { result ≡ refused_byte byte }
 {

@@ -25,6 +25,9 @@ pub enum BuildError {
     /// A word is empty, or has a byte that isn't from 33 to 126, or `"`, `(`, `)` or `{`.
     #[error("not a word")]
     BadWord,
+    /// A section has a part number 0, MIME without a part, a list of no names, or a count of 0.
+    #[error("not a section")]
+    BadSection,
     /// Memory ran out.
     #[error("out of memory")]
     OutOfMemory,

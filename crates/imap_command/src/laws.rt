@@ -10,6 +10,7 @@ ghost use Rattle.imap_command.specs.OtherLine.{LiteralEndsLine, OtherOneLine};
 
 use crate::command::State;
 use crate::errors::BuildError;
+use crate::sections::{Partial, Section, SectionText};
 use crate::words::{AttrMacro, Attribute};
 
 /// Finished commands with equal bytes were built by equal calls, ranges compared by their printed
@@ -67,4 +68,12 @@ pub fn cloning()
     ensures attribute { (x copy : Attribute) →
         ⟦<Attribute as Clone>⟧.is_infallible x
         × (⟦<Attribute as Clone>⟧.is_clone x copy → copy ≡ x) }
+    ensures partial { (x copy : Partial) →
+        ⟦<Partial as Clone>⟧.is_infallible x × (⟦<Partial as Clone>⟧.is_clone x copy → copy ≡ x) }
+    ensures section_text { (x copy : SectionText) →
+        ⟦<SectionText<'static> as Clone>⟧.is_infallible x
+        × (⟦<SectionText<'static> as Clone>⟧.is_clone x copy → copy ≡ x) }
+    ensures section { (x copy : Section) →
+        ⟦<Section<'static> as Clone>⟧.is_infallible x
+        × (⟦<Section<'static> as Clone>⟧.is_clone x copy → copy ≡ x) }
 {}

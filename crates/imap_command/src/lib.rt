@@ -42,14 +42,17 @@ mod listing;
 mod numbers;
 pub mod other;
 mod others;
+mod sections;
 pub mod select;
 mod selecting;
 mod words;
 
+pub use arguments::quoted_string;
 pub use builder::CommandBuilder;
 pub use command::{Command, State};
 pub use errors::BuildError;
 pub use fetching::FetchCommand;
 pub use others::OtherCommand;
+pub use sections::{Partial, Section, SectionText};
 pub use selecting::SelectCommand;
 pub use words::{AttrMacro, Attribute};

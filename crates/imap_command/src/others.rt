@@ -22,6 +22,7 @@ use std::marker::{Model, PhantomData};
 
 mod lists;
 mod members;
+mod sections;
 mod sets;
 
 /// A command that has no builder of its own, and is being built; `T` is what it has been told so far. An argument that is

@@ -1,5 +1,5 @@
 -- The end of a line may be read with the second of two parts as well as behind both.
-use Rattle.std.proofs.Common.{◌≡◌, ℕ, List, Ok, Err, refl}
+use Rattle.std.proofs.Common.{◌≡◌, Ok, Err, refl}
 use Rattle.imap_grammar.specs.Rule.{Rule, gives, ◌⨾◌}
 use Rattle.imap_grammar.specs.Step.{Step, step, ◌>>=◌, and_then, beside}
 use Rattle.imap_grammar.specs.Tags.{crlf}

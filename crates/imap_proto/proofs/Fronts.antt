@@ -1,15 +1,14 @@
 -- Fronts of feeds, where a FETCH is kept.
-use Rattle.std.proofs.Common.{◌≡◌, ℕ, ◌-◌, ◌<◌, ◌≤◌, Bool, true, false, [], ◌∷◌, ◌++◌, length, take, drop, codes, Option, None, Some, Result, Ok, Err, refl, sym, ap, subst, ◌∙◌, inl, inr, arith}
-use Rattle.std.specs.Prelude.{IfOk, IfErr, IfSome, MatchResult, nat_lt, slice_get}
+use Rattle.std.proofs.Common.{◌≡◌, ℕ, ◌-◌, ◌<◌, Bool, true, false, [], ◌∷◌, ◌++◌, length, take, drop, codes, Option, None, Some, Result, Ok, Err, refl, sym, ap, subst, ◌∙◌, inl, inr, arith}
+use Rattle.std.specs.Prelude.{IfOk, IfSome, MatchResult, nat_lt, slice_get}
 use Rattle.std.specs.Global.{Vec}
 use Rattle.std.proofs.lemmas.List.{length-append, length-drop, length-take}
 use Rattle.std.proofs.lemmas.Bool.{and_parts, ltb-true}
 use Rattle.imap_grammar.specs.declared.answer.Err.{Err as Fault}
 use Rattle.imap_grammar.specs.declared.answer.Err.TheVariants.{Incomplete, Error, Failure}
-use Rattle.imap_grammar.specs.Answer.{Stops}
 use Rattle.imap_grammar.specs.Classes.{is_digit}
 use Rattle.imap_grammar.specs.Memory.{BeginsWord, FailsOnlyIf}
-use Rattle.imap_grammar.specs.Rule.{meaning, ◌▹◌, ◌⨾◌}
+use Rattle.imap_grammar.specs.Rule.{meaning, ◌⨾◌}
 use Rattle.imap_grammar.specs.Step.{step, ◌>>=◌, and_then, beside}
 use Rattle.imap_grammar.specs.Tags.{tag, word, crlf}
 use Rattle.imap_grammar.specs.Text.{Bytes}
@@ -20,7 +19,6 @@ use Rattle.imap_shapes.specs.declared.spans.SpannedText.{SpannedText}
 use Rattle.imap_body.specs.declared.spanned.SpannedAttribute.{SpannedAttribute}
 use Rattle.imap_body.specs.SpannedAttributes.{Stands}
 use Rattle.imap_grammar.proofs.Starts.{denied, waited}
-use Rattle.imap_grammar.proofs.Steps.{ok_is}
 use Rattle.imap_grammar.proofs.Yields.{Yields, made_yields, right_yields, left_yields}
 use Rattle.imap_bytes.specs.Numbers.{number, digits}
 use Rattle.imap_data.specs.MailboxData.{exists, recent}
@@ -30,7 +28,7 @@ use Rattle.imap_proto.specs.declared.kept.KeptFetch.{KeptFetch}
 use Rattle.imap_proto.specs.declared.response.Response.{Response}
 use Rattle.imap_proto.specs.declared.stream.FeedError.{FeedError}
 use Rattle.imap_proto.specs.Responses.{ResponseValue, Fetch, fetch_in}
-use Rattle.imap_proto.specs.Feeds.{IsOwnedFront, IsFront, Settles, IsGivenFreely, FeedMayWant, RefusesAs}
+use Rattle.imap_proto.specs.Feeds.{IsOwnedFront, IsFront, Settles, IsGivenFreely, FeedMayWant}
 use Rattle.imap_proto.specs.Fronts.{FrontSays, IsKeptFront, GaveFront, HasGivenFront, PassesFront, BeginsFetch}
 use Rattle.imap_proto.specs.Kept.{attributes_of}
 use Rattle.imap_proto.specs.Memory.{MayWantMemory, TakesNone}

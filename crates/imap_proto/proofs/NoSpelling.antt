@@ -1,7 +1,7 @@
 -- Why a text spells no such outcome.
-use Rattle.std.proofs.Common.{◌≡◌, ◌++◌, ◌||◌, Bool, true, false, not, sym, subst, refl, codes, encode_utf8, ℕ, ◌∙◌, Some}
+use Rattle.std.proofs.Common.{◌≡◌, ◌++◌, ◌||◌, Bool, true, false, not, sym, refl, codes, encode_utf8, ℕ, ◌∙◌, Some}
 use Rattle.std.specs.Str.Lossy.{utf8_lossy}
-use Rattle.imap_grammar.specs.Text.{Bytes, Text, as_text}
+use Rattle.imap_grammar.specs.Text.{Bytes, Text}
 use Rattle.imap_grammar.proofs.NoSpelling.{Passes, ◌andᵖ◌, passes-this, passes-any_case, is_ascii, ascii_is, one_before, one_is_before}
 use Rattle.imap_data.specs.Codes as code
 use Rattle.imap_proto.specs.OutcomeTexts.{spells_behind_code, spells_parts}

@@ -1,6 +1,6 @@
 -- Responses that say the same have one canonical text, whichever of their texts are borrowed, and are of the two kinds
 -- that are not read back alike.
-use Rattle.std.proofs.Common.{◌≡◌, List, [], None, Some, map, refl, sym, ap, ap₂, subst, ◌∙◌, ◌++◌}
+use Rattle.std.proofs.Common.{◌≡◌, None, Some, refl, sym, ap, subst, ◌∙◌, ◌++◌}
 use Rattle.std.specs.List.{list_any}
 use Rattle.std.specs.Option.{option_map}
 use Rattle.imap_grammar.specs.Rule.{meaning}
@@ -14,7 +14,7 @@ use Rattle.imap_body.proofs.OneText.{attributes}
 use Rattle.imap_proto.specs.Lines.{response as rule}
 use Rattle.imap_proto.specs.Responses.{OutcomeValue, ResponseValue, Capabilities, Continue, Done, Data, Expunge, Vanished, Fetch, MailboxData, Quota, QuotaRoot, Id, Acl, ListRights, MyRights, lent_outcome, lent_response}
 use Rattle.imap_proto.specs.OutcomeTexts.{canonical_parts, canonical_outcome, canonical_spaced_parts, canonical_spaced, is_like_code, is_bracketed}
-use Rattle.imap_proto.specs.LineTexts.{line_end, canonical_data, canonical_response, canonical_bytes, has_bracket, is_too_long, has_too_long_text, Same, CanonicalReadsBack, SaidAlike, SameReadsBack}
+use Rattle.imap_proto.specs.LineTexts.{line_end, canonical_response, canonical_bytes, has_bracket, is_too_long, SaidAlike, SameReadsBack}
 use Rattle.imap_proto.proofs.LineTexts.{canonical_reads_back}
 
 -- ---- outcomes

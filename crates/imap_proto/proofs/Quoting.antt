@@ -1,5 +1,6 @@
 -- A quoted argument is a quoted string. Its content is cut into runs of quoted-chars, as long as they go, and pairs.
 use Rattle.std.proofs.Common.{◌≡◌, ℕ, Bool, true, false, cond, ◌==◌, ◌||◌, List, [], ◌∷◌, ◌++◌, codes, All, sym, ap, subst, ◌∙◌, refl, inl, inr, ◌⊎◌, append_assoc, arith}
+use Rattle.std.specs.Prelude.{if◌then◌else◌}
 use Rattle.std.specs.List.{flat_map, list_all}
 use Rattle.std.proofs.lemmas.Bool.{and_from, or_cases, eqb-true, ne_eqb}
 use Rattle.std.proofs.lemmas.List.Elements.{All-head, All-tail}
@@ -13,7 +14,9 @@ use Rattle.imap_grammar.proofs.ReadingWords.{exact}
 use Rattle.imap_bytes.specs.Strings.{quoted_part, quoted_content, quoted}
 use Rattle.imap_command.specs.Arguments.{escaped_byte}
 use Rattle.imap_command.specs.OneLine.{StaysInLine}
-use Rattle.imap_proto.specs.Quoting.{QuotedIsRead}
+use Rattle.imap_attributes.specs.Unescaped.{unescaped}
+use Rattle.imap_attributes.proofs.Escapes.{first_unescaped}
+use Rattle.imap_proto.specs.Quoting.{QuotedIsRead, QuotedIsUnescaped}
 
 abbrev NotPlain : Bytes → Type 0
 NotPlain m = begins (outside is_quoted_char) m ≡ true
@@ -91,3 +94,15 @@ quoted_is_read argument t stays =
     subst (λ l. (meaning quoted).yields (34 ∷ l) content t) (sym (append_assoc content (34 ∷ []) t))
     (after-on (tag "\"") (quoted_content ◃ tag "\"") _ (34 ∷ []) _ content t (tag-on ◌==◌ (codes "\"") (34 ∷ []) _ refl)
     (before-on quoted_content (tag "\"") _ content (34 ∷ t) (34 ∷ []) t (content_read argument t stays) (tag-on ◌==◌ (codes "\"") (34 ∷ []) t refl)))
+
+-- ---- its content without the escapes
+
+escape_undone : (is_quote is_backslash : Bool) (b : ℕ) (content escaped : Bytes) → (b == 92) ≡ is_backslash → unescaped escaped ≡ content
+    → unescaped ((if is_quote || is_backslash then 92 ∷ b ∷ [] else b ∷ []) ++ escaped) ≡ b ∷ content
+escape_undone true is_backslash b content escaped is behind = ap (λ x. b ∷ x) behind
+escape_undone false true b content escaped is behind = ap (λ x. b ∷ x) behind
+escape_undone false false b content escaped is behind = first_unescaped b escaped ∙ rw is (ap (λ x. b ∷ x) behind)
+
+pub quoted_is_unescaped : QuotedIsUnescaped
+quoted_is_unescaped [] = refl
+quoted_is_unescaped (b ∷ argument) = escape_undone (b == 34) (b == 92) b argument (flat_map escaped_byte argument) refl (quoted_is_unescaped argument)

@@ -16,7 +16,7 @@ use Rattle.imap_proto.specs.declared.stream.FeedError.{FeedError}
 use Rattle.imap_proto.specs.Responses.{ResponseValue}
 use Rattle.imap_proto.specs.Lines.{response}
 use Rattle.imap_proto.specs.LogicalLines.{logical_line}
-use Rattle.imap_proto.specs.Streams.{Waiting, EndsAs, Fed, empty, fed, gave, joined}
+use Rattle.imap_proto.specs.Streams.{Waiting, EndsAs, empty, fed, gave, joined}
 use Rattle.imap_proto.specs.Feeds.{Gave}
 use Rattle.imap_proto.specs.Skipping.{Item, Taken, Skipped, item, SplitsPast, Passed, at_first, fed_piece, passed, PassesResponse, PassesLine, Dropped, SomePast, OnePast, PastGoesOn, PastBeginsSo, FedIsPassed, FeedsPast, PastCuttingsAlike}
 use Rattle.imap_proto.proofs.Cuts.{NoneAt, more_behind, both, one, same, all}

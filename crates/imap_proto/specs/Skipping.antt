@@ -1,6 +1,6 @@
 -- Streams in which a line is skipped where it is denied, so that what is behind it is read.
-use Rattle.std.specs.Prelude.{◌≡◌, ◌≢◌, ℕ, List, [], ◌∷◌, ◌++◌, length, map, Option, None, Some, IfSome}
-use Rattle.imap_grammar.specs.Meaning.{Denies, Cuts}
+use Rattle.std.specs.Prelude.{◌≡◌, ℕ, List, [], ◌∷◌, ◌++◌, length, map, Option, None, Some}
+use Rattle.imap_grammar.specs.Meaning.{Cuts}
 use Rattle.imap_grammar.specs.Rule.{Rule, meaning, gives, ◌or◌}
 use Rattle.imap_grammar.specs.Text.{Bytes}
 use Rattle.imap_proto.specs.declared.response.Response.{Response}

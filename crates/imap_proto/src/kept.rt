@@ -5,7 +5,7 @@ ghost use Rattle.imap_grammar.specs.Memory.{FailsOnlyIf};
 ghost use Rattle.imap_grammar.specs.Positions.{StepsAt};
 ghost use Rattle.imap_attributes.specs.AttributeValues.{attribute_value};
 ghost use Rattle.imap_body.specs.SpannedAttributes.{InFront};
-ghost use Rattle.imap_proto.specs.Kept.{Keeps, message_number, consumed_bytes, attributes_of, spans_of, without_value};
+ghost use Rattle.imap_proto.specs.Kept.{Keeps, message_number, consumed_bytes, attributes_of, unescaped_attributes_of, attributes_left, spans_of, without_value};
 ghost use Rattle.imap_proto.specs.Feeds.{FeedMayWant};
 ghost use Rattle.imap_proto.specs.Fronts.{BeginsFetch, IsKeptFront};
 ghost use Rattle.imap_proto.specs.declared.kept.Front.TheVariants as front;
@@ -120,12 +120,62 @@ impl KeptFetch {
         self.attributes[k].value(self.alloc, &self.bytes)
     }
 
+    /// The attribute at k, which must be below `len`, each quoted string without its escapes (RFC 3501, section 9:
+    /// quoted): of `\\` and `\"` the second byte stays. Literals and atoms are as they stand, and where nothing was
+    /// undone a text is borrowed as `attribute` has it.
+    ///
+    /// It takes memory as `attribute` does, and for each quoted string that has a `\`. `Err`: memory ran out.
+    pub fn unescaped(&self, k: usize) -> Result<AttributeValue<'_>, AllocError>
+        requires { k < length (attributes_of self.now) }
+        ensures { IfOk result (λ v.
+            slice_get (unescaped_attributes_of self.now) k ≡ Some (attribute_value v)) }
+    {
+        self.attributes[k].unescaped(self.alloc, &self.bytes)
+    }
+
+    /// Its attributes in their order, each as `attribute` gives it. No memory for the iterator itself.
+    pub fn attributes(&self) -> Attributes<'_>
+        ensures { attributes_left result ≡ attributes_of self.now }
+    {
+        Attributes {
+            alloc: self.alloc,
+            left: &self.attributes,
+            bytes: &self.bytes,
+        }
+    }
+
     /// The bytes of the attribute at k, which must be below `len`: its name and what stands behind that. No memory.
     pub fn span(&self, k: usize) -> &[u8]
         requires { k < length (attributes_of self.now) }
         ensures { slice_get (spans_of self.now) k ≡ Some result.now }
     {
         self.attributes[k].span().part(&self.bytes)
+    }
+}
+
+/// The attributes of a kept fetch, in their order (`KeptFetch::attributes`).
+#[derive(Drop)]
+pub struct Attributes<'a> {
+    alloc: Global,
+    left: &'a [SpannedAttribute],
+    bytes: &'a [u8],
+}
+
+impl<'a> Iterator for Attributes<'a> {
+    ghost use Rattle.std.specs.Iterator.{item_count};
+    ghost use Rattle.imap_proto.specs.Kept.{GivesAttribute};
+
+    type Item = Result<AttributeValue<'a>, AllocError>;
+
+    ghost next_gives = { GivesAttribute };
+
+    ghost remaining = { item_count attributes_left };
+
+    /// The next attribute, as `KeptFetch::attribute` gives it; `Err`: memory ran out, and the attribute is passed over.
+    fn next(&mut self) -> Option<Result<AttributeValue<'a>, AllocError>> {
+        let (first, others) = self.left.split_first()?;
+        self.left = others;
+        Some(first.value(self.alloc, self.bytes))
     }
 }
 

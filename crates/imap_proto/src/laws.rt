@@ -16,7 +16,7 @@ ghost use Rattle.imap_proto.specs.Feeds.{OneWhole, lent_whole};
 ghost use Rattle.imap_grammar.specs.ReadBack.{Spells};
 ghost use Rattle.imap_proto.specs.Owned.{owned_outcome, owned_response};
 ghost use Rattle.imap_proto.specs.CountLines.{CountIsRead, exists_of, recent_of};
-ghost use Rattle.imap_proto.specs.Quoting.{QuotedIsRead};
+ghost use Rattle.imap_proto.specs.Quoting.{QuotedIsRead, QuotedIsUnescaped};
 ghost use Rattle.imap_proto.specs.LineTexts.{spells_response, BracketIsSaid, LiteralIsTooLong, CanonicalReadsBack, Same, SaidAlike, SameReadsBack};
 ghost use Rattle.imap_proto.specs.Responses.{OutcomeValue, ResponseValue, Expunge, outcome_value, response_value, lent_outcome, lent_response};
 
@@ -112,10 +112,12 @@ pub fn count_lines()
     ensures expunge { CountIsRead " EXPUNGE" (λ n. Expunge n) }
 {}
 
-/// What a command quotes, the grammar of responses reads as one quoted string (RFC 3501, section 9: quoted).
-#[tactic(auto, using(crate::proofs::Quoting::quoted_is_read))]
+/// What a command quotes, the grammar of responses reads as one quoted string (RFC 3501, section 9: quoted), whose
+/// content without its escapes is the argument.
+#[tactic(auto, using(crate::proofs::Quoting::quoted_is_read, crate::proofs::Quoting::quoted_is_unescaped))]
 pub fn quoting()
-    ensures { QuotedIsRead }
+    ensures read { QuotedIsRead }
+    ensures unescaped { QuotedIsUnescaped }
 {}
 
 /// An owned response says the same as the response that it was made from.

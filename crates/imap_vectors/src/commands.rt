@@ -2,7 +2,7 @@
 
 use crate::answers::{assert_row, assert_texts};
 use imap_proto::builders::command::{
-    AttrMacro, Attribute, BuildError, Command, CommandBuilder, State,
+    AttrMacro, Attribute, BuildError, Command, CommandBuilder, State, quoted_string,
 };
 use std::alloc::{AllocError, Global};
 use std::process::Abort;
@@ -167,12 +167,33 @@ fn refused_arguments(rt: HostRuntime) {
     assert_refused(&rt, examined(alloc, "a\0"), &BuildError::Nul);
 }
 
+// Whether an argument is quoted so.
+fn quotes(answer: Result<Vec<u8>, BuildError>, text: &str) -> bool {
+    match answer {
+        Ok(quoted) => quoted.as_slice() == text.as_bytes(),
+        Err(_) => false,
+    }
+}
+
+#[test]
+fn quoted_strings(rt: HostRuntime) {
+    let alloc = rt.alloc();
+    assert!(rt;
+        quotes(quoted_string(alloc, "a\\b\"c"), "\"a\\\\b\\\"c\""),
+        "escaped"
+    );
+    assert!(rt; quotes(quoted_string(alloc, ""), "\"\""), "empty");
+    let refused = matches!(quoted_string(alloc, "a\n\r"), Err(BuildError::LineFeed));
+    assert!(rt; refused, "refused");
+}
+
 static REFUSALS: &[(BuildError, &str)] = &[
     (BuildError::CarriageReturn, "carriage return in an argument"),
     (BuildError::LineFeed, "line feed in an argument"),
     (BuildError::Nul, "zero byte in an argument"),
     (BuildError::BadName, "not the name of a command"),
     (BuildError::BadWord, "not a word"),
+    (BuildError::BadSection, "not a section"),
     (BuildError::OutOfMemory, "out of memory"),
 ];
 

@@ -17,9 +17,9 @@ use std::fmt::{self, Debug};
 use std::process::Abort;
 use std::test::*;
 
-// What an attribute says, in its place.
+/// What an attribute says, in its place.
 #[derive(Drop)]
-struct Told(String);
+pub struct Told(String);
 
 impl fmt::Debug for Told {
     fn fmt<W: fmt::Write>(&self, f: &mut fmt::Formatter<W>) -> fmt::Result {
@@ -27,8 +27,8 @@ impl fmt::Debug for Told {
     }
 }
 
-// Puts what an attribute says behind what the others say. Over any type, since each kind would be proved to be dropped.
-fn tell_one<T: Debug + Drop>(
+/// Puts what an attribute says behind what the others say. Over any type, since each kind would be proved to be dropped.
+pub fn tell_one<T: Debug + Drop>(
     alloc: Global,
     value: Result<T, AllocError>,
     attributes: &mut Vec<Told>,

@@ -7,6 +7,8 @@
 #[cfg(test)]
 mod answers;
 #[cfg(test)]
+mod asked_sections;
+#[cfg(test)]
 mod bodies;
 #[cfg(test)]
 mod bytes;
@@ -21,11 +23,15 @@ mod copies;
 #[cfg(test)]
 mod envelopes;
 #[cfg(test)]
+mod escapes;
+#[cfg(test)]
 mod extensions;
 #[cfg(test)]
 mod fetches;
 #[cfg(test)]
 mod fronts;
+#[cfg(test)]
+mod json;
 #[cfg(test)]
 mod kept;
 #[cfg(test)]
@@ -58,3 +64,5 @@ mod statuses;
 mod streams;
 #[cfg(test)]
 mod texts;
+#[cfg(test)]
+mod uses;

@@ -91,12 +91,22 @@ fn skipping(rt: HostRuntime) {
     assert_steps(&rt, rt.alloc(), STEPS);
 }
 
-// Lines without a rule between others, one with literals; a line whose literal's bytes are a line; and what is left.
-const STREAM: &[u8] =
-    b"* OK a\r\n* STATUS x (SIZE 5)\r\n* 1 FETCH (BODYSTRUCTURE (\"text\" \"plain\" NIL NIL NIL \"7bit\" 1 1)(x))\r\n* X {6}\r\n* 1 \r\n~{2}\r\n\r\n\r\n* 2 EXISTS\r\n* Y {4294967296}\r\n* 3 EXPUNGE\r\n* Z {\r\n* Z \r\r\n* 4 EXISTS\r\n* Z {3}\r\n";
+// What imap4d (GNU Mailutils 3.15) answered to a FETCH, byte for byte: in the structure of a message no space follows
+// the envelope. Then lines without a rule between others, one with literals; a line whose literal's bytes are a line;
+// and what is left.
+const STREAM: &[u8] = b"\
+    * 1 FETCH (BODYSTRUCTURE (\"message\" \"rfc822\" NIL NIL NIL \"7BIT\" 42 (NIL \"{1}\" \
+    (({5}\r\nA \"B\" NIL \"a\" \"b\")) (({5}\r\nA \"B\" NIL \"a\" \"b\")) (({5}\r\nA \"B\" NIL \"a\" \"b\")) \
+    NIL NIL NIL NIL NIL)(\"TEXT\" \"PLAIN\" (\"CHARSET\" \"US-ASCII\") NIL NIL \"7BIT\" 3 1 NIL NIL NIL) \
+    4 NIL NIL NIL))\r\nA3 OK FETCH Completed\r\n\
+    * OK a\r\n* STATUS x (SIZE 5)\r\n* 1 FETCH (BODYSTRUCTURE (\"text\" \"plain\" NIL NIL NIL \"7bit\" 1 1)(x))\r\n\
+    * X {6}\r\n* 1 \r\n~{2}\r\n\r\n\r\n* 2 EXISTS\r\n* Y {4294967296}\r\n* 3 EXPUNGE\r\n* Z {\r\n* Z \r\r\n\
+    * 4 EXISTS\r\n* Z {3}\r\n";
 
-const IN_STREAM: &str =
-    r#"Data { status: Ok, outcome: Outcome { code: None, information: Some("a") } }; 21; 70; 25; MailboxData(Exists(2)); 18; Expunge(3); 7; 7; MailboxData(Exists(4)); 9 left"#;
+const IN_STREAM: &str = "\
+    267; Done { tag: RequestId(\"A3\"), status: Ok, outcome: Outcome { code: None, information: \
+    Some(\"FETCH Completed\") } }; Data { status: Ok, outcome: Outcome { code: None, information: Some(\"a\") } }; 21; \
+    70; 25; MailboxData(Exists(2)); 18; Expunge(3); 7; 7; MailboxData(Exists(4)); 9 left";
 
 // Puts what was given or skipped behind the text. Over any type, since each kind of response would be proved to be
 // dropped.

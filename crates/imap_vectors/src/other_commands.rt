@@ -2,7 +2,9 @@
 
 use crate::commands::{assert_is, assert_refused};
 use imap_proto::builders::command::other::{Announced, Arguments, Numbers, Open};
-use imap_proto::builders::command::{BuildError, Command, CommandBuilder, OtherCommand, State};
+use imap_proto::builders::command::{
+    BuildError, Command, CommandBuilder, OtherCommand, Partial, Section, SectionText, State,
+};
 use std::alloc::Global;
 use std::process::Abort;
 use std::test::*;
@@ -17,6 +19,7 @@ enum Call {
     From(u32),
     Words(&'static [&'static str]),
     Texts(&'static [&'static str]),
+    Section(Section<'static>),
     Literal(u32),
 }
 
@@ -36,6 +39,7 @@ fn argued<T: Open>(command: OtherCommand<T>, call: &Call) -> Result<Building, Bu
         Call::Number(number) => Building::Open(command.number(*number)?),
         Call::Words(words) => Building::Open(command.list(words)?),
         Call::Texts(texts) => Building::Open(command.strings(texts)?),
+        Call::Section(section) => Building::Open(command.section(section)?),
         Call::Literal(len) => Building::Ended(command.literal(*len)?),
         Call::Num(_) | Call::Range(..) | Call::From(_) => Building::Open(command.word("unused")?),
     })
@@ -165,6 +169,20 @@ static GUIDE: &[Row] = &[
         ],
         None,
         "FETCH 1 (UID BODYSTRUCTURE BODY.PEEK[1.TEXT]<0.100>)",
+    ),
+    (
+        "FETCH",
+        &[
+            Call::Range(1, 9),
+            Call::Section(Section {
+                part: &[],
+                text: Some(SectionText::Fields(&["DATE", "FROM"])),
+                peek: true,
+                partial: None,
+            }),
+        ],
+        None,
+        r#"FETCH 1:9 BODY.PEEK[HEADER.FIELDS ("DATE" "FROM")]"#,
     ),
     (
         "STORE",

@@ -266,6 +266,18 @@ fn owned_line_has(alloc: Global, line: &[u8], want: &str) -> bool {
     has_texts(alloc, owned(alloc, Response::parse(alloc, line)), want)
 }
 
+/// Whether the texts of an attribute that was made are told so, each with its mark.
+pub fn has_marked(
+    alloc: Global,
+    attribute: Result<AttributeValue<'_>, AllocError>,
+    want: &str,
+) -> bool {
+    match attribute {
+        Ok(value) => has_texts(alloc, Ok((NOTHING, value)), want),
+        Err(_) => false,
+    }
+}
+
 // The same of an attribute that is made owned.
 fn owned_attribute_has(alloc: Global, i: &[u8], want: &str) -> bool {
     match attribute_alone(alloc, i) {

@@ -1,4 +1,4 @@
-use Rattle.std.proofs.Common.{refl, drop, arith, ◌<◌, ◌≤◌}
+use Rattle.std.proofs.Common.{drop, arith, ◌<◌}
 use Rattle.std.proofs.lemmas.Result.{err_from_is_err_and}
 use Rattle.imap_grammar.proofs.Loops.{smaller, after_more, raw_fault}
 use Rattle.imap_grammar.proofs.Positions.{further, raw_at}

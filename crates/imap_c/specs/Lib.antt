@@ -1,0 +1,5 @@
+pub mod Numbers
+pub mod Answers
+pub mod Cursors
+pub mod Texts
+pub mod Commands

@@ -1,0 +1,13 @@
+pub mod Writing
+pub mod Faithful
+pub mod FaithfulTexts
+pub mod FaithfulItems
+pub mod FaithfulData
+pub mod FaithfulLines
+pub mod FaithfulBodies
+pub mod FaithfulResponses
+pub mod EqualTexts
+pub mod OneLine
+pub mod Tables
+pub mod ByteStrings
+pub mod Trees

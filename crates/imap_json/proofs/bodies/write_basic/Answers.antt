@@ -1,0 +1,8 @@
+use Rattle.std.proofs.lemmas.Result.{on_ok_weaker}
+use Rattle.imap_json.proofs.Writing.{joined}
+use Rattle.imap_json.proofs.bodies.write_basic.Goals as goal
+
+pub returns : goal.returns
+returns c =
+    let fields = joined c.in_ok-begin_object-2.ensures (joined c.in_ok-field.ensures (joined c.in_ok-field-2.ensures (joined c.in_ok-field-3.ensures c.in_ok-end_object.ensures))) in
+    on_ok_weaker c.end_object-2.result (λ e. joined c.in_ok-begin_object.ensures (joined c.in_ok-key.ensures (joined fields e))) c.end_object-2.ensures

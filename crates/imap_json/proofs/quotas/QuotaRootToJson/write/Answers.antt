@@ -1,0 +1,6 @@
+use Rattle.std.proofs.lemmas.Result.{on_ok_weaker}
+use Rattle.imap_json.proofs.Writing.{joined}
+use Rattle.imap_json.proofs.quotas.QuotaRootToJson.write.Goals as goal
+
+pub returns : goal.returns
+returns c = on_ok_weaker c.end_object.result (λ e. joined c.in_ok-begin_object.ensures (joined c.in_ok-field.ensures (joined c.in_ok-field-2.ensures e))) c.end_object.ensures

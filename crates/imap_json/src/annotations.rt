@@ -1,0 +1,24 @@
+//! Annotations of mailboxes.
+
+ghost use Rattle.imap_extensions.specs.Annotations.{MetadataValue, metadata_value};
+ghost use Rattle.imap_json.specs.Annotations.{metadata_json};
+
+use crate::forms::{ToJson, field};
+use crate::output::Output;
+use imap_extensions::Metadata;
+use std::alloc::AllocError;
+
+impl ToJson for Metadata {
+    ghost meaning = { MetadataValue };
+
+    ghost said = { metadata_value };
+
+    ghost json = { metadata_json };
+
+    fn write(&self, out: &mut Output) -> Result<(), AllocError> {
+        out.begin_object()?;
+        field(out, "entry", &self.entry)?;
+        field(out, "value", &self.value)?;
+        out.end_object()
+    }
+}

@@ -1,0 +1,4 @@
+pub mod Messages
+pub mod Parts
+pub mod Streams
+pub mod Sessions
