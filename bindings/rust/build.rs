@@ -6,7 +6,7 @@ use std::path::Path;
 fn main() {
     println!("cargo:rerun-if-env-changed=IMAP_LIBRARY");
     let Some(folder) = env::var_os("IMAP_LIBRARY") else {
-        println!("cargo:warning=IMAP_LIBRARY is not set: it has to name the folder of libimap.a, which fronts/library makes");
+        println!("cargo:warning=IMAP_LIBRARY is not set: it has to name the folder of libimap.a, which checks/fronts/library makes");
         return;
     };
     let folder = Path::new(&folder);

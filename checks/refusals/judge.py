@@ -86,7 +86,7 @@ def made(program, name, call):
 
 def faults_of_list(top, met):
     """Which public calls are missing."""
-    program = "\n".join(part.read_text() for part in sorted((top / "refusals" / "program").glob("*.txt")))
+    program = "\n".join(part.read_text() for part in sorted((top / "checks" / "refusals" / "program").glob("*.txt")))
     found = calls.calls(top)
     names = calls.names(found)
     outer = calls.of_programs(top, found)
