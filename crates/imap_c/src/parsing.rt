@@ -1,6 +1,6 @@
 //! What stands at the front of some bytes.
 
-ghost use Rattle.std.specs.Prelude.{◌≡◌, ◌+◌, ◌-◌, ◌<◌, ◌≤◌, ◌^◌, ◌⊎◌, List, ℕ, Ok as Found, length, drop};
+ghost use Rattle.std.specs.Prelude.{◌≡◌, ◌+◌, ◌-◌, ◌<◌, ◌≤◌, ◌^◌, ◌⊎◌, List, ℕ, Ok as Found, length};
 ghost use Rattle.imap_grammar.specs.Step.{step};
 ghost use Rattle.imap_proto.specs.Lines as rule;
 ghost use Rattle.imap_proto.specs.Memory.{MayWantMemory, TakesNone};

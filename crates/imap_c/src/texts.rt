@@ -1,7 +1,7 @@
 //! Texts that are put into a caller's buffer.
 
 ghost use Rattle.std.specs.Prelude.{◌≡◌};
-ghost use Rattle.imap_c.specs.Texts.{filled, Puts, PutsNone};
+ghost use Rattle.imap_c.specs.Texts.{filled, Puts};
 
 /// What a call answers that puts out a text.
 #[repr(C)]

@@ -1,6 +1,6 @@
 //! Attributes of a message.
 
-ghost use Rattle.std.specs.Prelude.{[], ◌∷◌, codes, option_map, OnOk};
+ghost use Rattle.std.specs.Prelude.{option_map, OnOk};
 ghost use Rattle.imap_sections.specs.SectionValues.{path_value};
 ghost use Rattle.imap_shapes.specs.Spans.{bytes_of};
 ghost use Rattle.imap_attributes.specs.AttributeValues.{AttributeValue as AttributeSeen, BodySection, attribute_value};

@@ -1,6 +1,6 @@
 //! What an implementation says of itself.
 
-ghost use Rattle.std.specs.Prelude.{◌≡◌, map, IfOk, OnOk};
+ghost use Rattle.std.specs.Prelude.{◌≡◌, IfOk, OnOk};
 ghost use Rattle.imap_extensions.specs.Ids.{IdValue, id_value};
 ghost use Rattle.imap_json.specs.Forms.{Appends, fields_front};
 ghost use Rattle.imap_json.specs.Ids.{id_json, id_fields, table_fields};

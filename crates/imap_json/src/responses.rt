@@ -1,6 +1,6 @@
 //! Responses, and the function that this library is for.
 
-ghost use Rattle.std.specs.Prelude.{◌≡◌, ◌≤◌, [], ◌∷◌, codes, IfOk, OnOk, string_bytes};
+ghost use Rattle.std.specs.Prelude.{◌≡◌, ◌≤◌, [], ◌∷◌, IfOk, OnOk, string_bytes};
 ghost use Rattle.std.specs.List.{All};
 ghost use Rattle.serde_json.specs.Written.{compact_text};
 ghost use Rattle.imap_proto.specs.Responses.{OutcomeValue, outcome_value, ResponseValue, response_value};

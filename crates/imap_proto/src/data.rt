@@ -19,7 +19,7 @@ use crate::outcomes::spaced_outcome;
 use crate::response::Response;
 use imap_bytes::at::span::rest;
 use imap_bytes::tags::{cut0, tag, word};
-use imap_bytes::{Err, IResult, named};
+use imap_bytes::{Err, IResult};
 use imap_data::MailboxDatum;
 use imap_data::readers::{
     acl, capability_data, enabled_data, id, list_or_lsub, list_rights, mailbox_datum,

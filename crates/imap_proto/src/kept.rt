@@ -1,6 +1,6 @@
 //! Fetches that are kept: the bytes of one `FETCH` once, and its attributes as positions in them.
 
-ghost use Rattle.std.specs.Prelude.{◌≡◌, ◌≤◌, ◌<◌, Some, Ok as Found, Err as Refused, length, map, drop, slice_get, IfOk, MatchResult};
+ghost use Rattle.std.specs.Prelude.{◌≡◌, ◌≤◌, ◌<◌, Some, Ok as Found, Err as Refused, length, slice_get, IfOk, MatchResult};
 ghost use Rattle.imap_grammar.specs.Memory.{FailsOnlyIf};
 ghost use Rattle.imap_grammar.specs.Positions.{StepsAt};
 ghost use Rattle.imap_attributes.specs.AttributeValues.{attribute_value};

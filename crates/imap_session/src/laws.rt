@@ -1,6 +1,5 @@
 //! Laws of sessions, as contracts of functions that do nothing.
 
-ghost use Rattle.std.specs.Prelude.{◌≡◌};
 ghost use Rattle.imap_grammar.specs.Equality.{Tells};
 ghost use Rattle.imap_session.specs.Answers.{event_value, lent_event};
 ghost use Rattle.imap_session.specs.Runs.{AllIsPassed, NoneIsLost, OutcomeFollows, StateFollows, CuttingsAlike};

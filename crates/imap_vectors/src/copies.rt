@@ -4,13 +4,13 @@ use crate::answers::{Rows, assert_row, value_of};
 use imap_data::readers::{
     id, mailbox_datum, metadata_solicited, metadata_unsolicited, quota, quota_root,
 };
+use imap_proto::Response;
 use imap_proto::imap_core::{Err, IResult};
-use imap_proto::rfc2087::{Quota, QuotaResource, QuotaResourceName, QuotaRoot};
+use imap_proto::rfc2087::{Quota, QuotaResource, QuotaResourceName};
 use imap_proto::rfc3501::{MailboxDatum, MailboxListData, NameAttribute, Outcome};
 use imap_proto::rfc4314::AclRight;
 use imap_proto::rfc4315::UidSetMember;
 use imap_proto::rfc5464::Metadata;
-use imap_proto::{RequestId, Response};
 use std::alloc::{AllocError, Global};
 use std::borrow::CowStr;
 use std::collections::HashSet;

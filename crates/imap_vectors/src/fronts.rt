@@ -2,7 +2,7 @@
 
 use crate::answers::{Rows, assert_row, says};
 use crate::kept::tells;
-use crate::{codes, extensions, fetches, mailboxes, statuses};
+use crate::{fetches, statuses};
 use imap_proto::kept::Front;
 use imap_proto::stream::{Feed, FeedError};
 use std::alloc::Global;

@@ -3,7 +3,7 @@
 use crate::commands::{assert_is, assert_refused};
 use imap_proto::builders::command::other::{Announced, Arguments, Numbers, Open};
 use imap_proto::builders::command::{
-    BuildError, Command, CommandBuilder, OtherCommand, Partial, Section, SectionText, State,
+    BuildError, Command, CommandBuilder, OtherCommand, Section, SectionText, State,
 };
 use std::alloc::Global;
 use std::process::Abort;

@@ -3,7 +3,6 @@
 ghost use Rattle.std.specs.Prelude.{◌≡◌, ◌≤◌, ◌<◌, true, false, ◌+◌, ◌*◌, ◌-◌, ◌^◌, length, nat_lt, position, IfSome};
 ghost use Rattle.imap_grammar.specs.Positions.{AnswersAt, Ahead, StepsExactlyAt};
 ghost use Rattle.imap_grammar.specs.Memory.{NeverFails};
-ghost use Rattle.imap_grammar.specs.Step.{step};
 ghost use Rattle.imap_grammar.specs.Meaning.{outside};
 ghost use Rattle.imap_grammar.specs.Rule.{only};
 ghost use Rattle.imap_grammar.specs.Classes as classes;

@@ -1,6 +1,6 @@
 //! A section of a message's body.
 
-ghost use Rattle.std.specs.Prelude.{◌≡◌, IfOk, OnOk};
+ghost use Rattle.std.specs.Prelude.{IfOk, OnOk};
 ghost use Rattle.imap_command.specs.Arguments.{Judges};
 ghost use Rattle.imap_command.specs.OtherCalls.{argument_refusal, arguments, AddsTo, Unrefused};
 ghost use Rattle.imap_command.specs.OtherCalls as call;

@@ -6,7 +6,7 @@ ghost use Rattle.imap_extensions.specs.Vanishings as vanishings;
 ghost use Rattle.imap_extensions.specs.Vanishings.{vanished_value};
 
 use imap_bytes::tags::{blanks1, word};
-use imap_bytes::{Err, IResult, first, sequence_set};
+use imap_bytes::{IResult, first, sequence_set};
 use std::alloc::Global;
 use std::ops::RangeInclusive;
 
