@@ -31,3 +31,12 @@ status_is_preauth = by_any "pP" status preauth_word (λ m. refl)
 pub status_other : AtOther "oOnNbBpP" status never
 unfolding status
 status_other = by_other "oOnNbBpP" status never (λ m. refl)
+
+pub ruleset arms = (
+  status_none,
+  status_is_ok,
+  status_is_no,
+  status_is_bad_or_bye,
+  status_is_preauth,
+  status_other,
+)

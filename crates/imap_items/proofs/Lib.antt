@@ -1,3 +1,4 @@
+pub mod Marks
 pub mod Capabilities
 pub mod UidSets
 pub mod Rights

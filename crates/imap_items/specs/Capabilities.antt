@@ -19,11 +19,15 @@ capability_value kind.Imap4rev1 = Imap4rev1
 capability_value (kind.Auth t) = Auth (text_of t)
 capability_value (kind.Atom t) = Atom (text_of t)
 
+-- with its text changed by h
+abbrev pub changed_capability : (Text → Text) → CapabilityValue → CapabilityValue
+changed_capability h (Auth t) = Auth (h t)
+changed_capability h (Atom t) = Atom (h t)
+changed_capability h other = other
+
 -- with its text borrowed: two values say the same where these are equal
 abbrev pub lent_capability : CapabilityValue → CapabilityValue
-lent_capability (Auth t) = Auth (lent_text t)
-lent_capability (Atom t) = Atom (lent_text t)
-lent_capability other = other
+lent_capability = changed_capability lent_text
 
 -- what `==` and hashing tell of a capability
 abbrev pub capability_content : Capability → CapabilityValue

@@ -1,11 +1,9 @@
 -- The same values with all texts owned, and which of them are so already.
 use Rattle.imap_grammar.specs.Text.{owned_text, IsOwned}
-use Rattle.imap_items.specs.Capabilities.{CapabilityValue, Auth, Atom}
+use Rattle.imap_items.specs.Capabilities.{CapabilityValue, Auth, Atom, changed_capability}
 
 abbrev pub owned_capability : CapabilityValue → CapabilityValue
-owned_capability (Auth t) = Auth (owned_text t)
-owned_capability (Atom t) = Atom (owned_text t)
-owned_capability other = other
+owned_capability = changed_capability owned_text
 
 -- it holds no borrowed text
 abbrev pub IsOwnedCapability : CapabilityValue → Type 0

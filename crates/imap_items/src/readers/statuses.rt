@@ -42,7 +42,7 @@ fn preauth_word(i: &[u8]) -> IResult<&[u8], Status>
 }
 
 // Of the words those are tried, in order, that may start with the first byte.
-#[tactic(auto, using(crate::proofs::FirstBytes::status_none, crate::proofs::FirstBytes::status_is_ok, crate::proofs::FirstBytes::status_is_no, crate::proofs::FirstBytes::status_is_bad_or_bye, crate::proofs::FirstBytes::status_is_preauth, crate::proofs::FirstBytes::status_other))]
+#[tactic(auto, using(crate::proofs::FirstBytes::arms))]
 #[inline(always)]
 fn status_word(i: &[u8]) -> IResult<&[u8], Status>
     ensures { StepsExactly rule.status (λ x. x) i.now result }
