@@ -9,22 +9,21 @@ use Rattle.std.specs.declared.borrow.CowStr.{CowStr}
 use Rattle.std.specs.declared.borrow.CowStr.TheVariants.{Borrowed, Owned}
 use Rattle.std.specs.Map.{lookup}
 use Rattle.std.specs.List.{IsDistinct, AllByRecursion}
-use Rattle.std.specs.FinMap.{insert, empty, entries, from_entries, get, find, from_sorted, is_sorted, entries_sorted, entries-from_sorted, get-from_sorted, get-empty, get-entries, get-from_entries, get-insert, same_map, slice_cmp-IsAntisymmetric, nat_cmp-IsAntisymmetric}
+use Rattle.std.specs.FinMap.{insert, empty, entries, get, find, from_sorted, is_sorted, entries_sorted, entries-from_sorted, get-from_sorted, get-empty, get-entries, get-from_entries, get-insert, same_map, slice_cmp-IsAntisymmetric, nat_cmp-IsAntisymmetric}
 use Rattle.std.specs.FinMap.Entries.{below_all}
 use Rattle.std.specs.HashMap as hash
 use Rattle.std.specs.HashMap.Eq.{get_from_hash_map_eq, hash_map_eq_from_get}
 use Rattle.std.proofs.lemmas.Simd.{map-map}
 use Rattle.imap_grammar.specs.Text.{Bytes, Text, text_of, lent_text, owned_text}
 use Rattle.imap_grammar.proofs.Seen.{Tells, option_tells, option_twice, texts_tell}
-use Rattle.imap_extensions.specs.Ids.{IdValue, IdTable, entry_value, id_value, lent_entry, lent_id, id_content}
+use Rattle.imap_extensions.specs.Ids.{IdValue, IdTable, entry_value, id_value, changed_entry, changed_id, lent_entry, lent_id, id_content}
 use Rattle.imap_extensions.specs.Owned.{owned_entry, owned_id}
-use Rattle.imap_extensions.proofs.Owned.{option_says}
 
 abbrev same_bytes : CowStr Global → CowStr Global → Bool
 same_bytes x y = pointwise nat_eq (cow_str_bytes x) (cow_str_bytes y)
 
 -- two maps that have the same at each key
-alike : (m n : IdValue) → ((q : Bytes) → get m q ≡ get n q) → m ≡ n
+pub alike : (m n : IdValue) → ((q : Bytes) → get m q ≡ get n q) → m ≡ n
 alike m n h = same_map nat_list_cmp_total (slice_cmp-IsAntisymmetric nat_cmp-IsAntisymmetric) m n h
 
 -- a key with these bytes
@@ -56,12 +55,6 @@ id_value-insert m n k v updates = alike (id_value n) (insert (id_value m) (cow_s
 -- ---- equality
 
 -- a map whose texts are changed has the changed text at each key
-abbrev changed_entry : (Text → Text) → Bytes × Text → Bytes × Text
-changed_entry f e = (e.0, f e.1)
-
-abbrev changed_id : (Text → Text) → IdValue → IdValue
-changed_id f m = from_entries (map (changed_entry f) (entries m))
-
 find_changed : (f : Text → Text) (q : Bytes) (es : List (Bytes × Text)) → find (slice_cmp nat_cmp) q (map (changed_entry f) es) ≡ option_map f (find (slice_cmp nat_cmp) q es)
 find_changed f q [] = refl
 find_changed f q (e ∷ es) = elim (eq_by_cmp (slice_cmp nat_cmp) q e.0) as (λ b. cond b (Some (f e.1)) (find (slice_cmp nat_cmp) q (map (changed_entry f) es)) ≡ option_map f (cond b (Some e.1) (find (slice_cmp nat_cmp) q es))) [
@@ -69,7 +62,7 @@ find_changed f q (e ∷ es) = elim (eq_by_cmp (slice_cmp nat_cmp) q e.0) as (λ 
   | false ↦ find_changed f q es
 ]
 
-get-changed : (f : Text → Text) (m : IdValue) (q : Bytes) → get (changed_id f m) q ≡ option_map f (get m q)
+pub get-changed : (f : Text → Text) (m : IdValue) (q : Bytes) → get (changed_id f m) q ≡ option_map f (get m q)
 get-changed f m q = get-from_entries nat_list_cmp_total (map (changed_entry f) (entries m)) q ∙ find_changed f q (entries m) ∙ ap (option_map f) (sym (get-entries m q))
 
 pub get-lent_id : (m : IdValue) (q : Bytes) → get (lent_id m) q ≡ option_map lent_text (get m q)
@@ -157,19 +150,6 @@ put_owned_entries m h = alike (put_entries empty (map owned_of m.entries)) (owne
     (λ q. get-put_entries m.entries empty q h ∙ ap (or_else (find (slice_cmp nat_cmp) q (map owned_of m.entries))) (get-empty (slice_cmp nat_cmp) q) ∙ over_none (find (slice_cmp nat_cmp) q (map owned_of m.entries))
     ∙ ap (find (slice_cmp nat_cmp) q) (sym (map-map owned_entry entry_value m.entries)) ∙ find_changed owned_text q (map entry_value m.entries)
     ∙ ap (option_map owned_text) (sym (get-from_entries nat_list_cmp_total (map entry_value m.entries) q)) ∙ sym (get-changed owned_text (id_value m) q))
-
--- what is said behind a change that makes no difference to it
-changed_id_says : (second first : Text → Text) → ((t : Text) → second (first t) ≡ second t) → (m : IdValue) → changed_id second (changed_id first m) ≡ changed_id second m
-changed_id_says second first says m = alike (changed_id second (changed_id first m)) (changed_id second m)
-    (λ q. get-changed second (changed_id first m) q ∙ ap (option_map second) (get-changed first m q) ∙ option_says second first says (get m q) ∙ sym (get-changed second m q))
-
--- an owned map says the same
-pub owned_id_says : (m : IdValue) → lent_id (owned_id m) ≡ lent_id m
-owned_id_says = changed_id_says lent_text owned_text (λ t. refl)
-
--- the owned map doesn't depend on which of its texts are borrowed
-pub lent_id_owned : (m : IdValue) → owned_id (lent_id m) ≡ owned_id m
-lent_id_owned = changed_id_says owned_text lent_text (λ t. refl)
 
 pub bytes_said : (x : CowStr Global) → (text_of x).bytes ≡ cow_str_bytes x
 bytes_said (Borrowed s) = refl

@@ -12,4 +12,4 @@ pub mod OptionalRights
 pub mod Takes
 pub mod IdPairs
 pub mod NoParams
-pub mod Owned
+pub mod Marks

@@ -116,25 +116,39 @@ list_rights_value r =
 abbrev pub my_rights_value : MyRights → MyRightsValue
 my_rights_value r = record { mailbox = text_of r.mailbox; rights = r.rights.items }
 
--- ---- with all texts borrowed: two values say the same where these are equal
+-- ---- with each text changed by h
 
-abbrev pub lent_acl_entry : AclEntryValue → AclEntryValue
-lent_acl_entry e = record { identifier = lent_text e.identifier; rights = e.rights }
+abbrev pub changed_acl_entry : (Text → Text) → AclEntryValue → AclEntryValue
+changed_acl_entry h e = record { identifier = h e.identifier; rights = e.rights }
 
-abbrev pub lent_acl : AclValue → AclValue
-lent_acl a = record { mailbox = lent_text a.mailbox; acls = map lent_acl_entry a.acls }
+abbrev pub changed_acl : (Text → Text) → AclValue → AclValue
+changed_acl h a = record { mailbox = h a.mailbox; acls = map (changed_acl_entry h) a.acls }
 
-abbrev pub lent_list_rights : ListRightsValue → ListRightsValue
-lent_list_rights r =
+abbrev pub changed_list_rights : (Text → Text) → ListRightsValue → ListRightsValue
+changed_list_rights h r =
     record {
-      mailbox = lent_text r.mailbox;
-      identifier = lent_text r.identifier;
+      mailbox = h r.mailbox;
+      identifier = h r.identifier;
       required = r.required;
       optional = r.optional;
     }
 
+abbrev pub changed_my_rights : (Text → Text) → MyRightsValue → MyRightsValue
+changed_my_rights h r = record { mailbox = h r.mailbox; rights = r.rights }
+
+-- ---- with all texts borrowed: two values say the same where these are equal
+
+abbrev pub lent_acl_entry : AclEntryValue → AclEntryValue
+lent_acl_entry = changed_acl_entry lent_text
+
+abbrev pub lent_acl : AclValue → AclValue
+lent_acl = changed_acl lent_text
+
+abbrev pub lent_list_rights : ListRightsValue → ListRightsValue
+lent_list_rights = changed_list_rights lent_text
+
 abbrev pub lent_my_rights : MyRightsValue → MyRightsValue
-lent_my_rights r = record { mailbox = lent_text r.mailbox; rights = r.rights }
+lent_my_rights = changed_my_rights lent_text
 
 abbrev pub acl_entry_content : AclEntry → AclEntryValue
 acl_entry_content e = lent_acl_entry (acl_entry_value e)

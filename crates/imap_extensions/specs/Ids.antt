@@ -53,13 +53,21 @@ id_value m = from_entries (map entry_value m.entries)
 abbrev pub pair_value : CowStr Global × Option (CowStr Global) → Text × Option Text
 pair_value p = (text_of p.0, option_map text_of p.1)
 
+-- ---- with each text changed by h
+
+abbrev pub changed_entry : (Text → Text) → Bytes × Text → Bytes × Text
+changed_entry h e = (e.0, h e.1)
+
+abbrev pub changed_id : (Text → Text) → IdValue → IdValue
+changed_id h m = from_entries (map (changed_entry h) (entries m))
+
 -- ---- with all texts borrowed: two maps say the same where these are equal
 
 abbrev pub lent_entry : Bytes × Text → Bytes × Text
-lent_entry e = (e.0, lent_text e.1)
+lent_entry = changed_entry lent_text
 
 abbrev pub lent_id : IdValue → IdValue
-lent_id m = from_entries (map lent_entry (entries m))
+lent_id = changed_id lent_text
 
 abbrev pub id_content : IdTable → IdValue
 id_content m = lent_id (id_value m)

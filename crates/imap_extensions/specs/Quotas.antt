@@ -61,33 +61,47 @@ quota_root_value q =
       quota_root_names = map text_of q.quota_root_names.items;
     }
 
--- ---- with all texts borrowed: two values say the same where these are equal
+-- ---- with each text changed by h
 
-abbrev pub lent_quota_resource_name : QuotaResourceNameValue → QuotaResourceNameValue
-lent_quota_resource_name (Atom t) = Atom (lent_text t)
-lent_quota_resource_name other = other
+abbrev pub changed_quota_resource_name : (Text → Text) → QuotaResourceNameValue → QuotaResourceNameValue
+changed_quota_resource_name h (Atom t) = Atom (h t)
+changed_quota_resource_name h other = other
 
-abbrev pub lent_quota_resource : QuotaResourceValue → QuotaResourceValue
-lent_quota_resource r =
+abbrev pub changed_quota_resource : (Text → Text) → QuotaResourceValue → QuotaResourceValue
+changed_quota_resource h r =
     record {
-      name = lent_quota_resource_name r.name;
+      name = changed_quota_resource_name h r.name;
       usage = r.usage;
       limit = r.limit;
     }
 
-abbrev pub lent_quota : QuotaValue → QuotaValue
-lent_quota q =
+abbrev pub changed_quota : (Text → Text) → QuotaValue → QuotaValue
+changed_quota h q =
     record {
-      root_name = lent_text q.root_name;
-      resources = map lent_quota_resource q.resources;
+      root_name = h q.root_name;
+      resources = map (changed_quota_resource h) q.resources;
     }
 
-abbrev pub lent_quota_root : QuotaRootValue → QuotaRootValue
-lent_quota_root q =
+abbrev pub changed_quota_root : (Text → Text) → QuotaRootValue → QuotaRootValue
+changed_quota_root h q =
     record {
-      mailbox_name = lent_text q.mailbox_name;
-      quota_root_names = map lent_text q.quota_root_names;
+      mailbox_name = h q.mailbox_name;
+      quota_root_names = map h q.quota_root_names;
     }
+
+-- ---- with all texts borrowed: two values say the same where these are equal
+
+abbrev pub lent_quota_resource_name : QuotaResourceNameValue → QuotaResourceNameValue
+lent_quota_resource_name = changed_quota_resource_name lent_text
+
+abbrev pub lent_quota_resource : QuotaResourceValue → QuotaResourceValue
+lent_quota_resource = changed_quota_resource lent_text
+
+abbrev pub lent_quota : QuotaValue → QuotaValue
+lent_quota = changed_quota lent_text
+
+abbrev pub lent_quota_root : QuotaRootValue → QuotaRootValue
+lent_quota_root = changed_quota_root lent_text
 
 abbrev pub quota_resource_name_content : QuotaResourceName → QuotaResourceNameValue
 quota_resource_name_content x = lent_quota_resource_name (quota_resource_name_value x)

@@ -41,7 +41,6 @@ pub fn hashing()
 {}
 
 /// An owned value says the same as the value that it was made from.
-#[tactic(auto, using(crate::proofs::Owned::owned_name_says, crate::proofs::Owned::owned_resource_says, crate::proofs::Owned::owned_quota_says, crate::proofs::Owned::owned_quota_root_says, crate::proofs::Ids::owned_id_says, crate::proofs::Owned::owned_acl_says))]
 pub fn owning()
     ensures quota_resource_name { (n : QuotaResourceNameValue) →
         lent_quota_resource_name (owned_quota_resource_name n) ≡ lent_quota_resource_name n }
@@ -61,7 +60,6 @@ pub fn owning()
 {}
 
 /// The owned form of a value doesn't depend on which of its texts are borrowed.
-#[tactic(auto, using(crate::proofs::Owned::lent_name_owned, crate::proofs::Owned::lent_resource_owned, crate::proofs::Owned::lent_quota_owned, crate::proofs::Owned::lent_quota_root_owned, crate::proofs::Ids::lent_id_owned, crate::proofs::Owned::lent_acl_owned))]
 pub fn lending()
     ensures quota_resource_name { (n : QuotaResourceNameValue) →
         owned_quota_resource_name (lent_quota_resource_name n) ≡ owned_quota_resource_name n }

@@ -4,7 +4,7 @@ use Rattle.std.specs.Option.{option_map}
 use Rattle.imap_grammar.specs.Text.{Text}
 use Rattle.imap_items.specs.Capabilities.{Imap4rev1, Auth, Atom, changed_capability}
 
-abbrev marked : Bool → Text → Text
+abbrev pub marked : Bool → Text → Text
 marked b t = record { bytes = t.bytes; borrowed = b }
 
 -- marked with b, and then with a
