@@ -13,7 +13,8 @@ use Rattle.imap_items.specs.Capabilities.{capability_data}
 use Rattle.imap_items.proofs.FlagTexts.{reads_flag_list, flag_list_spells}
 use Rattle.imap_items.proofs.CapabilityTexts.{reads_offered, keeps_capability_data}
 use Rattle.imap_items.proofs.UidSetTexts.{reads_uid_set, uid_set_spells}
-use Rattle.imap_data.specs.Codes.{lent_code, charsets, bad_charset, append_uid_of, copy_uid_of, append_uid, copy_uid, capabilities, permanent_flags, uid_validity, uid_next, unseen, highest_mod_seq, long_entries, max_size, too_many, no_private, basic_code, uid_code, metadata_code, any_code, response_code, Alert, Parse, ReadOnly, ReadWrite, TryCreate, UidNotSticky, MetadataTooMany, MetadataNoPrivate, BadCharset, Capabilities, PermanentFlags, UidNext, UidValidity, Unseen, HighestModSeq, MetadataLongEntries, MetadataMaxSize}
+use Rattle.imap_data.specs.Codes.{lent_code, charsets, append_uid_of, copy_uid_of, basic_code, uid_code, metadata_code, any_code, response_code, Alert, Parse, ReadOnly, ReadWrite, TryCreate, UidNotSticky, MetadataTooMany, MetadataNoPrivate, BadCharset, Capabilities, PermanentFlags, UidNext, UidValidity, Unseen, HighestModSeq, MetadataLongEntries, MetadataMaxSize}
+use Rattle.imap_data.proofs.Rules.{basic_rules, uid_rules, metadata_rules, code_rules}
 use Rattle.imap_data.specs.CodeTexts.{canonical_charsets, canonical_code, canonical_response_code, spells_charsets, spells_code, spells_response_code}
 
 -- the bracket behind a code
@@ -26,7 +27,7 @@ reads_charsets =
     reads-opt refl (reads-follow (takes-text " " ▹ʳ reads-nonempty_list_of reads-astring_utf8 (λ t. tt) (λ t. tt)) (λ t g. tt)) (begun _ (λ u. denies-after _ _ _ (denies-tag _ _ _ refl))) (λ x. refl) refl
 
 reads_basic : ReadsBack basic_code lent_code canonical_code Bracket
-unfolding basic_code bad_charset capabilities capability_data permanent_flags uid_validity uid_next unseen
+unfolding basic_rules capability_data
 reads_basic =
     first (reads-word _ _ Alert (codes "ALERT") refl refl refl) (search apart_forms depth 20)
     (first (reads-gives BadCharset (takes-word "BADCHARSET" "BADCHARSET" refl ▹ʳ reads_charsets) (λ x. refl)) (search apart_forms depth 20)
@@ -41,7 +42,7 @@ reads_basic =
     (reads-word _ _ TryCreate (codes "TRYCREATE") refl refl refl))))))))))
 
 reads_uid : ReadsBack uid_code lent_code canonical_code Bracket
-unfolding uid_code highest_mod_seq append_uid copy_uid
+unfolding uid_rules
 reads_uid =
     first (reads-gives HighestModSeq (takes-word "HIGHESTMODSEQ " "HIGHESTMODSEQ " refl ▹ʳ reads-follow reads-number_64 (begun _ (λ u. refl))) (λ x. refl)) (search apart_forms depth 20)
     (first (reads-gives append_uid_of (takes-word "APPENDUID " "APPENDUID " refl ▹ʳ reads-seq reads-number (takes-text " " ▹ʳ reads-follow reads_uid_set (begun _ (λ u. refl))) (λ y t g. refl)) (λ x. refl)) (search apart_forms depth 20)
@@ -50,7 +51,7 @@ reads_uid =
     (reads-word _ _ UidNotSticky (codes "UIDNOTSTICKY") refl refl refl)))
 
 reads_metadata : ReadsBack metadata_code lent_code canonical_code Bracket
-unfolding metadata_code long_entries max_size too_many no_private
+unfolding metadata_rules
 reads_metadata =
     first (reads-gives MetadataLongEntries (takes-word "METADATA LONGENTRIES " "METADATA LONGENTRIES " refl ▹ʳ reads-follow reads-number_64 (begun _ (λ u. refl))) (λ x. refl)) (search apart_forms depth 20)
     (first (reads-gives MetadataMaxSize (takes-word "METADATA MAXSIZE " "METADATA MAXSIZE " refl ▹ʳ reads-follow reads-number_64 (begun _ (λ u. refl))) (λ x. refl)) (search apart_forms depth 20)
@@ -58,7 +59,7 @@ reads_metadata =
     (reads-word _ _ MetadataNoPrivate (codes "METADATA NOPRIVATE") refl refl refl)))
 
 pub reads_code : ReadsBack any_code lent_code canonical_code Bracket
-unfolding any_code basic_code bad_charset capabilities capability_data permanent_flags uid_validity uid_next unseen uid_code highest_mod_seq append_uid copy_uid metadata_code long_entries max_size too_many no_private
+unfolding code_rules
 reads_code = first reads_basic (search apart_forms depth 30) (first reads_uid (search apart_forms depth 30) reads_metadata)
 
 pub reads_response_code : ReadsBack response_code lent_code canonical_response_code Any
@@ -72,7 +73,7 @@ unfolding charsets
 charsets_spell = spells-gives Some (spells-tag " " ▹ˢ spells-nonempty_list_of spells-astring_utf8) orˢ spells-nothing None refl
 
 basic_spells : Spells basic_code spells_code
-unfolding basic_code bad_charset capabilities permanent_flags uid_validity uid_next unseen
+unfolding basic_rules
 basic_spells =
     spells-names Alert (spells-word "ALERT")
     orˢ spells-gives BadCharset (spells-word "BADCHARSET" ▹ˢ charsets_spell)
@@ -87,7 +88,7 @@ basic_spells =
     orˢ spells-names TryCreate (spells-word "TRYCREATE")
 
 uid_spells : Spells uid_code spells_code
-unfolding uid_code highest_mod_seq append_uid copy_uid
+unfolding uid_rules
 uid_spells =
     spells-gives HighestModSeq (spells-word "HIGHESTMODSEQ " ▹ˢ spells-number_64)
     orˢ spells-gives append_uid_of (spells-word "APPENDUID " ▹ˢ spells-number ⨾ˢ spells-tag " " ▹ˢ uid_set_spells)
@@ -95,7 +96,7 @@ uid_spells =
     orˢ spells-names UidNotSticky (spells-word "UIDNOTSTICKY")
 
 metadata_spells : Spells metadata_code spells_code
-unfolding metadata_code long_entries max_size too_many no_private
+unfolding metadata_rules
 metadata_spells =
     spells-gives MetadataLongEntries (spells-word "METADATA LONGENTRIES " ▹ˢ spells-number_64)
     orˢ spells-gives MetadataMaxSize (spells-word "METADATA MAXSIZE " ▹ˢ spells-number_64)

@@ -8,7 +8,7 @@ use Rattle.std.specs.Cmp.Lexicographic.{pointwise}
 use Rattle.imap_grammar.specs.Equality.{Tells}
 use Rattle.imap_grammar.specs.Text.{text_of, lent_text}
 use Rattle.imap_items.specs.Capabilities.{capability_value, lent_capability}
-use Rattle.imap_data.specs.Codes.{code_content, Alert, Parse, ReadOnly, ReadWrite, TryCreate, UidNotSticky, MetadataTooMany, MetadataNoPrivate, AppendUid, CopyUid, BadCharset, Capabilities, PermanentFlags, UidNext, UidValidity, Unseen, HighestModSeq, MetadataLongEntries, MetadataMaxSize, CodeValue, code_value, HasOrderedUids, AppendUid, CopyUid, append_uid_of, copy_uid_of, append_uid, copy_uid, bad_charset, capabilities, permanent_flags, uid_validity, uid_next, unseen, highest_mod_seq, long_entries, max_size, too_many, no_private, basic_code, uid_code, metadata_code, any_code}
+use Rattle.imap_data.specs.Codes.{code_content, Alert, Parse, ReadOnly, ReadWrite, TryCreate, UidNotSticky, MetadataTooMany, MetadataNoPrivate, AppendUid, CopyUid, BadCharset, Capabilities, PermanentFlags, UidNext, UidValidity, Unseen, HighestModSeq, MetadataLongEntries, MetadataMaxSize, CodeValue, code_value, HasOrderedUids, AppendUid, CopyUid, append_uid_of, copy_uid_of, append_uid, copy_uid, highest_mod_seq, basic_code, uid_code, metadata_code, any_code}
 use Rattle.imap_data.specs.declared.types.codes.ResponseCode.{ResponseCode}
 use Rattle.imap_data.specs.declared.types.codes.ResponseCode.TheVariants as code
 use Rattle.imap_data.specs.contracts.types.codes.ResponseCodePartialEq.TheImpl as code_eq
@@ -21,6 +21,7 @@ use Rattle.imap_grammar.specs.Step.{step}
 use Rattle.imap_grammar.proofs.Agreement.{reads}
 use Rattle.imap_items.proofs.UidSets.{IsOrderedValue, set_ordered, all_ordered}
 use Rattle.imap_grammar.proofs.Yields.{Yields, either_yields, given_yields, made_yields, named_yields, both_yield, right_yields, second_yields}
+use Rattle.imap_data.proofs.Rules.{basic_rules, metadata_rules}
 
 texts_list_tell : Tells (λ (x y : Vec (CowStr Global) Global). pointwise (λ (a b : CowStr Global). pointwise nat_eq (cow_str_bytes a) (cow_str_bytes b)) x.items y.items) (λ v. map lent_text (map text_of v.items))
 texts_list_tell = on_tells (λ v. v.items) _ _ text_lists_tell
@@ -124,7 +125,7 @@ unfolding copy_uid
 copy_ordered = given_yields copy_uid_of (right_yields (second_yields (right_yields (both_yield set_ordered (right_yields set_ordered))))) (λ v h. h)
 
 basic_ordered : Yields HasOrderedValues basic_code
-unfolding basic_code bad_charset capabilities permanent_flags uid_validity uid_next unseen
+unfolding basic_rules
 basic_ordered =
     either_yields (named_yields tt) (either_yields (made_yields BadCharset (λ v. tt)) (either_yields (made_yields Capabilities (λ v. tt)) (either_yields (named_yields tt)
     (either_yields (made_yields PermanentFlags (λ v. tt)) (either_yields (made_yields UidValidity (λ v. tt)) (either_yields (made_yields UidNext (λ v. tt)) (either_yields (made_yields Unseen (λ v. tt))
@@ -135,7 +136,7 @@ unfolding uid_code highest_mod_seq
 uid_ordered = either_yields (made_yields HighestModSeq (λ v. tt)) (either_yields append_ordered (either_yields copy_ordered (named_yields tt)))
 
 metadata_ordered : Yields HasOrderedValues metadata_code
-unfolding metadata_code long_entries max_size too_many no_private
+unfolding metadata_rules
 metadata_ordered =
     either_yields (made_yields MetadataLongEntries (λ v. tt)) (either_yields (made_yields MetadataMaxSize (λ v. tt)) (either_yields (named_yields tt) (named_yields tt)))
 

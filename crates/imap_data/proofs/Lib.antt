@@ -5,12 +5,13 @@ pub mod CodeTexts
 pub mod NameTexts
 pub mod AnnotationTexts
 pub mod MailboxDataTexts
+pub mod Rules
 pub mod FirstBytes
 mod SecondBytes
 pub mod Takes
 pub mod ListCodes
 pub mod NumberData
-pub mod Owned
+pub mod Marks
 mod AnyCase
 mod Wants
 mod NoSpelling

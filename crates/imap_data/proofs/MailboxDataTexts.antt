@@ -16,23 +16,23 @@ use Rattle.imap_bytes.proofs.ReadingTexts.{not_digit, reads-number, reads-number
 use Rattle.imap_bytes.proofs.ReadingCounts.{word_no_number, reads-counted, counted_apart, counted_other, closes_space, reads-spaced_numbers}
 use Rattle.imap_bytes.proofs.SpellingTexts.{spells-number, spells-number_64}
 use Rattle.std.proofs.lemmas.List.{map-id}
-use Rattle.imap_items.specs.Gmail.{gmail_label_list, gmail_msgid, gmail_thrid}
 use Rattle.imap_items.proofs.FlagTexts.{reads_flag_list, flag_list_spells}
 use Rattle.imap_items.proofs.GmailTexts.{keeps_label_list, keeps_msgid, keeps_thrid}
 use Rattle.imap_items.proofs.MailboxTexts.{reads_mailbox, mailbox_spells}
 use Rattle.imap_data.specs.declared.types.counts.StatusAttribute.TheVariants.{HighestModSeq, Messages, Recent as RecentItem, UidNext, UidValidity, Unseen}
-use Rattle.imap_data.specs.Counts.{highest_mod_seq, messages, recent as recent_item, uid_next, uid_validity, unseen, status_item, status_items, found_number, found_numbers}
+use Rattle.imap_data.specs.Counts.{status_item, status_items, found_number, found_numbers}
 use Rattle.imap_data.specs.Names.{ListValue, lent_list, list_data}
 use Rattle.imap_data.specs.NameTexts.{canonical_list}
 use Rattle.imap_data.proofs.NameTexts.{reads_list_data, list_data_spells}
 use Rattle.imap_data.specs.DatumValues.{DatumValue, Exists, Flags, Listed, Search, Sort, Recent, GmailLabels, GmailMsgId, GmailThrId, lent_datum}
 use Rattle.imap_data.specs.MailboxData.{flags, exists, list, lsub, list_or_lsub, status_of, status, recent, search as search_rule, labels, msgid, thrid, sort, mailbox_datum}
+use Rattle.imap_data.proofs.Rules.{item_rules, last_rules}
 use Rattle.imap_data.specs.MailboxDataTexts.{canonical_item, canonical_numbers, canonical_datum, spells_item, spells_numbers, spells_datum}
 
 -- ---- items of STATUS
 
 reads_item : ReadsBack status_item as_is canonical_item (BeginsWith not_digit)
-unfolding status_item highest_mod_seq messages recent_item uid_next uid_validity unseen
+unfolding item_rules
 reads_item =
     first (reads-gives HighestModSeq (takes-word "HIGHESTMODSEQ " "HIGHESTMODSEQ " refl ▹ʳ reads-number_64) (λ x. refl)) (search apart_forms depth 20)
     (first (reads-gives Messages (takes-word "MESSAGES " "MESSAGES " refl ▹ʳ reads-number) (λ x. refl)) (search apart_forms depth 20)
@@ -42,7 +42,7 @@ reads_item =
     (reads-gives Unseen (takes-word "UNSEEN " "UNSEEN " refl ▹ʳ reads-number) (λ x. refl))))))
 
 reads_items : ReadsBack status_items as_is (list_text canonical_item) Any
-unfolding status_items status_item highest_mod_seq messages recent_item uid_next uid_validity unseen
+unfolding status_items item_rules
 reads_items = reads-as (reads-list_of reads_item (λ t. refl) (λ t. refl) (λ t. search denials depth 30)) map-id
 
 reads_numbers : ReadsBack found_numbers as_is canonical_numbers Closes
@@ -168,7 +168,7 @@ unfolding flags status
 flags_status = search apart_forms depth 20
 
 flags_last : Apart flags (search_rule or labels or msgid or thrid or sort) canonical_datum Closes
-unfolding flags search_rule labels gmail_label_list msgid gmail_msgid thrid gmail_thrid sort
+unfolding flags last_rules
 flags_last = search apart_forms depth 20
 
 exists_list : Apart exists list canonical_datum Closes
@@ -184,7 +184,7 @@ unfolding exists number digits status
 exists_status = search apart_forms depth 20
 
 exists_last : Apart exists (search_rule or labels or msgid or thrid or sort) canonical_datum Closes
-unfolding exists number digits search_rule labels gmail_label_list msgid gmail_msgid thrid gmail_thrid sort
+unfolding exists number digits last_rules
 exists_last = search apart_forms depth 20
 
 list_status : Apart list status canonical_datum Closes
@@ -192,7 +192,7 @@ unfolding list status
 list_status = search apart_forms depth 20
 
 list_last : Apart list (search_rule or labels or msgid or thrid or sort) canonical_datum Closes
-unfolding list search_rule labels gmail_label_list msgid gmail_msgid thrid gmail_thrid sort
+unfolding list last_rules
 list_last = search apart_forms depth 20
 
 lsub_status : Apart lsub status canonical_datum Closes
@@ -200,22 +200,22 @@ unfolding lsub status
 lsub_status = search apart_forms depth 20
 
 lsub_last : Apart lsub (search_rule or labels or msgid or thrid or sort) canonical_datum Closes
-unfolding lsub search_rule labels gmail_label_list msgid gmail_msgid thrid gmail_thrid sort
+unfolding lsub last_rules
 lsub_last = search apart_forms depth 20
 
 status_last : Apart status (search_rule or labels or msgid or thrid or sort) canonical_datum Closes
-unfolding status search_rule labels gmail_label_list msgid gmail_msgid thrid gmail_thrid sort
+unfolding status last_rules
 status_last = search apart_forms depth 20
 
 -- ---- the choice
 
 reads_last : ReadsBack (search_rule or labels or msgid or thrid or sort) lent_datum canonical_datum Closes
-unfolding search_rule labels gmail_label_list msgid gmail_msgid thrid gmail_thrid sort
+unfolding last_rules
 reads_last =
     first reads_search (search apart_forms depth 20) (first reads_labels (search apart_forms depth 20) (first reads_msgid (search apart_forms depth 20) (first reads_thrid (search apart_forms depth 20) reads_sort)))
 
 reads_recents : ReadsBack (recent or search_rule or labels or msgid or thrid or sort) lent_datum canonical_datum Closes
-unfolding recent number digits search_rule labels gmail_label_list msgid gmail_msgid thrid gmail_thrid sort
+unfolding recent number digits last_rules
 reads_recents = first reads_recent (search apart_forms depth 20) reads_last
 
 reads_statuses : ReadsBack (status or recent or search_rule or labels or msgid or thrid or sort) lent_datum canonical_datum Closes
@@ -243,7 +243,7 @@ reads_mailbox_datum =
 -- ---- spelling
 
 item_spells : Spells status_item spells_item
-unfolding status_item highest_mod_seq messages recent_item uid_next uid_validity unseen
+unfolding item_rules
 item_spells =
     spells-gives HighestModSeq (spells-word "HIGHESTMODSEQ " ▹ˢ spells-number_64)
     orˢ spells-gives Messages (spells-word "MESSAGES " ▹ˢ spells-number)

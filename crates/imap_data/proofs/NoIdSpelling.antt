@@ -1,7 +1,6 @@
 -- Why a text spells no such fields of an ID: of the pairs that it spells, it tells the last one.
-use Rattle.std.proofs.Common.{◌≡◌, ℕ, ◌&&◌, ◌||◌, Bool, true, false, IsTrue, List, [], ◌∷◌, ◌++◌, Option, None, Some, sym, subst, refl, codes, ap, ◌∙◌, append_assoc, cond}
+use Rattle.std.proofs.Common.{◌≡◌, ◌&&◌, ◌||◌, Bool, true, false, List, [], ◌∷◌, ◌++◌, Option, None, Some, sym, subst, refl, codes, ap, ◌∙◌, append_assoc, cond}
 use Rattle.std.specs.List.{list_all}
-use Rattle.std.specs.Str.Lossy.{utf8_lossy}
 use Rattle.std.specs.Ordering.{nat_cmp, eq_by_cmp}
 use Rattle.std.specs.Cmp.Lexicographic.{slice_cmp, texts_ties, nat_list_cmp_total}
 use Rattle.std.specs.FinMap.{get, insert, empty, get-empty, get-insert}
@@ -11,10 +10,10 @@ use Rattle.imap_grammar.specs.Meaning.{is_word}
 use Rattle.imap_grammar.specs.Tags.{same_letter}
 use Rattle.imap_grammar.specs.Text.{Bytes, Text}
 use Rattle.imap_grammar.specs.ReadBack.{Texts}
-use Rattle.imap_grammar.specs.Spelling.{exactly, ◌and◌, blanks, some_blanks, each_of, some_with_between, spells_string, spells_ntext}
+use Rattle.imap_grammar.specs.Spelling.{some_blanks, some_with_between, spells_ntext}
 use Rattle.imap_extensions.specs.Ids.{IdValue, put_pair, put_pairs, map_of_pairs}
 use Rattle.imap_extensions.specs.IdTexts.{spells_pair, spells_params}
-use Rattle.imap_grammar.proofs.NoSpelling.{Passes, Tells, any_cut, cut_at, or_right, same_as, same_self, passes-this, told_string, tells-string, tells-lossy, may_decode}
+use Rattle.imap_grammar.proofs.NoSpelling.{Passes, any_cut, cut_at, or_right, same_as, same_self, passes-this, told_string, tells-string, tells-lossy, may_decode}
 
 -- ---- the last of a list
 

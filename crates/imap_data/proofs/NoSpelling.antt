@@ -1,5 +1,5 @@
 -- Why a text spells no such range of UIDs, and no INBOX.
-use Rattle.std.proofs.Common.{ℕ, ◌≡◌, ◌||◌, ◌&&◌, Bool, true, codes}
+use Rattle.std.proofs.Common.{ℕ, ◌||◌, ◌&&◌, Bool, codes}
 use Rattle.imap_grammar.specs.Text.{Bytes}
 use Rattle.imap_grammar.specs.Ranges.{fresh}
 use Rattle.imap_grammar.specs.Spelling.{spells_ends}

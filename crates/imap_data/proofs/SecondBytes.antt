@@ -191,3 +191,13 @@ attribute_is_of_s_t = by_second (codes "sStT") attributes ((codes "\\Sent", Sent
 pub attribute_is_other : (m : List ℕ) → SecondOther (codes "nNmMuUaAdDfFjJsStT") m → step name_attribute m ≡ step extension m
 unfolding name_attribute extension
 attribute_is_other = by_none_of (codes "nNmMuUaAdDfFjJsStT") attributes refl
+
+pub ruleset arms = (
+  attribute_alone,
+  attribute_is_of_n,
+  attribute_is_of_m_u,
+  attribute_is_of_a,
+  attribute_is_of_d_f_j,
+  attribute_is_of_s_t,
+  attribute_is_other,
+)

@@ -3,14 +3,15 @@ use Rattle.std.proofs.Common.{◌≡◌, true, refl}
 use Rattle.imap_grammar.proofs.Consumption.{consumes}
 use Rattle.imap_items.proofs.Takes.{backslashed_text_takes}
 use Rattle.imap_data.specs.Names.{name_attribute}
-use Rattle.imap_data.specs.Counts.{highest_mod_seq, messages, recent, uid_next, uid_validity, unseen, status_item, found_number}
+use Rattle.imap_data.specs.Counts.{status_item, found_number}
+use Rattle.imap_data.proofs.Rules.{item_rules}
 
 pub name_attribute_takes : consumes name_attribute ≡ true
 unfolding name_attribute
 name_attribute_takes = backslashed_text_takes
 
 pub status_item_takes : consumes status_item ≡ true
-unfolding status_item highest_mod_seq messages recent uid_next uid_validity unseen
+unfolding item_rules
 status_item_takes = refl
 
 pub found_number_takes : consumes found_number ≡ true

@@ -12,7 +12,7 @@ use Rattle.imap_items.specs.Flags.{flag_list}
 use Rattle.imap_items.specs.Capabilities.{capability_data}
 use Rattle.imap_items.specs.UidSets.{MemberValue, uid_set, member_value, IsOrdered}
 use Rattle.std.specs.List.{All}
-use Rattle.imap_items.specs.Capabilities.{CapabilityValue, capability_value, lent_capability}
+use Rattle.imap_items.specs.Capabilities.{CapabilityValue, capability_value, changed_capability}
 use Rattle.imap_data.specs.declared.types.codes.ResponseCode.{ResponseCode}
 use Rattle.imap_data.specs.declared.types.codes.ResponseCode.TheVariants as code
 
@@ -51,12 +51,16 @@ code_value (code.MetadataMaxSize n) = MetadataMaxSize n
 code_value code.MetadataTooMany = MetadataTooMany
 code_value code.MetadataNoPrivate = MetadataNoPrivate
 
+-- with each text changed by h
+abbrev pub changed_code : (Text → Text) → CodeValue → CodeValue
+changed_code h (BadCharset charsets) = BadCharset (option_map (map h) charsets)
+changed_code h (Capabilities capabilities) = Capabilities (map (changed_capability h) capabilities)
+changed_code h (PermanentFlags flags) = PermanentFlags (map h flags)
+changed_code h other = other
+
 -- with all texts borrowed: two values say the same where these are equal
 abbrev pub lent_code : CodeValue → CodeValue
-lent_code (BadCharset charsets) = BadCharset (option_map (map lent_text) charsets)
-lent_code (Capabilities capabilities) = Capabilities (map lent_capability capabilities)
-lent_code (PermanentFlags flags) = PermanentFlags (map lent_text flags)
-lent_code other = other
+lent_code = changed_code lent_text
 
 -- it holds no list
 abbrev pub HoldsNoList : CodeValue → Type 0

@@ -2,7 +2,7 @@
 use Rattle.std.specs.Prelude.{ℕ, List, map}
 use Rattle.imap_grammar.specs.Text.{Text, text_of, lent_text}
 use Rattle.imap_extensions.specs.Annotations.{MetadataValue, metadata_value}
-use Rattle.imap_data.specs.Names.{ListValue, list_value, lent_list}
+use Rattle.imap_data.specs.Names.{ListValue, list_value, changed_list}
 use Rattle.imap_data.specs.declared.types.counts.StatusAttribute.{StatusAttribute}
 use Rattle.imap_data.specs.declared.types.mailbox_data.MailboxDatum.{MailboxDatum}
 use Rattle.imap_data.specs.declared.types.mailbox_data.MailboxDatum.TheVariants as datum
@@ -47,17 +47,22 @@ IsNumber (GmailMsgId n) = Unit {0}
 IsNumber (GmailThrId n) = Unit {0}
 IsNumber other = ⊥
 
+-- ---- with each text changed by h, but those of an annotation, which are owned always
+
+abbrev pub changed_datum : (Text → Text) → DatumValue → DatumValue
+changed_datum h (Flags flags) = Flags (map h flags)
+changed_datum h (Listed l) = Listed (changed_list h l)
+changed_datum h (Status mailbox items) = Status (h mailbox) items
+changed_datum h (MetadataSolicited mailbox values) = MetadataSolicited (h mailbox) values
+changed_datum h (MetadataUnsolicited mailbox values) =
+    MetadataUnsolicited (h mailbox) (map h values)
+changed_datum h (GmailLabels labels) = GmailLabels (map h labels)
+changed_datum h other = other
+
 -- ---- with all texts borrowed: two values say the same where these are equal
 
 abbrev pub lent_datum : DatumValue → DatumValue
-lent_datum (Flags flags) = Flags (map lent_text flags)
-lent_datum (Listed l) = Listed (lent_list l)
-lent_datum (Status mailbox items) = Status (lent_text mailbox) items
-lent_datum (MetadataSolicited mailbox values) = MetadataSolicited (lent_text mailbox) values
-lent_datum (MetadataUnsolicited mailbox values) =
-    MetadataUnsolicited (lent_text mailbox) (map lent_text values)
-lent_datum (GmailLabels labels) = GmailLabels (map lent_text labels)
-lent_datum other = other
+lent_datum = changed_datum lent_text
 
 -- ---- what `==` tells of the code's values
 

@@ -51,19 +51,27 @@ list_value l =
       name = text_of l.name;
     }
 
+-- ---- with each text changed by h
+
+abbrev pub changed_attribute : (Text → Text) → NameAttributeValue → NameAttributeValue
+changed_attribute h (Extension t) = Extension (h t)
+changed_attribute h other = other
+
+abbrev pub changed_list : (Text → Text) → ListValue → ListValue
+changed_list h l =
+    record {
+      name_attributes = map (changed_attribute h) l.name_attributes;
+      delimiter = option_map h l.delimiter;
+      name = h l.name;
+    }
+
 -- ---- with all texts borrowed: two values say the same where these are equal
 
 abbrev pub lent_attribute : NameAttributeValue → NameAttributeValue
-lent_attribute (Extension t) = Extension (lent_text t)
-lent_attribute other = other
+lent_attribute = changed_attribute lent_text
 
 abbrev pub lent_list : ListValue → ListValue
-lent_list l =
-    record {
-      name_attributes = map lent_attribute l.name_attributes;
-      delimiter = option_map lent_text l.delimiter;
-      name = lent_text l.name;
-    }
+lent_list = changed_list lent_text
 
 abbrev pub attribute_content : NameAttribute → NameAttributeValue
 attribute_content a = lent_attribute (attribute_value a)

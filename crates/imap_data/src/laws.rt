@@ -129,7 +129,6 @@ pub fn constants()
 {}
 
 /// An owned value says the same as the value that it was made from.
-#[tactic(auto, using(crate::proofs::Owned::owned_code_says, crate::proofs::Owned::owned_attribute_says, crate::proofs::Owned::owned_list_says, crate::proofs::Owned::owned_datum_says))]
 pub fn owning()
     ensures response_code { (c : CodeValue) → lent_code (owned_code c) ≡ lent_code c }
     ensures name_attribute { (a : NameAttributeValue) →
@@ -139,7 +138,6 @@ pub fn owning()
 {}
 
 /// The owned form of a value doesn't depend on which of its texts are borrowed.
-#[tactic(auto, using(crate::proofs::Owned::lent_code_owned, crate::proofs::Owned::lent_attribute_owned, crate::proofs::Owned::lent_list_owned, crate::proofs::Owned::lent_datum_owned))]
 pub fn lending()
     ensures response_code { (c : CodeValue) → owned_code (lent_code c) ≡ owned_code c }
     ensures name_attribute { (a : NameAttributeValue) →
@@ -204,8 +202,8 @@ pub fn read_back()
         spells_my_rights Closes }
 {}
 
-/// Values that say the same have one canonical text: it doesn't depend on which of their texts are borrowed. Rules whose
-/// values hold no text, or each text borrowed, have no clause.
+/// Values that say the same have one canonical text: it doesn't depend on which of their texts are borrowed. Rules
+/// whose values hold no text, or each text borrowed, have no clause.
 pub fn one_text()
     ensures flag_list { HasOneText (map lent_text) canonical_flag_list }
     ensures gmail_label_list { HasOneText (map lent_text) canonical_label_list }

@@ -15,7 +15,7 @@ use std::alloc::Global;
 /// Any other word, a mailbox without quotes, or no space behind it, is `Error`. Which names an entry may have is said
 /// at `imap_extensions::readers::annotations::annotations`; any other is `Error`, too. It takes memory only behind
 /// `METADATA`, for the list, for each entry and value, and for a mailbox that is not UTF-8.
-#[tactic(auto, using(imap_grammar::proofs::Agreement::answered), unfolding(crate::specs::Annotations::metadata_solicited))]
+#[tactic(auto, using(imap_grammar::proofs::Agreement::answered), unfolding(crate::proofs::Rules::annotation_rules))]
 pub fn metadata_solicited(alloc: Global, i: &[u8]) -> IResult<&[u8], MailboxDatum<'_>>
     ensures steps { Steps rules.metadata_solicited datum_value i.now result }
     ensures answer { Answers rules.metadata_solicited datum_value i.now result }
@@ -31,7 +31,7 @@ pub fn metadata_solicited(alloc: Global, i: &[u8]) -> IResult<&[u8], MailboxDatu
 /// Any other word, a mailbox without quotes, or no space behind it, is `Error`. The list ends before a name that no
 /// entry may have (`imap_extensions::readers::annotations::annotations`). It takes memory only behind `METADATA`, for
 /// the list, and for texts that are not UTF-8.
-#[tactic(auto, using(imap_grammar::proofs::Agreement::answered), unfolding(crate::specs::Annotations::metadata_unsolicited))]
+#[tactic(auto, using(imap_grammar::proofs::Agreement::answered), unfolding(crate::proofs::Rules::annotation_rules))]
 pub fn metadata_unsolicited(alloc: Global, i: &[u8]) -> IResult<&[u8], MailboxDatum<'_>>
     ensures steps { Steps rules.metadata_unsolicited datum_value i.now result }
     ensures answer { Answers rules.metadata_unsolicited datum_value i.now result }

@@ -209,7 +209,7 @@ fn metadata_code(i: &[u8]) -> IResult<&[u8], ResponseCode<'_>>
 }
 
 // Of the codes those are tried, in order, that may start with the first byte.
-#[tactic(auto, using(crate::proofs::FirstBytes::code_none, crate::proofs::FirstBytes::code_is_of_a, crate::proofs::FirstBytes::code_is_bad_charset, crate::proofs::FirstBytes::code_is_of_c, crate::proofs::FirstBytes::code_is_highest_mod_seq, crate::proofs::FirstBytes::code_is_metadata, crate::proofs::FirstBytes::code_is_of_p, crate::proofs::FirstBytes::code_is_of_r, crate::proofs::FirstBytes::code_is_of_t, crate::proofs::FirstBytes::code_is_of_u, crate::proofs::FirstBytes::code_other))]
+#[tactic(auto, using(crate::proofs::FirstBytes::code_arms))]
 fn any_code(alloc: Global, i: &[u8]) -> IResult<&[u8], ResponseCode<'_>>
     ensures steps { Steps codes.any_code code_value i.now result }
     ensures memory { FailsOnlyIf (BeginsListWord i.now) result }

@@ -65,7 +65,7 @@ fn item_of_u(i: &[u8]) -> IResult<&[u8], StatusAttribute>
 
 // An item of STATUS: its word in any case, and a number (RFC 3501, section 9: status-att-list; RFC 4551, section 4:
 // status-att-val). No memory.
-#[tactic(auto, using(crate::proofs::FirstBytes::item_none, crate::proofs::FirstBytes::item_is_highest_mod_seq, crate::proofs::FirstBytes::item_is_messages, crate::proofs::FirstBytes::item_is_recent, crate::proofs::FirstBytes::item_is_of_u, crate::proofs::FirstBytes::item_other))]
+#[tactic(auto, using(crate::proofs::FirstBytes::item_arms))]
 pub(crate) fn status_item(i: &[u8]) -> IResult<&[u8], StatusAttribute>
     ensures { StepsExactly counts.status_item (λ x. x) i.now result }
 {

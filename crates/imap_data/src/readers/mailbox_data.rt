@@ -56,7 +56,7 @@ fn status(alloc: Global, i: &[u8]) -> IResult<&[u8], MailboxDatum<'_>>
 }
 
 // The number is read once, whichever word stands behind it.
-#[tactic(auto, unfolding(crate::specs::MailboxData::datum_of_number, crate::specs::MailboxData::exists, crate::specs::MailboxData::recent))]
+#[tactic(auto, unfolding(crate::proofs::Rules::of_number))]
 #[inline(always)]
 fn datum_of_number(i: &[u8]) -> IResult<&[u8], MailboxDatum<'_>>
     ensures { StepsExactly rules.datum_of_number datum_value i.now result }
@@ -71,7 +71,7 @@ fn datum_of_number(i: &[u8]) -> IResult<&[u8], MailboxDatum<'_>>
 ///
 /// Any other word, or a part that is missing, is `Error`. It takes memory only behind `LIST` or `LSUB`: behind a first
 /// attribute, and for texts that are not UTF-8.
-#[tactic(auto, using(imap_grammar::proofs::Agreement::answered), unfolding(crate::specs::MailboxData::list_or_lsub, crate::specs::MailboxData::list, crate::specs::MailboxData::lsub))]
+#[tactic(auto, using(imap_grammar::proofs::Agreement::answered), unfolding(crate::proofs::Rules::of_l))]
 #[inline(always)]
 pub fn list_or_lsub(alloc: Global, i: &[u8]) -> IResult<&[u8], MailboxDatum<'_>>
     ensures steps { Steps rules.list_or_lsub datum_value i.now result }
@@ -94,7 +94,7 @@ fn found<'a>(alloc: Global, text: &[u8], i: &'a [u8]) -> IResult<&'a [u8], Vec<u
     found_numbers(alloc, rest)
 }
 
-#[tactic(auto, unfolding(crate::specs::MailboxData::datum_of_s, crate::specs::MailboxData::search, crate::specs::MailboxData::sort))]
+#[tactic(auto, unfolding(crate::proofs::Rules::of_s))]
 #[inline(always)]
 fn datum_of_s(alloc: Global, i: &[u8]) -> IResult<&[u8], MailboxDatum<'_>>
     ensures steps { Steps rules.datum_of_s datum_value i.now result }
@@ -106,7 +106,7 @@ fn datum_of_s(alloc: Global, i: &[u8]) -> IResult<&[u8], MailboxDatum<'_>>
     Err(Err::Error)
 }
 
-#[tactic(auto, using(imap_grammar::proofs::Memory::never_memory), unfolding(crate::specs::MailboxData::datum_of_x, crate::specs::MailboxData::labels, crate::specs::MailboxData::msgid, crate::specs::MailboxData::thrid))]
+#[tactic(auto, using(imap_grammar::proofs::Memory::never_memory), unfolding(crate::proofs::Rules::of_x))]
 #[inline(always)]
 fn datum_of_x(alloc: Global, i: &[u8]) -> IResult<&[u8], MailboxDatum<'_>>
     ensures steps { Steps rules.datum_of_x datum_value i.now result }
@@ -119,7 +119,7 @@ fn datum_of_x(alloc: Global, i: &[u8]) -> IResult<&[u8], MailboxDatum<'_>>
 }
 
 // Of the data those are tried, in order, that may start with the first byte.
-#[tactic(auto, using(crate::proofs::FirstBytes::datum_none, crate::proofs::FirstBytes::datum_is_flags, crate::proofs::FirstBytes::datum_is_list_or_lsub, crate::proofs::FirstBytes::datum_is_of_s, crate::proofs::FirstBytes::datum_is_of_x, crate::proofs::FirstBytes::datum_is_of_number, crate::proofs::FirstBytes::datum_other))]
+#[tactic(auto, using(crate::proofs::FirstBytes::datum_arms))]
 #[inline(always)]
 fn datum(alloc: Global, i: &[u8]) -> IResult<&[u8], MailboxDatum<'_>>
     ensures steps { Steps rules.mailbox_datum datum_value i.now result }

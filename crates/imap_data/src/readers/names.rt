@@ -77,7 +77,7 @@ fn attribute_of_s_t(i: &[u8]) -> IResult<&[u8], NameAttribute<'_>>
 // (RFC 3501, section 9: mbx-list-flags; RFC 6154, section 6: use-attr). No memory.
 //
 // All begin with a backslash, so the byte behind it tells which are tried.
-#[tactic(auto, using(crate::proofs::SecondBytes::attribute_alone, crate::proofs::SecondBytes::attribute_is_of_n, crate::proofs::SecondBytes::attribute_is_of_m_u, crate::proofs::SecondBytes::attribute_is_of_a, crate::proofs::SecondBytes::attribute_is_of_d_f_j, crate::proofs::SecondBytes::attribute_is_of_s_t, crate::proofs::SecondBytes::attribute_is_other))]
+#[tactic(auto, using(crate::proofs::SecondBytes::arms))]
 pub(crate) fn name_attribute(i: &[u8]) -> IResult<&[u8], NameAttribute<'_>>
     ensures { StepsExactly names.name_attribute attribute_value i.now result }
 {

@@ -151,8 +151,8 @@ impl<'a> MailboxListData<'a> {
         })
     }
 
-    /// The same data with all texts owned. It takes memory for the attributes, if there are any, and for borrowed texts;
-    /// `Err`: memory ran out.
+    /// The same data with all texts owned. It takes memory for the attributes, if there are any, and for borrowed
+    /// texts; `Err`: memory ran out.
     pub fn into_owned(self, alloc: Global) -> Result<MailboxListData<'static>, AllocError>
         ensures same { IfOk result (λ l. list_value l ≡ owned_list (list_value self.entry)) }
         ensures memory { self.entry.name_attributes.items ≡ []

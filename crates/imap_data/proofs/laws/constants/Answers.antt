@@ -1,11 +1,12 @@
 use Rattle.std.proofs.Common.{refl}
 use Rattle.imap_items.specs.Statuses.{status}
-use Rattle.imap_items.specs.Capabilities.{capability, capability_data}
+use Rattle.imap_items.specs.Capabilities.{capability}
 use Rattle.imap_extensions.specs.Quotas.{quota_resource_name}
 use Rattle.imap_data.specs.Constants.{status_texts, capability_texts, code_texts, attribute_texts, resource_texts}
-use Rattle.imap_data.specs.Codes.{response_code, any_code, basic_code, uid_code, metadata_code, bad_charset, charsets, capabilities, permanent_flags, uid_validity, uid_next, unseen, highest_mod_seq, append_uid, copy_uid, long_entries, max_size, too_many, no_private}
+use Rattle.imap_data.specs.Codes.{response_code, charsets}
 use Rattle.imap_data.specs.Names.{name_attribute}
 use Rattle.imap_data.proofs.AnyCase.{all_read}
+use Rattle.imap_data.proofs.Rules.{code_rules}
 use Rattle.imap_data.proofs.laws.constants.Goals as goal
 
 pub returns-clause-status : goal.returns-clause-status
@@ -17,7 +18,7 @@ unfolding capability
 returns-clause-capability c = all_read capability capability_texts ((refl, λ x. refl), tt)
 
 pub returns-clause-response_code : goal.returns-clause-response_code
-unfolding response_code any_code basic_code uid_code metadata_code bad_charset charsets capabilities permanent_flags uid_validity uid_next unseen highest_mod_seq append_uid copy_uid long_entries max_size too_many no_private capability_data
+unfolding response_code charsets code_rules
 returns-clause-response_code c = all_read response_code code_texts ((refl, λ x. refl), ((refl, λ x. refl), ((refl, λ x. refl), ((refl, λ x. refl), ((refl, λ x. refl), ((refl, λ x. refl), ((refl, λ x. refl), ((refl, λ x. refl), ((refl, λ x. refl), tt)))))))))
 
 pub returns-clause-name_attribute : goal.returns-clause-name_attribute
