@@ -1,5 +1,5 @@
 -- An ID's fields, put in the order of their keys one by one, and written.
-use Rattle.std.proofs.Common.{◌≡◌, List, [], ◌∷◌, ◌++◌, Ordering, Less, Equal, Greater, Global, map, nat_eq, refl, sym, ap, ◌∙◌, append_assoc}
+use Rattle.std.proofs.Common.{◌≡◌, List, [], ◌∷◌, ◌++◌, true, false, Ordering, Less, Equal, Greater, Global, map, nat_eq, refl, sym, ap, ◌∙◌, append_assoc}
 use Rattle.std.specs.Borrow.{Bor}
 use Rattle.std.specs.BTreeMap.{insert_entry}
 use Rattle.std.specs.Cmp.Lexicographic.{slice_cmp, pointwise, nat_list_cmp_total}
@@ -15,7 +15,8 @@ use Rattle.json.specs.Token.{Token}
 use Rattle.imap_grammar.specs.Text.{Bytes, Text, text_of, owned_text}
 use Rattle.imap_extensions.specs.Ids.{IdValue, IdTable, lent_entry, id_value}
 use Rattle.imap_extensions.specs.Owned.{owned_entry, owned_id}
-use Rattle.imap_extensions.proofs.Ids.{put_entries, owned_of, put_owned_entries, owned_id_says, entries-lent_id}
+use Rattle.imap_extensions.proofs.Ids.{put_entries, owned_of, put_owned_entries, entries-lent_id}
+use Rattle.imap_extensions.proofs.Marks.{id_map}
 use Rattle.imap_json.specs.Forms.{Field, Appends, fields_front, field_tokens}
 use Rattle.imap_json.specs.Ids.{entry_field, id_fields, shown_entry}
 use Rattle.imap_json.specs.Texts.{text_json}
@@ -79,7 +80,7 @@ all_put fields done o =
     sym (map-map (λ e. entry_field (lent_entry e)) owned_shown done)
     ∙ ap (map (λ e. entry_field (lent_entry e))) (o.are ∙ ap entries o.completes)
     ∙ sym (map-map entry_field lent_entry (entries (owned_id (id_value fields))))
-    ∙ ap (map entry_field) (sym (entries-lent_id (owned_id (id_value fields))) ∙ ap entries (owned_id_says (id_value fields)) ∙ entries-lent_id (id_value fields))
+    ∙ ap (map entry_field) (sym (entries-lent_id (owned_id (id_value fields))) ∙ ap entries (id_map true false (id_value fields)) ∙ entries-lent_id (id_value fields))
     ∙ map-map entry_field lent_entry (entries (id_value fields))
 
 -- ---- written

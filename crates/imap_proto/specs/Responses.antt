@@ -7,18 +7,18 @@ use Rattle.imap_grammar.specs.Ascii.{line_feed, carriage_return}
 use Rattle.imap_grammar.specs.Text.{Bytes, Text, text_of, lent_text}
 use Rattle.imap_grammar.specs.Ranges.{Range, range_of}
 use Rattle.imap_items.specs.declared.types.statuses.Status.{Status}
-use Rattle.imap_data.specs.Codes.{CodeValue, code_value, lent_code}
-use Rattle.imap_items.specs.Capabilities.{CapabilityValue, capability_value, lent_capability}
-use Rattle.imap_data.specs.DatumValues.{DatumValue, datum_value, lent_datum}
-use Rattle.imap_extensions.specs.Quotas.{QuotaValue, QuotaRootValue, quota_value, quota_root_value, lent_quota, lent_quota_root}
-use Rattle.imap_extensions.specs.Ids.{IdValue, id_value, lent_id}
-use Rattle.imap_extensions.specs.Acls.{AclValue, ListRightsValue, MyRightsValue, acl_value, list_rights_value, my_rights_value, lent_acl, lent_list_rights, lent_my_rights}
+use Rattle.imap_data.specs.Codes.{CodeValue, code_value, changed_code}
+use Rattle.imap_items.specs.Capabilities.{CapabilityValue, capability_value, changed_capability}
+use Rattle.imap_data.specs.DatumValues.{DatumValue, datum_value, changed_datum}
+use Rattle.imap_extensions.specs.Quotas.{QuotaValue, QuotaRootValue, quota_value, quota_root_value, changed_quota, changed_quota_root}
+use Rattle.imap_extensions.specs.Ids.{IdValue, id_value, changed_id}
+use Rattle.imap_extensions.specs.Acls.{AclValue, ListRightsValue, MyRightsValue, acl_value, list_rights_value, my_rights_value, changed_acl, changed_list_rights, changed_my_rights}
 use Rattle.imap_grammar.specs.declared.at.span.Span.{Span}
 use Rattle.imap_shapes.specs.declared.spans.SpannedText.{SpannedText}
 use Rattle.imap_body.specs.declared.spanned.SpannedAttribute.{SpannedAttribute}
 use Rattle.imap_body.specs.SpannedAttributes.{attribute_in}
 use Rattle.imap_attributes.specs.AttributeValues.{AttributeValue, attribute_value}
-use Rattle.imap_attributes.specs.Changed.{lent_attribute}
+use Rattle.imap_attributes.specs.Changed.{changed_attribute}
 use Rattle.imap_proto.specs.declared.outcome.Outcome.{Outcome}
 use Rattle.imap_proto.specs.declared.response.Response.{Response}
 use Rattle.imap_proto.specs.declared.response.Response.TheVariants as variant
@@ -81,27 +81,36 @@ fetch_in m x = Fetch x.0 (map (attribute_in m) x.1.items)
 abbrev pub EndsLine : Bytes → Bytes → Type 0
 EndsLine m rest = (front : Bytes) × (m ≡ front ++ (carriage_return ∷ line_feed ∷ rest))
 
+-- ---- with each text changed by h, but a tag's, which is owned always
+
+abbrev pub changed_outcome : (Text → Text) → OutcomeValue → OutcomeValue
+changed_outcome h o =
+    record {
+      code = option_map (changed_code h) o.code;
+      information = option_map h o.information;
+    }
+
+abbrev pub changed_response : (Text → Text) → ResponseValue → ResponseValue
+changed_response h (Capabilities capabilities) =
+    Capabilities (map (changed_capability h) capabilities)
+changed_response h (Continue o) = Continue (changed_outcome h o)
+changed_response h (Done tag status o) = Done tag status (changed_outcome h o)
+changed_response h (Data status o) = Data status (changed_outcome h o)
+changed_response h (Expunge n) = Expunge n
+changed_response h (Vanished earlier uids) = Vanished earlier uids
+changed_response h (Fetch n attributes) = Fetch n (map (changed_attribute h) attributes)
+changed_response h (MailboxData datum) = MailboxData (changed_datum h datum)
+changed_response h (Quota quota) = Quota (changed_quota h quota)
+changed_response h (QuotaRoot root) = QuotaRoot (changed_quota_root h root)
+changed_response h (Id map) = Id (option_map (changed_id h) map)
+changed_response h (Acl acl) = Acl (changed_acl h acl)
+changed_response h (ListRights rights) = ListRights (changed_list_rights h rights)
+changed_response h (MyRights rights) = MyRights (changed_my_rights h rights)
+
 -- ---- with all texts borrowed: two values say the same where these are equal
 
 abbrev pub lent_outcome : OutcomeValue → OutcomeValue
-lent_outcome o =
-    record {
-      code = option_map lent_code o.code;
-      information = option_map lent_text o.information;
-    }
+lent_outcome = changed_outcome lent_text
 
 abbrev pub lent_response : ResponseValue → ResponseValue
-lent_response (Capabilities capabilities) = Capabilities (map lent_capability capabilities)
-lent_response (Continue o) = Continue (lent_outcome o)
-lent_response (Done tag status o) = Done tag status (lent_outcome o)
-lent_response (Data status o) = Data status (lent_outcome o)
-lent_response (Expunge n) = Expunge n
-lent_response (Vanished earlier uids) = Vanished earlier uids
-lent_response (Fetch n attributes) = Fetch n (map lent_attribute attributes)
-lent_response (MailboxData datum) = MailboxData (lent_datum datum)
-lent_response (Quota quota) = Quota (lent_quota quota)
-lent_response (QuotaRoot root) = QuotaRoot (lent_quota_root root)
-lent_response (Id map) = Id (option_map lent_id map)
-lent_response (Acl acl) = Acl (lent_acl acl)
-lent_response (ListRights rights) = ListRights (lent_list_rights rights)
-lent_response (MyRights rights) = MyRights (lent_my_rights rights)
+lent_response = changed_response lent_text

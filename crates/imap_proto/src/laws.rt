@@ -86,7 +86,7 @@ pub fn skipping()
 /// `has_too_long_text`, with a text too long to be written as a literal. A response with its texts borrowed is the same
 /// response. Responses that say the same have one canonical text, and are of these kinds alike: so the canonical text of
 /// an owned response, as a feed gives it, reads back as it.
-#[tactic(auto, using(crate::proofs::LineTexts::response_spells, crate::proofs::LineTexts::canonical_reads_back, crate::proofs::LentTwice::lent_is_same, crate::proofs::OneText::said_alike, crate::proofs::OneText::same_reads_back))]
+#[tactic(auto, using(crate::proofs::LineTexts::response_spells, crate::proofs::LineTexts::canonical_reads_back, crate::proofs::Marks::lent_is_same, crate::proofs::OneText::said_alike, crate::proofs::OneText::same_reads_back))]
 pub fn read_back()
     ensures spells { Spells rule.response spells_response }
     ensures canonical { CanonicalReadsBack }
@@ -121,14 +121,14 @@ pub fn quoting()
 {}
 
 /// An owned response says the same as the response that it was made from.
-#[tactic(auto, using(crate::proofs::Owned::owned_is_same))]
+#[tactic(auto, using(crate::proofs::Marks::owned_is_same))]
 pub fn owning()
     ensures { (r : ResponseValue) → Same (owned_response r) r }
 {}
 
 /// Responses that say the same have one owned response: to borrow the texts of a value before they are owned changes
 /// nothing.
-#[tactic(auto, using(crate::proofs::OwnedOfLent::outcome, crate::proofs::OwnedOfLent::response))]
+#[tactic(auto, using(crate::proofs::Marks::owned_lent_outcome, crate::proofs::Marks::owned_lent_response))]
 pub fn lending()
     ensures outcome { (o : OutcomeValue) → owned_outcome (lent_outcome o) ≡ owned_outcome o }
     ensures response { (r : ResponseValue) → owned_response (lent_response r) ≡ owned_response r }
