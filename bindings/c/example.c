@@ -1,6 +1,7 @@
 /* Reads what a server sent from standard input, by pieces, and prints a line for each response as soon as it is there: its
- * kind and how many bytes it has, as imap_cat does. The last line is `end`, `waiting N` or `denied N`, where N bytes are left, and
- * the exit status is 0, 2 or 3 by that; 1 after a fault. An argument says how many bytes a piece has (4096). */
+ * kind and how many bytes it has, as imap_cat does, or with the word `json` all that it says, as imap_jsonl does. The last
+ * line tells what is left: `end`, `waiting N` or `denied N`, or the same in JSON. The exit status is 0, 2 or 3 by that, and 1
+ * after a fault. A number as an argument says how many bytes a piece has (4096). */
 #include "imap.h"
 
 #include <stdio.h>
@@ -15,37 +16,82 @@ static const char *const kind_names[] = {
     [IMAP_LIST_RIGHTS] = "listrights",    [IMAP_MY_RIGHTS] = "myrights",
 };
 
-/* What was read and is not yet told: `length` bytes of a buffer with room for `room`. */
-struct held {
+/* A buffer of `length` bytes with room for `room`. */
+struct buffer {
     uint8_t *bytes;
     size_t length, room;
-    struct imap_cursor cursor;
 };
 
+/* What was read and is not yet told, and a text of JSON, if that is asked for. */
+struct held {
+    struct buffer sent, text;
+    struct imap_cursor cursor;
+    bool as_json;
+};
+
+static bool make_room(struct buffer *buffer, size_t more) {
+    if (buffer->room - buffer->length >= more) return true;
+    size_t room = 2 * buffer->length + more;
+    uint8_t *bytes = realloc(buffer->bytes, room);
+    if (bytes == NULL) return false;
+    buffer->bytes = bytes;
+    buffer->room = room;
+    return true;
+}
+
 /* Drops what was told, and makes room for a piece behind what is held. */
-static bool make_room(struct held *held, size_t piece) {
+static bool make_room_for_piece(struct held *held, size_t piece) {
+    struct buffer *sent = &held->sent;
     size_t start = held->cursor.start;
-    if (start > 0 && start >= held->length - start) {
-        memmove(held->bytes, held->bytes + start, held->length - start);
-        held->length -= start;
+    if (start > 0 && start >= sent->length - start) {
+        memmove(sent->bytes, sent->bytes + start, sent->length - start);
+        sent->length -= start;
         held->cursor.start = 0;
     }
-    if (held->room - held->length >= piece) return true;
-    size_t room = 2 * held->length + piece;
-    uint8_t *bytes = realloc(held->bytes, room);
-    if (bytes == NULL) return false;
-    held->bytes = bytes;
-    held->room = room;
-    return true;
+    return make_room(sent, piece);
+}
+
+/* Prints the response that stands at a place of what is held. */
+static uint32_t tell_json(struct held *held, size_t start) {
+    struct buffer *text = &held->text;
+    const uint8_t *bytes = held->sent.bytes + start;
+    size_t length = held->sent.length - start;
+    struct imap_text_answer answer = imap_json(bytes, length, text->bytes, text->room);
+    if (answer.outcome == IMAP_FOUND && answer.size > text->room) {
+        if (!make_room(text, answer.size)) return IMAP_OUT_OF_MEMORY;
+        answer = imap_json(bytes, length, text->bytes, text->room);
+    }
+    if (answer.outcome != IMAP_FOUND) return answer.outcome;
+    fwrite(text->bytes, 1, answer.size, stdout);
+    putchar('\n');
+    return IMAP_FOUND;
 }
 
 /* Prints all responses that are held, and answers why there are no more. */
 static uint32_t tell_all(struct held *held) {
     for (;;) {
-        struct imap_answer answer = imap_next(held->bytes, held->length, &held->cursor);
+        size_t start = held->cursor.start;
+        struct imap_answer answer = imap_next(held->sent.bytes, held->sent.length, &held->cursor);
         if (answer.outcome != IMAP_FOUND) return answer.outcome;
-        printf("%s %zu\n", kind_names[answer.kind], answer.consumed);
+        if (!held->as_json) {
+            printf("%s %zu\n", kind_names[answer.kind], answer.consumed);
+        } else if (tell_json(held, start) != IMAP_FOUND) {
+            return IMAP_OUT_OF_MEMORY;
+        }
     }
+}
+
+/* Prints the last line, and answers the exit status. */
+static int tell_end(const struct held *held, const char *name, size_t left, int status) {
+    int printed;
+    if (held->as_json) {
+        printed = printf("{\"end\":\"%s\",\"left\":%zu}\n", name, left);
+    } else if (status == 0) {
+        printed = printf("end\n");
+    } else {
+        printed = printf("%s %zu\n", name, left);
+    }
+    return printed < 0 ? 1 : status;
 }
 
 /* Reads to the end, and answers how many bytes there were. */
@@ -60,27 +106,34 @@ static size_t count_on(void) {
 static int run(size_t piece, struct held *held) {
     uint32_t outcome = IMAP_WAITS;
     while (outcome == IMAP_WAITS) {
-        if (!make_room(held, piece)) return 1;
-        size_t n = fread(held->bytes + held->length, 1, piece, stdin);
+        if (!make_room_for_piece(held, piece)) return 1;
+        size_t n = fread(held->sent.bytes + held->sent.length, 1, piece, stdin);
         if (n == 0) break;
-        held->length += n;
+        held->sent.length += n;
         outcome = tell_all(held);
         if (fflush(stdout) == EOF) return 1;
     }
-    size_t left = held->length - held->cursor.start;
+    size_t left = held->sent.length - held->cursor.start;
     if (outcome == IMAP_DENIED) left += count_on();
     if (ferror(stdin) || (outcome != IMAP_WAITS && outcome != IMAP_DENIED)) return 1;
-    if (outcome == IMAP_DENIED) return printf("denied %zu\n", left) < 0 ? 1 : 3;
-    if (left == 0) return printf("end\n") < 0 ? 1 : 0;
-    return printf("waiting %zu\n", left) < 0 ? 1 : 2;
+    if (outcome == IMAP_DENIED) return tell_end(held, "denied", left, 3);
+    if (left == 0) return tell_end(held, "end", 0, 0);
+    return tell_end(held, held->as_json ? "waits" : "waiting", left, 2);
 }
 
 int main(int count, char **arguments) {
-    size_t piece = count > 1 ? strtoul(arguments[1], NULL, 10) : 4096;
-    if (piece == 0) return 1;
     struct held held = {0};
-    int status = run(piece, &held);
-    free(held.bytes);
+    size_t piece = 4096;
+    for (int k = 1; k < count; k++) {
+        if (strcmp(arguments[k], "json") == 0) {
+            held.as_json = true;
+        } else {
+            piece = strtoul(arguments[k], NULL, 10);
+        }
+    }
+    int status = piece == 0 ? 1 : run(piece, &held);
+    free(held.sent.bytes);
+    free(held.text.bytes);
     if (fflush(stdout) == EOF) status = 1;
     if (status == 1) fprintf(stderr, "fault\n");
     return status;

@@ -121,6 +121,14 @@ struct imap_text_answer {
     size_t size;      /* how many bytes the text has, whether there is room for them or not; 0 where there is none */
 };
 
+/* The response at the front of the bytes as a line of JSON, without a line end, in the form that docs/JSON.md says. Where
+ * there is none, the outcome is that of imap_parse. The bytes are read once more for it, so call it only where the text is
+ * wanted.
+ *
+ * Behind imap_next, hand it all bytes from where the cursor's start was before, and not only those of the response: these
+ * alone may be waited for, since what stands behind a line can tell whether it goes on. */
+struct imap_text_answer imap_json(const uint8_t *bytes, size_t length, uint8_t *out, size_t room);
+
 /* Below: commands and arguments of them. A command has neither tag nor line end: send a tag, a space, the text and CRLF.
  * Arguments are UTF-8, and go out in quotes with a backslash before each `\` and `"`, and with no other change: a mailbox
  * name beyond ASCII has to be in modified UTF-7 already (RFC 3501, section 5.1.3). IMAP_CARRIAGE_RETURN, IMAP_LINE_FEED,

@@ -106,6 +106,15 @@ static void finds_lines(void) {
         EXPECT(a.outcome == (why) && a.size == 0 && out[0] == '#');    \
     } while (0)
 
+static void tells_json(void) {
+    EXPECT_TEXT("{\"kind\":\"mailboxdata\",\"datum\":{\"Exists\":18}}", imap_json(BYTES("* 18 EXISTS\r\n* "), out, room));
+    EXPECT_TEXT("{\"kind\":\"expunge\",\"number\":3}", imap_json(BYTES("* 3 EXPUNGE\r\n"), out, room));
+    EXPECT_REFUSED(IMAP_WAITS, imap_json(BYTES("* 18 EX"), out, room));
+    EXPECT_REFUSED(IMAP_WAITS, imap_json(NULL, 0, out, room));
+    EXPECT_REFUSED(IMAP_DENIED, imap_json(BYTES("* NAMESPACE"), out, room));
+    EXPECT(imap_json(BYTES("* 3 EXPUNGE\r\n"), NULL, 0).size == 29);
+}
+
 static void writes(void) {
     EXPECT_TEXT("\"a\\\\b\\\"c\"", imap_quote(BYTES("a\\b\"c"), out, room));
     EXPECT_TEXT("\"\"", imap_quote(NULL, 0, out, room));
@@ -132,6 +141,7 @@ int main(void) {
     parses();
     goes_on();
     finds_lines();
+    tells_json();
     writes();
     refuses();
     if (failures == 0) printf("ok\n");

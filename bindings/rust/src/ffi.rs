@@ -53,6 +53,7 @@ mod c {
         pub(super) fn imap_parse(bytes: *const u8, length: usize) -> Answer;
         pub(super) fn imap_next(bytes: *const u8, length: usize, cursor: *mut Cursor) -> Answer;
         pub(super) fn imap_logical_line(bytes: *const u8, length: usize) -> LineAnswer;
+        pub(super) fn imap_json(bytes: *const u8, length: usize, out: *mut u8, room: usize) -> TextAnswer;
         pub(super) fn imap_quote(bytes: *const u8, length: usize, out: *mut u8, room: usize) -> TextAnswer;
         pub(super) fn imap_select(bytes: *const u8, length: usize, out: *mut u8, room: usize) -> TextAnswer;
         pub(super) fn imap_login(
@@ -96,6 +97,10 @@ pub(crate) fn next(bytes: &[u8], cursor: &mut Cursor) -> Answer {
 
 pub(crate) fn logical_line(bytes: &[u8]) -> LineAnswer {
     unsafe { c::imap_logical_line(bytes.as_ptr(), bytes.len()) }
+}
+
+pub(crate) fn json(bytes: &[u8], out: &mut [u8]) -> TextAnswer {
+    unsafe { c::imap_json(bytes.as_ptr(), bytes.len(), out.as_mut_ptr(), out.len()) }
 }
 
 pub(crate) fn quote(argument: &str, out: &mut [u8]) -> TextAnswer {

@@ -38,6 +38,22 @@ pub fn parse(bytes: &[u8]) -> Result<(usize, Answer), Error> {
     Answer::told(ffi::parse(bytes))
 }
 
+/// The response at the front of the bytes as a line of JSON, without a line end, in the form that `docs/JSON.md` of the
+/// repository says. The bytes may go on behind the response.
+///
+/// ```
+/// let line = proved_imap::json(b"* 3 EXPUNGE\r\n* ")?;
+/// assert_eq!(line, r#"{"kind":"expunge","number":3}"#);
+/// # Ok::<(), proved_imap::Error>(())
+/// ```
+pub fn json(bytes: &[u8]) -> Result<String, Error> {
+    match ffi::text(256, |out| ffi::json(bytes, out)) {
+        Ok(text) => Ok(ffi::utf8(text)),
+        Err(ffi::WAITS) => Err(Error::told(ffi::WAITS, ffi::parse(bytes).missing)),
+        Err(outcome) => Err(Error::told(outcome, 0)),
+    }
+}
+
 /// How many bytes the logical line at the front has, with its CRLF: any literals and any other bytes, up to the first
 /// CRLF that belongs to no literal (RFC 3501, sections 2.2 and 4.3). `None` where it isn't whole.
 pub fn logical_line(bytes: &[u8]) -> Option<usize> {

@@ -1,6 +1,6 @@
 //! Streams: bytes that come in pieces, and what stands in them.
 
-use crate::{ffi, logical_line, Answer, Error};
+use crate::{ffi, json, logical_line, Answer, Error};
 
 /// A response of a stream.
 #[derive(Clone, Debug, PartialEq, Eq)]
@@ -9,6 +9,8 @@ pub struct Event {
     pub answer: Answer,
     /// How many bytes it had.
     pub consumed: usize,
+    /// All that it says, as a line of JSON without a line end, in the form that `docs/JSON.md` of the repository says.
+    pub json: String,
 }
 
 /// Bytes of a server that come in pieces, and that give their responses one by one.
@@ -44,18 +46,33 @@ impl Stream {
     }
 
     /// The response at the front of what it holds; its bytes are held no longer. `None` where more bytes are needed, or
-    /// nothing is held.
+    /// nothing is held. They are read twice, once for the JSON.
     ///
     /// [`Error::Denied`]: no response begins so, and each later call says that again, until
     /// [`skip_line`](Stream::skip_line) has dropped the line. Behind [`Error::OutOfMemory`] it is as it was.
     pub fn next_event(&mut self) -> Result<Option<Event>, Error> {
+        let Some((cursor, consumed, answer)) = self.told()? else {
+            return Ok(None);
+        };
+        let json = json(self.held())?;
+        self.cursor = cursor;
+        Ok(Some(Event { answer, consumed, json }))
+    }
+
+    /// The same without JSON: how many bytes the response had, and what it is.
+    pub fn next_answer(&mut self) -> Result<Option<(usize, Answer)>, Error> {
+        let Some((cursor, consumed, answer)) = self.told()? else {
+            return Ok(None);
+        };
+        self.cursor = cursor;
+        Ok(Some((consumed, answer)))
+    }
+
+    // The response at the front, and the cursor behind it.
+    fn told(&mut self) -> Result<Option<(ffi::Cursor, usize, Answer)>, Error> {
         let mut cursor = self.cursor;
-        let answer = ffi::next(&self.bytes, &mut cursor);
-        match Answer::told(answer) {
-            Ok((consumed, answer)) => {
-                self.cursor = cursor;
-                Ok(Some(Event { answer, consumed }))
-            }
+        match Answer::told(ffi::next(&self.bytes, &mut cursor)) {
+            Ok((consumed, answer)) => Ok(Some((cursor, consumed, answer))),
             Err(Error::Incomplete { .. }) => {
                 self.cursor = cursor;
                 Ok(None)

@@ -1,7 +1,7 @@
 //! Each call once, with what it has to answer.
 
 use proved_imap::command::{self, Attribute, Messages, Refusal};
-use proved_imap::{logical_line, parse, Error, Kind, Status, Stream};
+use proved_imap::{json, logical_line, parse, Error, Kind, Status, Stream};
 use std::num::{NonZeroU32, NonZeroUsize};
 
 #[test]
@@ -60,6 +60,29 @@ fn streams_byte_by_byte() {
     }
     assert_eq!(told, ["fetch 31", "skipped 21", "done 12"]);
     assert!(stream.held().is_empty());
+}
+
+#[test]
+fn tells_json() {
+    assert_eq!(json(b"* 3 EXPUNGE\r\n* ").unwrap(), r#"{"kind":"expunge","number":3}"#);
+    assert_eq!(json(b"* 1 FETCH (BODY[] {5}\r\nab"), Err(Error::Incomplete { missing: NonZeroUsize::new(3) }));
+    assert_eq!(json(b"* NAMESPACE"), Err(Error::Denied));
+    let long = "x".repeat(10_000);
+    let line = json(format!("* OK {long}\r\n").as_bytes()).unwrap();
+    let want = format!(r#"{{"kind":"data","status":"Ok","outcome":{{"code":null,"information":"{long}"}}}}"#);
+    assert_eq!(line, want);
+}
+
+#[test]
+fn events_have_json() {
+    let mut stream = Stream::new();
+    stream.push(b"* 18 EXISTS\r\n* 3 EXPUNGE\r\n* 4");
+    let lines: Vec<String> = stream.events().map(|event| event.unwrap().json).collect();
+    assert_eq!(lines, [r#"{"kind":"mailboxdata","datum":{"Exists":18}}"#, r#"{"kind":"expunge","number":3}"#]);
+    stream.push(b" EXISTS\r\n");
+    let (consumed, answer) = stream.next_answer().unwrap().unwrap();
+    assert_eq!((consumed, answer.kind, answer.number), (12, Kind::MailboxData, 4));
+    assert_eq!(stream.next_answer(), Ok(None));
 }
 
 #[test]

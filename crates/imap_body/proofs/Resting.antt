@@ -11,6 +11,7 @@ use Rattle.imap_shapes.specs.Spans.{Lookup, Rests}
 use Rattle.imap_shapes.specs.declared.shapes.envelopes.Envelope.{Envelope as Kept}
 use Rattle.imap_shapes.specs.declared.shapes.bodies.BodyStructure.{BodyStructure as Structure}
 use Rattle.imap_shapes.specs.EnvelopeValues.{envelope_seen}
+use Rattle.imap_shapes.proofs.Places.{part_rests}
 use Rattle.imap_shapes.specs.BodyValues.{boxed_seen}
 use Rattle.imap_attributes.specs.declared.attributes.AttributeParts.TheVariants as parts
 use Rattle.imap_attributes.specs.AttributeValues.{BodyStructure, Envelope, parts_said}
@@ -27,3 +28,5 @@ envelope_rests text bytes q b x is h = record { same = λ n k alike. rw is (ap (
 pub id_decoded : (m rest v : Bytes) → step id_bytes m ≡ Ok (rest, v) → step (gives as_text id_bytes) m ≡ Ok (rest, decoded v)
 unfolding id_bytes
 id_decoded m rest v is = utf8_decoded id_bytes m rest v (record { each = λ n x k y. (test-has is_utf8 (run1 is_astring_char) n x k y).1 }) is
+
+pub ruleset ids = (id_decoded, part_rests)

@@ -82,26 +82,7 @@ pub fn stable()
     ensures body_type_mpart { (level : ℕ) → Stable (bodies.body_type_mpart (bodies.body level)) }
     ensures body { (level : ℕ) → Stable (bodies.body level) }
     ensures body_structure { Stable bodies.body_structure }
-    ensures section_contents { Stable attributes.section_contents }
     ensures msg_att_body_section { Stable attributes.msg_att_body_section }
-    ensures msg_att_body_structure { Stable attributes.msg_att_body_structure }
-    ensures msg_att_envelope { Stable attributes.msg_att_envelope }
-    ensures msg_att_internal_date { Stable attributes.msg_att_internal_date }
-    ensures msg_att_flags { Stable attributes.msg_att_flags }
-    ensures msg_att_mod_seq { Stable attributes.msg_att_mod_seq }
-    ensures msg_att_rfc822 { Stable attributes.msg_att_rfc822 }
-    ensures msg_att_rfc822_header { Stable attributes.msg_att_rfc822_header }
-    ensures msg_att_rfc822_size { Stable attributes.msg_att_rfc822_size }
-    ensures msg_att_rfc822_text { Stable attributes.msg_att_rfc822_text }
-    ensures msg_att_uid { Stable attributes.msg_att_uid }
-    ensures msg_att_gmail_labels { Stable attributes.msg_att_gmail_labels }
-    ensures msg_att_gmail_msgid { Stable attributes.msg_att_gmail_msgid }
-    ensures msg_att_gmail_thrid { Stable attributes.msg_att_gmail_thrid }
-    ensures object_id { Stable attributes.object_id }
-    ensures msg_att_email_id { Stable attributes.msg_att_email_id }
-    ensures msg_att_thread_id { Stable attributes.msg_att_thread_id }
-    ensures msg_att_save_date { Stable attributes.msg_att_save_date }
-    ensures msg_att_unknown { Stable attributes.msg_att_unknown }
     ensures attribute { Stable attributes.attribute }
     ensures attribute_list { Stable attributes.attribute_list }
 {}
@@ -158,23 +139,6 @@ pub fn read_back()
     ensures body_structure { SpellsAndReadsBack bodies.body_structure lent_body canonical_body
         spells_body Closes }
     ensures msg_att_body_section { AttributeReadsBack attributes.msg_att_body_section }
-    ensures msg_att_body_structure { AttributeReadsBack attributes.msg_att_body_structure }
-    ensures msg_att_envelope { AttributeReadsBack attributes.msg_att_envelope }
-    ensures msg_att_internal_date { AttributeReadsBack attributes.msg_att_internal_date }
-    ensures msg_att_flags { AttributeReadsBack attributes.msg_att_flags }
-    ensures msg_att_mod_seq { AttributeReadsBack attributes.msg_att_mod_seq }
-    ensures msg_att_rfc822 { AttributeReadsBack attributes.msg_att_rfc822 }
-    ensures msg_att_rfc822_header { AttributeReadsBack attributes.msg_att_rfc822_header }
-    ensures msg_att_rfc822_size { AttributeReadsBack attributes.msg_att_rfc822_size }
-    ensures msg_att_rfc822_text { AttributeReadsBack attributes.msg_att_rfc822_text }
-    ensures msg_att_uid { AttributeReadsBack attributes.msg_att_uid }
-    ensures msg_att_gmail_labels { AttributeReadsBack attributes.msg_att_gmail_labels }
-    ensures msg_att_gmail_msgid { AttributeReadsBack attributes.msg_att_gmail_msgid }
-    ensures msg_att_gmail_thrid { AttributeReadsBack attributes.msg_att_gmail_thrid }
-    ensures msg_att_email_id { AttributeReadsBack attributes.msg_att_email_id }
-    ensures msg_att_thread_id { AttributeReadsBack attributes.msg_att_thread_id }
-    ensures msg_att_save_date { AttributeReadsBack attributes.msg_att_save_date }
-    ensures msg_att_unknown { AttributeReadsBack attributes.msg_att_unknown }
     ensures attribute { AttributeReadsBack attributes.attribute }
     ensures attribute_list { SpellsAndReadsBack attributes.attribute_list (map lent_attribute)
         canonical_attributes spells_attributes Closes }

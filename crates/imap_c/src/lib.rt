@@ -8,6 +8,7 @@
 mod answers;
 mod commands;
 mod cursors;
+mod json;
 pub mod laws;
 mod parsing;
 mod refusals;

@@ -74,6 +74,13 @@ pub extern "C" fn imap_next(alloc: Global, bytes: &[u8], cursor: &mut Cursor) ->
     ensures spares { 0 < result.missing →
         (cursor.new.wanted ≡ length (held bytes.now cursor.old) + result.missing)
         ⊎ (2 ^ 64 ≤ length (held bytes.now cursor.old) + result.missing) }
+    ensures failure { result.outcome ≡ out_of_memory → MayWantMemory (held bytes.now cursor.old) }
+    ensures memory { (v : ResponseValue) (rest : List ℕ) →
+        cursor.old.start ≤ length bytes.now →
+        cursor.old.wanted ≤ length (held bytes.now cursor.old) →
+        step rule.response (held bytes.now cursor.old) ≡ Found (rest, v) →
+        TakesNone v →
+        result.outcome ≡ found }
 {
     let Cursor { start, wanted } = *cursor;
     if start > bytes.len() {

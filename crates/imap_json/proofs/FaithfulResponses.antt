@@ -1,5 +1,6 @@
--- Attributes of a message, and responses.
+-- Attributes of a message, responses, and skipped lines.
 use Rattle.std.proofs.Common.{◌≡◌, [], ◌∷◌, refl, ap, codes}
+use Rattle.imap_grammar.specs.Text.{Bytes, as_text}
 use Rattle.imap_attributes.specs.AttributeValues.{AttributeValue}
 use Rattle.imap_attributes.specs.AttributeValues as attribute
 use Rattle.imap_attributes.specs.Changed.{lent_attribute}
@@ -10,9 +11,10 @@ use Rattle.imap_json.specs.Statuses.{status_json}
 use Rattle.imap_json.specs.Sections.{path_json}
 use Rattle.imap_json.specs.Attributes.{attribute_json}
 use Rattle.imap_json.specs.Responses.{outcome_json, kind_json, json_of}
+use Rattle.imap_json.specs.Skipped.{skipped_json}
 use Rattle.imap_json.specs.Laws.{IsFaithful}
 use Rattle.imap_json.proofs.Faithful.{names_apart, inner, part, numbers, flags, strings, lists, plain_lists, plain_options}
-use Rattle.imap_json.proofs.FaithfulTexts.{texts, ntexts, ranges}
+use Rattle.imap_json.proofs.FaithfulTexts.{texts, ntexts, byte_strings, ranges}
 use Rattle.imap_json.proofs.FaithfulItems.{statuses, capabilities, paths}
 use Rattle.imap_json.proofs.FaithfulData.{response_codes, mailbox_data}
 use Rattle.imap_json.proofs.FaithfulLines.{quotas, quota_roots, optional_ids, acls, list_rights, my_rights}
@@ -124,3 +126,8 @@ responses_alike other = refl
 
 pub responses : IsFaithful json_of lent_response
 responses = record { apart = responses_apart; alike = responses_alike }
+
+-- ---- skipped lines
+
+pub skipped_apart : (a b : Bytes) → skipped_json a ≡ skipped_json b → a ≡ b
+skipped_apart a b h = ap (λ t. t.bytes) (byte_strings.apart (as_text a) (as_text b) (ap (part 1) h))

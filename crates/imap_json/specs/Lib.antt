@@ -20,4 +20,5 @@ pub mod Extensions
 pub mod Bodies
 pub mod Attributes
 pub mod Responses
+pub mod Skipped
 pub mod Laws

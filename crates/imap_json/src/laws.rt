@@ -5,6 +5,8 @@ ghost use Rattle.serde_json.specs.Written.{compact_text};
 ghost use Rattle.imap_proto.specs.Responses.{ResponseValue, lent_response};
 ghost use Rattle.imap_json.specs.Responses.{json_of};
 ghost use Rattle.imap_json.specs.Laws.{HasU64s};
+ghost use Rattle.imap_grammar.specs.Text.{Bytes};
+ghost use Rattle.imap_json.specs.Skipped.{skipped_json};
 
 /// Responses that don't say the same have other JSON: nothing of them is left out.
 #[tactic(auto, using(crate::proofs::FaithfulResponses::responses_apart))]
@@ -24,4 +26,10 @@ pub fn texts_apart()
 pub fn one_text()
     ensures { (a b : ResponseValue) → lent_response a ≡ lent_response b →
         compact_text (json_of a) ≡ compact_text (json_of b) }
+{}
+
+/// Skipped lines of other bytes have other JSON.
+#[tactic(auto, using(crate::proofs::FaithfulResponses::skipped_apart))]
+pub fn skipped_apart()
+    ensures { (a b : Bytes) → skipped_json a ≡ skipped_json b → a ≡ b }
 {}

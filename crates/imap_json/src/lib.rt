@@ -1,4 +1,4 @@
-//! A response as one line of JSON: [`to_json`].
+//! A response as one line of JSON: [`to_json`]; and a line that was skipped: [`skipped_to_json`].
 //!
 //! `docs/JSON.md` has the form. Each type is told by its own `impl` of a trait, over one writer of JSON.
 #![tactic(auto)]
@@ -24,8 +24,10 @@ mod quotas;
 mod responses;
 mod rights;
 mod sections;
+mod skipped;
 mod statuses;
 mod texts;
 mod uid_sets;
 
 pub use responses::to_json;
+pub use skipped::skipped_to_json;

@@ -67,7 +67,8 @@ fn write_base64(bytes: &[u8], out: &mut Output) -> Result<(), AllocError>
     variant(out, "base64", &text)
 }
 
-fn write_bytes(bytes: &[u8], out: &mut Output) -> Result<(), AllocError>
+/// Writes bytes as text where they are UTF-8, and else in base64.
+pub(crate) fn write_bytes(bytes: &[u8], out: &mut Output) -> Result<(), AllocError>
     ensures { OnOk result (Tells out.old out.new (raw_json bytes.now)) }
 {
     match str::from_utf8(bytes) {

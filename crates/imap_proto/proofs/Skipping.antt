@@ -25,7 +25,7 @@ use Rattle.imap_proto.proofs.Streams.{response_takes, some_end, one_end, joined_
 
 -- ---- items
 
-item_takes : consumes item ≡ true
+pub item_takes : consumes item ≡ true
 unfolding item
 item_takes = rw (response_takes, line_takes) refl
 
@@ -37,7 +37,7 @@ no_response : (m : Bytes) → NoneAt item m → NoneAt response m
 no_response m none v rest y = none (Taken v) rest (taken m v rest y)
 
 -- what waits begins with none
-waiting_stops : (m : Bytes) → Waiting m → NoneAt item m
+pub waiting_stops : (m : Bytes) → Waiting m → NoneAt item m
 unfolding meaning item
 waiting_stops m w x rest y = elim y [ inl a ↦ w.0 a.0 rest a.1 | inr a ↦ w.1 a.0 ]
 

@@ -56,7 +56,7 @@ pub fn logical_lines()
 
 /// A stream of responses has one split, however its bytes are cut into pieces; and what a response consumed waits
 /// until its last byte is there.
-#[tactic(auto, using(crate::proofs::Streams::some_split, crate::proofs::Streams::one_split, crate::proofs::Streams::beginnings_wait, crate::proofs::Streams::splits_go_on, crate::proofs::Streams::feeds_split, crate::proofs::Streams::cuttings_alike, crate::proofs::Wholes::one_whole))]
+#[tactic(auto, using(crate::proofs::Grounds::streams))]
 pub fn streams()
     ensures some_split { SomeSplit }
     ensures one_split { OneSplit }
@@ -69,7 +69,7 @@ pub fn streams()
 
 /// A stream that is read on behind the lines which are denied has one outcome, its responses and its skipped lines in
 /// their order, however its bytes are cut into pieces. Where nothing is denied it is the split.
-#[tactic(auto, using(crate::proofs::Skipping::some_past, crate::proofs::Skipping::one_past, crate::proofs::Skipping::past_goes_on, crate::proofs::Skipping::past_begins_so, crate::proofs::Skipping::fed_is_passed, crate::proofs::Skipping::feeds_past, crate::proofs::Skipping::past_cuttings_alike))]
+#[tactic(auto, using(crate::proofs::Grounds::skipping))]
 pub fn skipping()
     ensures some_past { SomePast }
     ensures one_past { OnePast }
@@ -86,7 +86,7 @@ pub fn skipping()
 /// `has_too_long_text`, with a text too long to be written as a literal. A response with its texts borrowed is the same
 /// response. Responses that say the same have one canonical text, and are of these kinds alike: so the canonical text of
 /// an owned response, as a feed gives it, reads back as it.
-#[tactic(auto, using(crate::proofs::LineTexts::response_spells, crate::proofs::LineTexts::canonical_reads_back, crate::proofs::Marks::lent_is_same, crate::proofs::OneText::said_alike, crate::proofs::OneText::same_reads_back))]
+#[tactic(auto, using(crate::proofs::Grounds::texts))]
 pub fn read_back()
     ensures spells { Spells rule.response spells_response }
     ensures canonical { CanonicalReadsBack }
@@ -105,7 +105,7 @@ pub fn exceptions()
 
 /// A line of `EXISTS`, `RECENT` or `EXPUNGE` is read from its text, with spaces before its end or without, whatever
 /// follows.
-#[tactic(auto, using(crate::proofs::CountLines::exists_read, crate::proofs::CountLines::recent_read, crate::proofs::CountLines::expunge_read))]
+#[tactic(auto, using(crate::proofs::Grounds::count_lines))]
 pub fn count_lines()
     ensures exists { CountIsRead " EXISTS" exists_of }
     ensures recent { CountIsRead " RECENT" recent_of }

@@ -98,7 +98,7 @@ fn tagged(alloc: Global, i: &[u8]) -> IResult<&[u8], Response<'_>>
 ///
 /// Each arm returns what one call answers, so that an answer is copied once on its way. The number of a line is read
 /// here: it is small, and what stands behind it is told apart by its second byte.
-#[tactic(auto, using(crate::proofs::FirstBytes::response_none, crate::proofs::FirstBytes::response_plus, crate::proofs::FirstBytes::response_star, crate::proofs::FirstBytes::response_other, crate::proofs::FirstBytes::datum_none, crate::proofs::FirstBytes::datum_of_status, crate::proofs::FirstBytes::datum_of_number, crate::proofs::FirstBytes::datum_of_id, crate::proofs::Numbered::number_stopped, crate::proofs::Numbered::number_and_count, crate::proofs::Memory::wants_continued, crate::proofs::Memory::wants_tagged), unfolding(crate::specs::Lines::data_line))]
+#[tactic(auto, using(crate::proofs::Grounds::arms), unfolding(crate::specs::Lines::data_line))]
 #[inline(never)]
 pub(crate) fn response(alloc: Global, i: &[u8]) -> IResult<&[u8], Response<'_>>
     ensures steps { Steps rule.response response_value i.now result }

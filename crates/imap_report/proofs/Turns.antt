@@ -1,195 +1,176 @@
 -- Reports, a line at a time.
-use Rattle.std.proofs.Common.{◌≡◌, ◌≢◌, ℕ, ◌-◌, List, [], ◌∷◌, ◌++◌, length, Option, Some, Result, Ok, Err, refl, sym, ap, subst, ◌∙◌, append_assoc, arith}
-use Rattle.std.specs.Prelude.{codes, OnErr}
+use Rattle.std.proofs.Common.{◌≡◌, ◌≢◌, ℕ, ◌-◌, List, [], ◌∷◌, ◌++◌, length, Option, None, Some, Result, Ok, Err, refl, sym, ap, subst, ◌∙◌, append_assoc, arith}
+use Rattle.std.specs.Prelude.{OnErr}
 use Rattle.std.specs.Io.KnownBytes.{Appends}
 use Rattle.std.proofs.lemmas.List.{length-append, append-nil}
+use Rattle.imap_grammar.specs.Ascii.{line_feed}
 use Rattle.imap_grammar.specs.Meaning.{Denies, Cuts}
 use Rattle.imap_grammar.specs.Rule.{meaning}
+use Rattle.imap_grammar.specs.Text.{Bytes}
+use Rattle.imap_grammar.proofs.Stability.{is_stable}
 use Rattle.imap_proto.specs.declared.response.Response.{Response}
-use Rattle.imap_proto.specs.declared.stream.End.{End as Stop}
-use Rattle.imap_proto.specs.declared.stream.End.TheVariants as stop
-use Rattle.imap_proto.specs.Responses.{ResponseValue, response_value, Capabilities, Continue, Done, Data, Expunge, Vanished, Fetch, MailboxData, Quota, QuotaRoot, Id, Acl, ListRights, MyRights}
-use Rattle.imap_proto.specs.Owned.{owned_response}
-use Rattle.imap_proto.specs.Lines.{response}
-use Rattle.imap_proto.specs.Streams.{EndsAs, Waiting as Waits}
+use Rattle.imap_proto.specs.declared.stream.End.{End as Why}
 use Rattle.imap_proto.specs.Feeds.{Gave}
-use Rattle.imap_proto.proofs.Streams.{stable, shorter, some_split, nothing_waits}
+use Rattle.imap_proto.specs.Lines.{response}
+use Rattle.imap_proto.specs.LogicalLines.{logical_line}
+use Rattle.imap_proto.specs.Owned.{owned_response}
+use Rattle.imap_proto.specs.Responses.{ResponseValue, response_value}
+use Rattle.imap_proto.specs.Skipping.{Item, Taken, Skipped, Dropped}
+use Rattle.imap_proto.specs.Streams.{EndsAs}
+use Rattle.imap_proto.proofs.Cuts.{NoneAt, all}
+use Rattle.imap_proto.proofs.LogicalLines.{lines_end}
 use Rattle.imap_report.specs.declared.outcome.Finish.{Finish}
-use Rattle.imap_report.specs.declared.outcome.Finish.TheVariants.{End, Waiting, Denied}
+use Rattle.imap_report.specs.declared.wording.OnDenied.TheVariants.{Skip}
 use Rattle.imap_report.specs.Devices.{AppendsFront}
-use Rattle.imap_report.specs.Report.{name_of, line, IsReport, next, ends, waits, denied, Told, Writes, Begins, SomeReport, OneReport}
+use Rattle.imap_report.specs.Report.{Words, items, NoItem, line, FinishesAs, IsReport, next, last, Told, Writes, Begins, IsLeft, SomeReport, OneReport}
 use Rattle.imap_report.proofs.Bytes.{appends_both, appends_nothing}
-
--- ---- last lines
-
-pub denied_report : (m text : List ℕ) (n : ℕ) → Denies (meaning response) m → length m ≡ n → text ≡ line (codes "denied") n → IsReport m text Denied
-denied_report m text n d l t = subst (λ x. IsReport m x Denied) (sym (t ∙ ap (line (codes "denied")) (sym l))) (denied m d)
-
-pub waiting_report : (m text : List ℕ) (n : ℕ) → Waits m → length m ≡ n → ¬ (n ≡ 0) → text ≡ line (codes "waiting") n → IsReport m text Waiting
-waiting_report m text n w l some t = subst (λ x. IsReport m x Waiting) (sym (t ∙ ap (line (codes "waiting")) (sym l))) (waits m (λ q. some (sym l ∙ ap length q)) w)
-
-pub end_report : (m text : List ℕ) → length m ≡ 0 → text ≡ codes "end\n" → IsReport m text End
-end_report [] text n t = subst (λ x. IsReport [] x End) (sym t) ends
-end_report (b ∷ m) text n t = absurd (omega arith)
+use Rattle.imap_report.proofs.Items.{items_take, shorter, response_item, line_item, some_finish, one_finish}
 
 -- ---- a report has some text
 
-behind_some : (a b : List ℕ) → a ≢ [] → a ++ b ≢ []
+behind_some : (a b : Bytes) → a ≢ [] → a ++ b ≢ []
 behind_some [] b some = absurd (some refl)
 behind_some (x ∷ a) b some = λ e. cc
 
-line_some : (name : List ℕ) (n : ℕ) → line name n ≢ []
-line_some [] n = λ e. cc
-line_some (b ∷ name) n = λ e. cc
+line_some : (text : Bytes) → line text ≢ []
+line_some [] = λ e. cc
+line_some (b ∷ text) = λ e. cc
 
-report_some : (m text : List ℕ) (f : Finish) → IsReport m text f → text ≢ []
-report_some m text f (next k r rest more h y p) = behind_some (line (name_of r) (length k - length rest)) more (line_some (name_of r) (length k - length rest))
-report_some m text f ends = λ e. cc
-report_some m text f (waits k some w) = line_some (codes "waiting") (length k)
-report_some m text f (denied k d) = line_some (codes "denied") (length k)
+report_some : (w : Words) (m text : Bytes) (f : Finish) → IsReport w m text f → text ≢ []
+report_some w m text f (next k x rest more h y p) = behind_some (line (w.of_item x (length k - length rest))) more (line_some (w.of_item x (length k - length rest)))
+report_some w m text f (last k h none e) = line_some (w.of_end h (length k))
 
 -- ---- there is always a report, and one only
 
-abbrev Reported : List ℕ → Type 0
-Reported m = (text : List ℕ) × (f : Finish) × IsReport m text f
+abbrev Reported : Words → Bytes → Type 0
+Reported w m = (text : Bytes) × (f : Finish) × IsReport w m text f
 
-last_report : (m : List ℕ) (end : Stop) → EndsAs m end → Reported m
-last_report m stop.Denied e = (_, Denied, denied m e)
-last_report [] stop.Waits e = (_, End, ends)
-last_report (b ∷ m) stop.Waits e = (_, Waiting, waits (b ∷ m) (λ q. cc) e)
-
-report_of_split : (vs : List ResponseValue) (m left : List ℕ) (end : Stop) → Cuts (meaning response) m vs left → EndsAs left end → Reported m
-report_of_split [] m left end c e = subst Reported (sym c) (last_report left end e)
-report_of_split (v ∷ vs) m left end c e = let rest = report_of_split vs c.0 left end c.2 e in (_, rest.1, next m v c.0 rest.0 rest.1 c.1 rest.2)
+report_of_items : (w : Words) (xs : List Item) (m left : Bytes) → Cuts (meaning (items w.on_denied)) m xs left → NoItem w.on_denied left → Reported w m
+report_of_items w [] m left c none =
+    let f = some_finish w.on_denied left none in
+    subst (Reported w) (sym c) (_, f.0, last left f.0 none f.1)
+report_of_items w (x ∷ xs) m left c none = let rest = report_of_items w xs c.0 left c.2 none in (_, rest.1, next m x c.0 rest.0 rest.1 c.1 rest.2)
 
 pub some_report : SomeReport
-some_report m = let s = some_split m in report_of_split s.0 m s.1 s.2 s.3.responses s.3.ends
+some_report w m = let a = all (items w.on_denied) (items_take w.on_denied) m in report_of_items w a.0 m a.1 a.2 a.3
 
 pub one_report : OneReport
-one_report m a b f g (next k r rest text h y p) (next l s other more i z q) =
-    let same = stable.one_yield k r s rest other y z in
-    let then = one_report rest text more h i p (subst (λ x. IsReport x more i) (sym same.1) q) in
+one_report w m a b f g (next k x rest text h y p) (next l z other more i q r) =
+    let same = (is_stable (items w.on_denied)).one_yield k x z rest other y q in
+    let then = one_report w rest text more h i p (subst (λ n. IsReport w n more i) (sym same.1) r) in
     (rw (same.0, same.1, then.0) refl, then.1)
-one_report m a b f g (next k r rest text h y p) ends = absurd (nothing_waits.0 r rest y)
-one_report m a b f g (next k r rest text h y p) (waits l some w) = absurd (w.0 r rest y)
-one_report m a b f g (next k r rest text h y p) (denied l d) = absurd (stable.yields_not_denies k r rest y d)
-one_report m a b f g ends (next l s other more i z q) = absurd (nothing_waits.0 s other z)
-one_report m a b f g ends ends = (refl, refl)
-one_report m a b f g ends (waits l some w) = absurd (some refl)
-one_report m a b f g ends (denied l d) = absurd (nothing_waits.1 d)
-one_report m a b f g (waits k some w) (next l s other more i z q) = absurd (w.0 s other z)
-one_report m a b f g (waits k some w) ends = absurd (some refl)
-one_report m a b f g (waits k some w) (waits l any v) = (refl, refl)
-one_report m a b f g (waits k some w) (denied l d) = absurd (w.1 d)
-one_report m a b f g (denied k d) (next l s other more i z q) = absurd (stable.yields_not_denies k s other z d)
-one_report m a b f g (denied k d) ends = absurd (nothing_waits.1 d)
-one_report m a b f g (denied k d) (waits l some w) = absurd (w.1 d)
-one_report m a b f g (denied k d) (denied l e) = (refl, refl)
+one_report w m a b f g (next k x rest text h y p) (last l i none e) = absurd (none x rest y)
+one_report w m a b f g (last k h none e) (next l z other more i q r) = absurd (none z other q)
+one_report w m a b f g (last k h none e) (last l i never d) = let same = one_finish k h i e d in (ap (λ n. line (w.of_end n (length k))) same, same)
 
 -- ---- what was told so far
 
-pub told_nothing : (m : List ℕ) (old : Option (List ℕ)) → Told m m old old
-told_nothing m old = record { text = []; completes = λ more report f h. h; written = appends_nothing old; within = omega arith }
+pub told_nothing : (w : Words) (m : Bytes) (old : Option Bytes) → Told w m m old old
+told_nothing w m old = record { text = []; completes = λ more report f h. h; written = appends_nothing old; within = omega arith }
 
 -- more bytes came
-pub told_piece : (m rest piece : List ℕ) (old now : Option (List ℕ)) → Told m rest old now → Told (m ++ piece) (rest ++ piece) old now
-told_piece m rest piece old now so_far =
+pub told_piece : (w : Words) (m rest piece : Bytes) (old now : Option Bytes) → Told w m rest old now → Told w (m ++ piece) (rest ++ piece) old now
+told_piece w m rest piece old now so_far =
     record {
       text = so_far.text;
-      completes = λ more report f h. subst (λ x. IsReport x (so_far.text ++ report) f) (sym (append_assoc m piece more)) (so_far.completes (piece ++ more) report f (subst (λ x. IsReport x report f) (append_assoc rest piece more) h));
+      completes = λ more report f h. subst (λ x. IsReport w x (so_far.text ++ report) f) (sym (append_assoc m piece more)) (so_far.completes (piece ++ more) report f (subst (λ x. IsReport w x report f) (append_assoc rest piece more) h));
       written = so_far.written;
       within = omega (arith, so_far.within, length-append m piece, length-append rest piece);
     }
 
 -- more lines were written
-pub told_on : (m rest after : List ℕ) (old now new : Option (List ℕ)) → Told m rest old now → Told rest after now new → Told m after old new
-told_on m rest after old now new so_far then =
+pub told_on : (w : Words) (m rest after : Bytes) (old now new : Option Bytes) → Told w m rest old now → Told w rest after now new → Told w m after old new
+told_on w m rest after old now new so_far then =
     record {
       text = so_far.text ++ then.text;
-      completes = λ more report f h. subst (λ x. IsReport (m ++ more) x f) (sym (append_assoc so_far.text then.text report)) (so_far.completes more (then.text ++ report) f (then.completes more report f h));
+      completes = λ more report f h. subst (λ x. IsReport w (m ++ more) x f) (sym (append_assoc so_far.text then.text report)) (so_far.completes more (then.text ++ report) f (then.completes more report f h));
       written = appends_both old now new so_far.text then.text so_far.written then.written;
       within = omega (arith, so_far.within, then.within);
     }
 
-line_same : (rest after more : List ℕ) → length (rest ++ more) - length (after ++ more) ≡ length rest - length after
+line_same : (rest after more : Bytes) → length (rest ++ more) - length (after ++ more) ≡ length rest - length after
 line_same rest after more = omega (arith, length-append rest more, length-append after more)
 
 -- one line
-pub told_line : (m after text : List ℕ) (r : ResponseValue) (old new : Option (List ℕ)) → (meaning response).yields m r after → text ≡ line (name_of r) (length m - length after) → Appends old new text → Told m after old new
-told_line m after text r old new y t w =
+pub told_line : (w : Words) (m after text : Bytes) (x : Item) (old new : Option Bytes) → (meaning (items w.on_denied)).yields m x after → text ≡ line (w.of_item x (length m - length after)) → Appends old new text → Told w m after old new
+told_line w m after text x old new y t p =
     record {
       text = text;
-      completes = λ more report f h. subst (λ x. IsReport (m ++ more) (x ++ report) f) (ap (line (name_of r)) (line_same m after more) ∙ sym t) (next (m ++ more) r (after ++ more) report f (stable.yields_more m r after more y) h);
-      written = w;
-      within = let lt = shorter m after r y in omega arith;
+      completes = λ more report f h. subst (λ k. IsReport w (m ++ more) (k ++ report) f) (ap (λ n. line (w.of_item x n)) (line_same m after more) ∙ sym t) (next (m ++ more) x (after ++ more) report f ((is_stable (items w.on_denied)).yields_more m x after more y) h);
+      written = p;
+      within = let lt = shorter w.on_denied m after x y in omega arith;
     }
 
-pub told_all : (m rest text : List ℕ) (f : Finish) (old now new : Option (List ℕ)) → Told m rest old now → IsReport rest text f → Appends now new text → Writes old new m f
-told_all m rest text f old now new so_far h w = (
+pub told_all : (w : Words) (m rest text : Bytes) (f : Finish) (old now new : Option Bytes) → Told w m rest old now → IsReport w rest text f → Appends now new text → Writes w old new m f
+told_all w m rest text f old now new so_far h p = (
   so_far.text ++ text,
-  subst (λ x. IsReport x (so_far.text ++ text) f) (append-nil m) (so_far.completes [] text f (subst (λ x. IsReport x text f) (sym (append-nil rest)) h)),
-  appends_both old now new so_far.text text so_far.written w,
+  subst (λ x. IsReport w x (so_far.text ++ text) f) (append-nil m) (so_far.completes [] text f (subst (λ x. IsReport w x text f) (sym (append-nil rest)) h)),
+  appends_both old now new so_far.text text so_far.written p,
 )
 
 -- ---- what was begun
 
 -- a beginning of the report of the rest was written behind what was told
-pub told_begun : (m rest : List ℕ) (old now new : Option (List ℕ)) → Told m rest old now → Begins now new rest → Begins old new m
-told_begun m rest old now new so_far begun = (
+pub told_begun : (w : Words) (m rest : Bytes) (old now new : Option Bytes) → Told w m rest old now → Begins w now new rest → Begins w old new m
+told_begun w m rest old now new so_far begun = (
   so_far.text ++ begun.0,
   begun.1,
-  subst (λ x. IsReport x (so_far.text ++ begun.0) begun.1) (append-nil m) (so_far.completes [] begun.0 begun.1 (subst (λ x. IsReport x begun.0 begun.1) (sym (append-nil rest)) begun.2)),
+  subst (λ x. IsReport w x (so_far.text ++ begun.0) begun.1) (append-nil m) (so_far.completes [] begun.0 begun.1 (subst (λ x. IsReport w x begun.0 begun.1) (sym (append-nil rest)) begun.2)),
   (
     so_far.text ++ begun.3.0,
     begun.3.1,
-    ap (λ (k : List ℕ). so_far.text ++ k) begun.3.2 ∙ sym (append_assoc so_far.text begun.3.0 begun.3.1),
+    ap (λ (k : Bytes). so_far.text ++ k) begun.3.2 ∙ sym (append_assoc so_far.text begun.3.0 begun.3.1),
     begun.3.3,
     appends_both old now new so_far.text begun.3.0 so_far.written begun.3.4,
   ),
 )
 
-pub nothing_begun : (m : List ℕ) (old : Option (List ℕ)) → Begins old old m
-nothing_begun m old = let all = some_report m in (all.0, all.1, all.2, ([], all.0, refl, report_some m all.0 all.1 all.2, appends_nothing old))
+pub nothing_begun : (w : Words) (m : Bytes) (old : Option Bytes) → Begins w old old m
+nothing_begun w m old = let all = some_report w m in (all.0, all.1, all.2, ([], all.0, refl, report_some w m all.0 all.1 all.2, appends_nothing old))
 
--- of whatever ends so
-pub none_begun : (end : Stop) (n : ℕ) (old : Option (List ℕ)) (m : List ℕ) → EndsAs m end → length m ≡ n → Begins old old m
-none_begun end n old m e l = nothing_begun m old
-
-pub told_front : (m rest : List ℕ) (old now : Option (List ℕ)) → Told m rest old now → Begins old now m
-told_front m rest old now so_far = told_begun m rest old now now so_far (nothing_begun rest now)
+pub told_front : (w : Words) (m rest : Bytes) (old now : Option Bytes) → Told w m rest old now → Begins w old now m
+told_front w m rest old now so_far = told_begun w m rest old now now so_far (nothing_begun w rest now)
 
 -- a beginning of a line
-pub line_begun : (m after text : List ℕ) (r : ResponseValue) (old new : Option (List ℕ)) → (meaning response).yields m r after → text ≡ line (name_of r) (length m - length after) → AppendsFront old new text → Begins old new m
-line_begun m after text r old new y t w =
-    let more = some_report after in (
+pub line_begun : (w : Words) (m after text : Bytes) (x : Item) (old new : Option Bytes) → (meaning (items w.on_denied)).yields m x after → text ≡ line (w.of_item x (length m - length after)) → AppendsFront old new text → Begins w old new m
+line_begun w m after text x old new y t p =
+    let more = some_report w after in (
       text ++ more.0,
       more.1,
-      subst (λ x. IsReport m (x ++ more.0) more.1) (sym t) (next m r after more.0 more.1 y more.2),
-      (w.0, w.1 ++ more.0, ap (λ (k : List ℕ). k ++ more.0) w.2 ∙ append_assoc w.0 w.1 more.0, behind_some w.1 more.0 w.3, w.4),
+      subst (λ k. IsReport w m (k ++ more.0) more.1) (sym t) (next m x after more.0 more.1 y more.2),
+      (p.0, p.1 ++ more.0, ap (λ (k : Bytes). k ++ more.0) p.2 ∙ append_assoc p.0 p.1 more.0, behind_some p.1 more.0 p.3, p.4),
     )
 
--- ---- responses of a feed
+-- ---- the last line
 
--- a response has the same name with its texts owned
-pub name_owned : (v : ResponseValue) → name_of (owned_response v) ≡ name_of v
-name_owned (Capabilities capabilities) = refl
-name_owned (Continue o) = refl
-name_owned (Done tag status o) = refl
-name_owned (Data status o) = refl
-name_owned (Expunge n) = refl
-name_owned (Vanished earlier uids) = refl
-name_owned (Fetch n attributes) = refl
-name_owned (MailboxData datum) = refl
-name_owned (Quota quota) = refl
-name_owned (QuotaRoot root) = refl
-name_owned (Id map) = refl
-name_owned (Acl acl) = refl
-name_owned (ListRights rights) = refl
-name_owned (MyRights rights) = refl
+pub last_report : (w : Words) (m text said : Bytes) (end : Why) (n : ℕ) (f : Finish) → IsLeft w end n m → FinishesAs m f → said ≡ w.of_end f n → text ≡ line said → IsReport w m text f
+last_report w m text said end n f left e says t = subst (λ x. IsReport w m x f) (sym (t ∙ ap line says ∙ ap (λ k. line (w.of_end f k)) (sym left.size))) (last m f left.none e)
 
--- the line of a response that a feed gave
-pub line_of_given : (held left text name : List ℕ) (n : ℕ) (r : Response) (g : Gave held (Some r) left) → name ≡ name_of (response_value r) → n ≡ length held - length left → text ≡ line name n → text ≡ line (name_of g.0) (length held - length left)
-line_of_given held left text name n r g is l t = t ∙ ap (λ k. line k n) (is ∙ ap name_of g.2 ∙ name_owned g.0) ∙ ap (line (name_of g.0)) l
+-- of whatever is left so
+pub none_begun : (w : Words) (end : Why) (n : ℕ) (old : Option Bytes) (m : Bytes) → IsLeft w end n m → Begins w old old m
+none_begun w end n old m left = nothing_begun w m old
+
+-- ---- one turn of a feed
+
+-- the line of a response that it gave
+pub line_of_given : (w : Words) (held left text said : Bytes) (n : ℕ) (r : Response) (g : Gave held (Some r) left) → ((v : ResponseValue) → response_value r ≡ owned_response v → said ≡ w.of_item (Taken v) n) → n ≡ length held - length left
+    → text ≡ line said → text ≡ line (w.of_item (Taken g.0) (length held - length left))
+line_of_given w held left text said n r g says l t = t ∙ ap line (says g.0 g.2) ∙ ap (λ k. line (w.of_item (Taken g.0) k)) l
+
+-- a denied line that it dropped
+line_left : (held bytes rest left : Bytes) (n : Option ℕ) → (meaning logical_line).yields held bytes rest → Dropped held n left → (meaning logical_line).yields held bytes left
+line_left held bytes rest left (Some n) y d =
+    let same = (is_stable logical_line).one_yield held bytes d.0 rest left y d.2 in
+    subst (λ k. (meaning logical_line).yields held bytes k) same.1 y
+line_left held bytes rest left None y d = absurd (d.0 bytes rest y)
+
+pub line_of_dropped : (w : Words) (held bytes rest left text said : Bytes) (n : Option ℕ) → w.on_denied ≡ Skip → Denies (meaning response) held → (meaning logical_line).yields held bytes rest → Dropped held n left → said ≡ w.of_item (Skipped bytes) (length bytes)
+    → text ≡ line said → (x : Item) × (meaning (items w.on_denied)).yields held x left × (text ≡ line (w.of_item x (length held - length left)))
+line_of_dropped w held bytes rest left text said n skips denied y d says t =
+    let y2 = line_left held bytes rest left n y d in
+    let whole = ap length (lines_end held bytes left y2).2 ∙ length-append bytes left in
+    let size : length bytes ≡ length held - length left = omega (arith, whole) in
+    (Skipped bytes, line_item w.on_denied held bytes left skips denied y2, t ∙ ap line (says ∙ ap (w.of_item (Skipped bytes)) size))
 
 pub on_err : {T E : Type 0} {P : Type 0} (r : Result T E) → P → OnErr r P
 on_err (Ok x) p = tt

@@ -1,3 +1,4 @@
 pub mod Report
+pub mod Plain
 pub mod Devices
 pub mod Ending

@@ -1,118 +1,131 @@
--- The report of some bytes: a line for each response at their front, and a last line on the rest.
-use Rattle.std.specs.Prelude.{◌≡◌, ◌≢◌, ℕ, ◌-◌, ◌≤◌, List, [], ◌∷◌, ◌++◌, length, Option, codes}
+-- The report of some bytes: a line for each thing that stands at their front, and a last line on the rest.
+use Rattle.std.specs.Prelude.{◌≡◌, ◌≢◌, ℕ, ◌-◌, ◌≤◌, List, [], ◌∷◌, ◌++◌, length, Option}
 use Rattle.std.specs.Io.KnownBytes.{Appends, Consumes, IsAtEnd}
-use Rattle.imap_report.specs.Devices.{AppendsFront}
-use Rattle.std.specs.Fmt.{decimal}
-use Rattle.imap_grammar.specs.Rule.{meaning}
-use Rattle.imap_grammar.specs.Meaning.{Denies}
-use Rattle.imap_proto.specs.Responses.{ResponseValue, Capabilities, Continue, Done, Data, Expunge, Vanished, Fetch, MailboxData, Quota, QuotaRoot, Id, Acl, ListRights, MyRights}
-use Rattle.imap_proto.specs.Lines.{response}
-use Rattle.imap_proto.specs.Streams.{EndsAs, Waiting as Waits}
-use Rattle.imap_proto.specs.declared.stream.End.{End as Why}
 use Rattle.std.specs.String.{string_bytes}
-use Rattle.imap_grammar.specs.Ascii.{line_feed, space}
-use Rattle.imap_report.specs.declared.telling.Turn.{Turn}
-use Rattle.imap_report.specs.declared.telling.Turn.TheVariants.{Line, Stop}
+use Rattle.imap_grammar.specs.Ascii.{line_feed}
+use Rattle.imap_grammar.specs.Meaning.{Denies}
+use Rattle.imap_grammar.specs.Rule.{Rule, meaning, gives}
+use Rattle.imap_grammar.specs.Text.{Bytes}
+use Rattle.imap_proto.specs.declared.stream.End.{End as Why}
+use Rattle.imap_proto.specs.Lines.{response}
+use Rattle.imap_proto.specs.Skipping.{Item, Taken, item}
+use Rattle.imap_proto.specs.Streams.{EndsAs, Waiting as Waits}
 use Rattle.imap_report.specs.declared.outcome.Finish.{Finish}
 use Rattle.imap_report.specs.declared.outcome.Finish.TheVariants.{End, Waiting, Denied}
+use Rattle.imap_report.specs.declared.telling.Turn.{Turn}
+use Rattle.imap_report.specs.declared.telling.Turn.TheVariants.{Line, Stop}
+use Rattle.imap_report.specs.declared.wording.OnDenied.{OnDenied}
+use Rattle.imap_report.specs.declared.wording.OnDenied.TheVariants as on_denied
+use Rattle.imap_report.specs.Devices.{AppendsFront}
 
--- the name of a response's kind, in lower case
-abbrev pub name_of : ResponseValue → List ℕ
-name_of (Capabilities capabilities) = codes "capabilities"
-name_of (Continue o) = codes "continue"
-name_of (Done tag status o) = codes "done"
-name_of (Data status o) = codes "data"
-name_of (Expunge n) = codes "expunge"
-name_of (Vanished earlier uids) = codes "vanished"
-name_of (Fetch n attributes) = codes "fetch"
-name_of (MailboxData datum) = codes "mailboxdata"
-name_of (Quota quota) = codes "quota"
-name_of (QuotaRoot root) = codes "quotaroot"
-name_of (Id map) = codes "id"
-name_of (Acl acl) = codes "acl"
-name_of (ListRights rights) = codes "listrights"
-name_of (MyRights rights) = codes "myrights"
+-- How a report is worded: what is done where no response begins with what is left, and the text of each line.
+pub record Words : Type 0 where
+  pub on_denied : OnDenied
+  -- of a response, or of a line that was skipped, which has so many bytes
+  pub of_item : Item → ℕ → Bytes
+  -- of the end, where so many bytes are left
+  pub of_end : Finish → ℕ → Bytes
 
--- a name, SP, a number and LF
-abbrev pub line : List ℕ → ℕ → List ℕ
-line name n = name ++ (space ∷ decimal n) ++ (line_feed ∷ [])
+-- what has a line: a response; and where denied lines are skipped, such a line
+abbrev pub items : OnDenied → Rule Item
+items on_denied.Stop = gives Taken response
+items on_denied.Skip = item
 
--- the text is the report of m, and the last line is of this kind
-pub data IsReport : List ℕ → List ℕ → Finish → Type 0 where
+-- no such thing stands at the front
+abbrev pub NoItem : OnDenied → Bytes → Type 0
+NoItem d m = (x : Item) (rest : Bytes) → ¬ ((meaning (items d)).yields m x rest)
+
+-- a text and LF
+abbrev pub line : Bytes → Bytes
+line text = text ++ (line_feed ∷ [])
+
+-- how a run finishes that has this left
+abbrev pub FinishesAs : Bytes → Finish → Type 0
+FinishesAs m End = m ≡ []
+FinishesAs m Waiting = (m ≢ []) × Waits m
+FinishesAs m Denied = Denies (meaning response) m
+
+-- the text is the report of m in these words, and the last line tells this finish
+pub data IsReport (w : Words) : Bytes → Bytes → Finish → Type 0 where
   next :
-      (m : List ℕ) (r : ResponseValue) (rest text : List ℕ) (f : Finish) →
-      (meaning response).yields m r rest → IsReport rest text f →
-      IsReport m (line (name_of r) (length m - length rest) ++ text) f
-  ends : IsReport [] (codes "end\n") End
-  waits : (m : List ℕ) → m ≢ [] → Waits m → IsReport m (line (codes "waiting") (length m)) Waiting
-  denied :
-      (m : List ℕ) → Denies (meaning response) m →
-      IsReport m (line (codes "denied") (length m)) Denied
+      (m : Bytes) (x : Item) (rest text : Bytes) (f : Finish) →
+      (meaning (items w.on_denied)).yields m x rest → IsReport w rest text f →
+      IsReport w m (line (w.of_item x (length m - length rest)) ++ text) f
+  last :
+      (m : Bytes) (f : Finish) → NoItem w.on_denied m → FinishesAs m f →
+      IsReport w m (line (w.of_end f (length m))) f
 
--- The lines of responses at the front of m were appended, and the rest is behind these: whatever comes behind m, the
+-- The lines of what stands at the front of m were appended, and the rest is behind that: whatever comes behind m, the
 -- report of the rest with that completes the report of all.
-pub record Told (m rest : List ℕ) (old new : Option (List ℕ)) : Type 0 where
-  pub text : List ℕ
+pub record Told (w : Words) (m rest : Bytes) (old new : Option Bytes) : Type 0 where
+  pub text : Bytes
   pub completes :
-      (more report : List ℕ) (f : Finish) → IsReport (rest ++ more) report f →
-      IsReport (m ++ more) (text ++ report) f
+      (more report : Bytes) (f : Finish) → IsReport w (rest ++ more) report f →
+      IsReport w (m ++ more) (text ++ report) f
   pub written : Appends old new text
   pub within : length rest ≤ length m
 
--- one turn of a feed, by what it held and what it holds then: a response's line, or why there is none
-abbrev pub IsTurn : List ℕ → List ℕ → Turn → Type 0
-IsTurn held left (Line text) =
-    (r : ResponseValue)
-    × (meaning response).yields held r left
-    × (string_bytes text ≡ line (name_of r) (length held - length left))
-IsTurn held left (Stop end) = EndsAs held end × (left ≡ held)
+-- one turn of a feed, by what it held and what it holds then: a line, or why there is none
+abbrev pub IsTurn : Words → Bytes → Bytes → Turn → Type 0
+IsTurn w held left (Line text) =
+    (x : Item)
+    × (meaning (items w.on_denied)).yields held x left
+    × (string_bytes text ≡ line (w.of_item x (length held - length left)))
+IsTurn w held left (Stop end) = EndsAs held end × NoItem w.on_denied held × (left ≡ held)
 
 -- the whole report was appended
-abbrev pub Writes : Option (List ℕ) → Option (List ℕ) → List ℕ → Finish → Type 0
-Writes old new m finish = (text : List ℕ) × IsReport m text finish × Appends old new text
+abbrev pub Writes : Words → Option Bytes → Option Bytes → Bytes → Finish → Type 0
+Writes w old new m finish = (text : Bytes) × IsReport w m text finish × Appends old new text
 
 -- a beginning of the report was appended, and not all of it
-abbrev pub Begins : Option (List ℕ) → Option (List ℕ) → List ℕ → Type 0
-Begins old new m =
-    (text : List ℕ) × (finish : Finish) × IsReport m text finish × AppendsFront old new text
+abbrev pub Begins : Words → Option Bytes → Option Bytes → Bytes → Type 0
+Begins w old new m =
+    (text : Bytes) × (finish : Finish) × IsReport w m text finish × AppendsFront old new text
 
 -- what a source gave was read to its end, and its whole report was written
 abbrev pub ReportsAll :
-    Option (List ℕ) → Option (List ℕ) → Option (List ℕ) → Option (List ℕ) → Finish → Type 0
-ReportsAll remaining left old new finish =
-    (input : List ℕ) × Consumes remaining left input × IsAtEnd left × Writes old new input finish
+    Words → Option Bytes → Option Bytes → Option Bytes → Option Bytes → Finish → Type 0
+ReportsAll w remaining left old new finish =
+    (input : Bytes) × Consumes remaining left input × IsAtEnd left × Writes w old new input finish
 
 -- a beginning of the report of what was read was written, and not all of it
 abbrev pub ReportsSome :
-    Option (List ℕ) → Option (List ℕ) → Option (List ℕ) → Option (List ℕ) → Type 0
-ReportsSome remaining left old new =
-    (input : List ℕ) × Consumes remaining left input × Begins old new input
+    Words → Option Bytes → Option Bytes → Option Bytes → Option Bytes → Type 0
+ReportsSome w remaining left old new =
+    (input : Bytes) × Consumes remaining left input × Begins w old new input
 
 -- at least so many bytes were read
-abbrev pub ReadsAtLeast : ℕ → Option (List ℕ) → Option (List ℕ) → Type 0
+abbrev pub ReadsAtLeast : ℕ → Option Bytes → Option Bytes → Type 0
 ReadsAtLeast n remaining left =
-    (input : List ℕ) × Consumes remaining left input × (n ≤ length input)
+    (input : Bytes) × Consumes remaining left input × (n ≤ length input)
 
--- what a source gave was read to its end, the lines of its responses were written, and n bytes are left; end says why
--- they give no more
-abbrev pub TellsResponses :
-    Option (List ℕ) → Option (List ℕ) → Option (List ℕ) → Option (List ℕ) → Why → ℕ → Type 0
-TellsResponses remaining left old new end n =
-    (input : List ℕ)
-    × (rest : List ℕ)
+-- n bytes are left that begin nothing with a line of its own, and this is why
+pub record IsLeft (w : Words) (end : Why) (n : ℕ) (m : Bytes) : Type 0 where
+  pub ends : EndsAs m end
+  pub none : NoItem w.on_denied m
+  pub size : length m ≡ n
+
+-- what a source gave was read to its end, the lines of what stands in it were written, and n bytes are left
+abbrev pub TellsItems :
+    Words → Option Bytes → Option Bytes → Option Bytes → Option Bytes → Why → ℕ → Type 0
+TellsItems w remaining left old new end n =
+    (input : Bytes)
+    × (rest : Bytes)
     × Consumes remaining left input
     × IsAtEnd left
-    × Told input rest old new
-    × EndsAs rest end
-    × (length rest ≡ n)
+    × Told w input rest old new
+    × IsLeft w end n rest
 
 -- ---- laws
 
 -- all bytes have a report
 abbrev pub SomeReport : Type 0
-SomeReport = (m : List ℕ) → (text : List ℕ) × (f : Finish) × IsReport m text f
+SomeReport = (w : Words) (m : Bytes) → (text : Bytes) × (f : Finish) × IsReport w m text f
 
 -- and one only
 abbrev pub OneReport : Type 0
 OneReport =
-    (m a b : List ℕ) (f g : Finish) → IsReport m a f → IsReport m b g → (a ≡ b) × (f ≡ g)
+    (w : Words) (m a b : Bytes) (f g : Finish) →
+    IsReport w m a f →
+    IsReport w m b g →
+    (a ≡ b) × (f ≡ g)

@@ -8,6 +8,7 @@ ghost use Rattle.imap_report.specs.Report.{ReportsAll, ReportsSome};
 use crate::devices::{Sink, Source};
 use crate::outcome::{Fault, Finish};
 use crate::running::run;
+use crate::wording::Wording;
 use std::alloc::Global;
 use std::process::ExitCode;
 
@@ -24,15 +25,16 @@ pub fn exit_of(outcome: Result<Finish, Fault>) -> ExitCode
     }
 }
 
-/// Reads the source and writes the report of its bytes as they come, to the end where no fault stops it. The exit
+/// Reads the source and writes the report of its bytes in these words as they come, to the end where no fault stops it. The exit
 /// status tells how that ended; it is 1 after any fault, and wherever a device failed. After a fault it prints
 /// `fault` on standard error, and what was written is a beginning of the report, and never all of it. It takes memory.
 ///
 /// Neither device may have failed before. A sink has no flush, so a writer that buffers has to be flushed behind the
 /// call.
-pub fn cat<E: Eprint, R: Source, W: Sink>(
+pub fn cat<E: Eprint, T: Wording, R: Source, W: Sink>(
     alloc: Global,
     rt: &E,
+    wording: &T,
     reader: &mut R,
     writer: &mut W,
 ) -> ExitCode
@@ -40,16 +42,16 @@ pub fn cat<E: Eprint, R: Source, W: Sink>(
     requires writes { W.has_failed writer.old ≡ false }
     ensures finished { (finish : Finish) →
         exit_status result ≡ status_of (Ok finish) →
-        ReportsAll (R.remaining reader.old) (R.remaining reader.new) (W.contents writer.old)
-        (W.contents writer.new) finish }
+        ReportsAll (T.words wording.now) (R.remaining reader.old) (R.remaining reader.new)
+        (W.contents writer.old) (W.contents writer.new) finish }
     ensures broken_off { exit_status result ≡ 1 →
-        ReportsSome (R.remaining reader.old) (R.remaining reader.new) (W.contents writer.old)
-        (W.contents writer.new) }
+        ReportsSome (T.words wording.now) (R.remaining reader.old) (R.remaining reader.new)
+        (W.contents writer.old) (W.contents writer.new) }
     ensures failed { (R.has_failed reader.new ≡ true) ⊎ (W.has_failed writer.new ≡ true) →
         exit_status result ≡ 1 }
     ensures known { exit_status result < 4 }
 {
-    let outcome = run(alloc, reader, writer);
+    let outcome = run(alloc, wording, reader, writer);
     if outcome.is_err() {
         let _ = eprintln!(rt; "fault");
     }

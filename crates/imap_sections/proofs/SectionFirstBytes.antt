@@ -23,3 +23,5 @@ msgtext_is_text = by_any "tT" section_msgtext body_text (λ m. refl)
 pub msgtext_other : AtOther "hHtT" section_msgtext never
 unfolding section_msgtext header_fields fields_word
 msgtext_other = by_other "hHtT" section_msgtext never (λ m. refl)
+
+pub ruleset msgtext_arms = (msgtext_none, msgtext_is_header, msgtext_is_text, msgtext_other)

@@ -288,3 +288,5 @@ pub cuttings_alike : CuttingsAlike
 cuttings_alike steps others b c r q bytes alike =
     let same = same_passed (happened steps) (happened others) (all_fed others) b.held c.held alike (subst (λ m. Passes m (happened steps) b.held) bytes (all_is_passed steps b r)) (all_is_passed others c q) in
     (same.0, same.1, state_follows steps b r ∙ ap after same.0 ∙ sym (state_follows others c q))
+
+pub ruleset laws = (all_is_passed, none_is_lost, outcome_follows, state_follows, cuttings_alike)

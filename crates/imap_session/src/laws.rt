@@ -16,7 +16,7 @@ use imap_proto::laws;
 /// state is the one that the accepted commands and the taken responses give, in their order. So where the same bytes
 /// are cut otherwise, and the same commands are accepted between the same responses and skipped lines, these and the
 /// state are the same.
-#[tactic(auto, using(crate::proofs::Runs::all_is_passed, crate::proofs::Runs::none_is_lost, crate::proofs::Runs::outcome_follows, crate::proofs::Runs::state_follows, crate::proofs::Runs::cuttings_alike))]
+#[tactic(auto, using(crate::proofs::Runs::laws))]
 pub fn runs()
     ensures all_is_passed { AllIsPassed }
     ensures none_is_lost { NoneIsLost }

@@ -112,3 +112,7 @@ pub type_other : (level : ℕ) → AtOther "\"{(" (body_type (body level)) never
 unfolding body_type body_type_text body_type_msg message_word body_type_basic body_type_mpart some_bodies body bracketed_body string_utf8 string quoted literal literal_header
 type_other zero = by_other "\"{(" (body_type (body zero)) never (λ m. refl)
 type_other (suc n) = by_other "\"{(" (body_type (body (suc n))) never (λ m. refl)
+
+pub ruleset name_arms = (name_none, name_is_seven_bit, name_is_eight_bit, name_is_binary_or_base64, name_is_quoted_printable, name_other)
+
+pub ruleset encoding_arms = (encoding_none, encoding_is_in_quotes, encoding_is_literal, encoding_is_nil, encoding_other)

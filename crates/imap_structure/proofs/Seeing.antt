@@ -1,14 +1,16 @@
 -- What an extension says, by its kinds, and what it rests on.
 use Rattle.std.proofs.Common.{◌≡◌, ℕ, sym, ap, ◌∙◌, map, Vec, Global, Option}
+use Rattle.std.specs.Prelude.{⊤}
 use Rattle.std.specs.Option.{option_map}
 use Rattle.imap_grammar.specs.Text.{Text}
 use Rattle.imap_shapes.specs.declared.shapes.extensions.BodyExtension.{BodyExtension}
 use Rattle.imap_shapes.specs.declared.shapes.extensions.BodyExtension.TheVariants as extension
 use Rattle.imap_shapes.specs.declared.shapes.extensions.BodyExtension.TheOpen as layer
 use Rattle.imap_shapes.specs.declared.shapes.extensions.BodyExtension.TheFolds.{fold-roll-BodyExtension}
-use Rattle.imap_shapes.specs.ExtensionValues.{ExtensionValue, Num, Str, Listed, extensions_of, extension_step, extension_seen}
+use Rattle.imap_shapes.specs.ExtensionValues.{ExtensionValue, Num, Str, Listed, extensions_of, extension_step, extension_seen, ext_1part_seen, ext_mpart_seen}
 use Rattle.imap_shapes.proofs.Trees.{extension_list_seen}
 use Rattle.imap_shapes.specs.Spans.{Lookup, Rests}
+use Rattle.imap_structure.specs.Extensions.{body_ext_1part, body_ext_mpart}
 
 pub number_seen : {S : Type 0} (f : S → Text) (n : ℕ) → extension_seen f (extension.Num n) ≡ Num n
 number_seen {S} f n = ap (extension_seen f) (sym (extension.rolls-Num n)) ∙ fold-roll-BodyExtension S ExtensionValue (extension_step f) (layer.Num n)
@@ -25,3 +27,16 @@ module _ {S : Type 0} (said : Lookup → S → Text) (q : ℕ) where
 
   pub list_rests : (v : Vec (BodyExtension S) Global) → Rests (λ k x. map (extension_seen (said k)) x.items) q v → Rests (λ k x. extension_seen (said k) x) q (extension.List v)
   list_rests v h = record { same = λ n k alike. extension_list_seen (said n) v ∙ ap (λ es. Listed (extensions_of es)) (h.same n k alike) ∙ sym (extension_list_seen (said k) v) }
+
+pub ruleset numbers = (number_seen, number_rests)
+
+pub ruleset lists = (extension_list_seen)
+
+-- Where one of these is unfolded, a rule is, and how its value is seen.
+unfoldable pub ext_1part : ⊤
+unfolding body_ext_1part ext_1part_seen
+ext_1part = tt
+
+unfoldable pub ext_mpart : ⊤
+unfolding body_ext_mpart ext_mpart_seen
+ext_mpart = tt

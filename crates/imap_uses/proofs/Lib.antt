@@ -1,1 +1,3 @@
 pub mod Searches
+pub mod Logins
+pub mod Feeding

@@ -1,4 +1,3 @@
 pub mod Messages
 pub mod Parts
-pub mod Streams
 pub mod Sessions

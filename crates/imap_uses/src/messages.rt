@@ -1,6 +1,9 @@
 //! What a FETCH tells of a message.
 
-ghost use Rattle.std.specs.Prelude.{◌≡◌, IfOk, map};
+ghost use Rattle.std.specs.Prelude.{◌≡◌, IfOk, IfErr, map};
+ghost use Rattle.imap_grammar.specs.Answer.{Refuses};
+ghost use Rattle.imap_grammar.specs.Rule.{meaning};
+ghost use Rattle.imap_proto.specs.Lines as rule;
 ghost use Rattle.imap_attributes.specs.AttributeValues.{attribute_value};
 ghost use Rattle.imap_proto.specs.Responses.{response_value};
 ghost use Rattle.imap_uses.specs.Messages.{uid_told, first_uid, told_uid, BeginsTelling};
@@ -43,7 +46,8 @@ pub fn uid_of(response: &Response<'_>) -> Option<u32>
 
 /// The UID that the line at the front tells. `Error`, `Incomplete` and `Failure` as `Response::parse`.
 pub fn uid_in_line(alloc: Global, bytes: &[u8]) -> Result<Option<u32>, Err>
-    ensures { IfOk result (λ uid. BeginsTelling bytes.now uid) }
+    ensures told { IfOk result (λ uid. BeginsTelling bytes.now uid) }
+    ensures refused { IfErr result (Refuses (meaning rule.response) bytes.now) }
 {
     let (_, response) = Response::parse(alloc, bytes)?;
     let uid = uid_of(&response);

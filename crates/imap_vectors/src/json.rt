@@ -1,7 +1,7 @@
 //! Responses as lines of JSON.
 
 use crate::answers::{Rows, assert_row, is_text};
-use imap_json::to_json;
+use imap_json::{skipped_to_json, to_json};
 use imap_proto::Response;
 use std::alloc::{AllocError, Global};
 use std::process::Abort;
@@ -259,4 +259,23 @@ fn spent(alloc: Global) -> Result<String, AllocError> {
 fn spent_range_as_json(rt: HostRuntime) {
     let want = r#"{"kind":"vanished","earlier":false,"uids":[{"Spent":[7,7]},[7,7]]}"#;
     assert_row(&rt, is_text(spent(rt.alloc()), want), want);
+}
+
+static SKIPPED: Rows = &[
+    (
+        b"* NAMESPACE ((\"\" \"/\")) NIL NIL\r\n",
+        r#"{"kind":"skipped","bytes":"* NAMESPACE ((\"\" \"/\")) NIL NIL\r\n"}"#,
+    ),
+    (
+        b"* X \xff {3}\r\na\r\n\r\n",
+        r#"{"kind":"skipped","bytes":{"base64":"KiBYIP8gezN9DQphDQoNCg=="}}"#,
+    ),
+    (b"\r\n", r#"{"kind":"skipped","bytes":"\r\n"}"#),
+];
+
+#[test]
+fn skipped_lines_as_json(rt: HostRuntime) {
+    for (line, want) in SKIPPED {
+        assert_row(&rt, is_text(skipped_to_json(rt.alloc(), line), want), want);
+    }
 }

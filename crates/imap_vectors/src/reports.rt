@@ -3,7 +3,7 @@
 ghost use Rattle.std.specs.Prelude.{None};
 
 use crate::answers::assert_texts;
-use imap_report::{Fault, Finish, Sink, Source, report_of, run};
+use imap_report::{Fault, Finish, OnDenied, Plain, Sink, Source, report_of, run};
 use std::alloc::Global;
 use std::io::{self, ErrorKind};
 use std::process::Abort;
@@ -93,9 +93,18 @@ const WHOLE: Limits = Limits {
     writes: 1000,
 };
 
-/// A run: what is read, how its calls are limited, how it ends, and what it has written by then.
+const STOPPING: Plain = Plain {
+    on_denied: OnDenied::Stop,
+};
+
+const SKIPPING: Plain = Plain {
+    on_denied: OnDenied::Skip,
+};
+
+/// A run: its words, what is read, how its calls are limited, how it ends, and what it has written by then.
 #[derive(Drop)]
 struct Run {
+    words: Plain,
     bytes: &'static [u8],
     limits: Limits,
     ends: Result<Finish, Fault>,
@@ -116,13 +125,13 @@ fn goes(alloc: Global, want: &Run) -> bool {
         calls_left: want.limits.writes,
         has_failed: false,
     };
-    let ends = run(alloc, &mut reader, &mut writer);
+    let ends = run(alloc, &want.words, &mut reader, &mut writer);
     ends == want.ends && writer.written.as_slice() == want.writes
 }
 
 // Whether the report of a run's bytes is what the run writes, and tells how it ends.
 fn is_reported(alloc: Global, want: &Run) -> bool {
-    match report_of(alloc, want.bytes) {
+    match report_of(alloc, &want.words, want.bytes) {
         Ok((finish, report)) => want.ends == Ok(finish) && report.as_slice() == want.writes,
         Err(_) => false,
     }
@@ -130,48 +139,77 @@ fn is_reported(alloc: Global, want: &Run) -> bool {
 
 static REPORTS: &[Run] = &[
     Run {
+        words: STOPPING,
         bytes: b"* OK hi\r\na1 OK\r\n",
         limits: WHOLE,
         ends: Ok(Finish::End),
         writes: b"data 9\ndone 7\nend\n",
     },
     Run {
+        words: STOPPING,
         bytes: b"* 18 EXISTS\r\n",
         limits: WHOLE,
         ends: Ok(Finish::End),
         writes: b"mailboxdata 13\nend\n",
     },
     Run {
+        words: STOPPING,
         bytes: b"",
         limits: WHOLE,
         ends: Ok(Finish::End),
         writes: b"end\n",
     },
     Run {
+        words: STOPPING,
         bytes: b"+ idling\r\na1 O",
         limits: WHOLE,
         ends: Ok(Finish::Waiting),
         writes: b"continue 10\nwaiting 4\n",
     },
     Run {
+        words: STOPPING,
         bytes: b"* X\r\na2 OK\r\n",
         limits: WHOLE,
         ends: Ok(Finish::Denied),
         writes: b"denied 12\n",
     },
     Run {
+        words: STOPPING,
         bytes: b"a1 OK\r\n* OK [BADCHARSET ({5}\r\n* 18 EXISTS\r\nxy",
         limits: WHOLE,
         ends: Ok(Finish::Waiting),
         writes: b"done 7\ndata 23\nmailboxdata 13\nwaiting 2\n",
     },
     Run {
+        words: STOPPING,
         bytes: b"* CAPABILITY IMAP4rev2\r\n",
         limits: WHOLE,
         ends: Ok(Finish::Denied),
         writes: b"denied 24\n",
     },
     Run {
+        words: SKIPPING,
+        bytes: b"* OK hi\r\n* NAMESPACE {3}\r\na\r\n\r\n* X\r\na1 OK\r\n",
+        limits: WHOLE,
+        ends: Ok(Finish::End),
+        writes: b"data 9\nskipped 22\nskipped 5\ndone 7\nend\n",
+    },
+    Run {
+        words: SKIPPING,
+        bytes: b"* X\r\na1 O",
+        limits: WHOLE,
+        ends: Ok(Finish::Waiting),
+        writes: b"skipped 5\nwaiting 4\n",
+    },
+    Run {
+        words: SKIPPING,
+        bytes: b"* 1 EXISTS\r\n* X {9}\r\n* OK\r\n",
+        limits: WHOLE,
+        ends: Ok(Finish::Denied),
+        writes: b"mailboxdata 12\ndenied 15\n",
+    },
+    Run {
+        words: STOPPING,
         bytes: b"* ENABLED\r\n* 4 EXPUNGE\r\n* VANISHED 1\r\n* QUOTA \"\" ()\r\n* QUOTAROOT x\r\n* ID NIL\r\n* ACL x\r\n* LISTRIGHTS x y l\r\n* MYRIGHTS x l\r\n",
         limits: WHOLE,
         ends: Ok(Finish::End),
@@ -189,22 +227,32 @@ const SLOW: Limits = Limits {
 
 static BYTE_BY_BYTE: &[Run] = &[
     Run {
+        words: STOPPING,
         bytes: b"* OK hi\r\na1 OK\r\n",
         limits: SLOW,
         ends: Ok(Finish::End),
         writes: b"data 9\ndone 7\nend\n",
     },
     Run {
+        words: STOPPING,
         bytes: b"* 1 EXISTS\r\na1 O",
         limits: SLOW,
         ends: Ok(Finish::Waiting),
         writes: b"mailboxdata 12\nwaiting 4\n",
     },
     Run {
+        words: STOPPING,
         bytes: b"a1 OK\r\n* X\r\na2 OK\r\n",
         limits: SLOW,
         ends: Ok(Finish::Denied),
         writes: b"done 7\ndenied 12\n",
+    },
+    Run {
+        words: SKIPPING,
+        bytes: b"a1 OK\r\n* X {2}\r\n\r\n\r\na2 OK\r\n* Y",
+        limits: SLOW,
+        ends: Ok(Finish::Denied),
+        writes: b"done 7\nskipped 13\ndone 7\ndenied 3\n",
     },
 ];
 
@@ -231,18 +279,21 @@ const WRITER_TAKES_NONE: Limits = Limits {
 
 static BROKEN_OFF: &[Run] = &[
     Run {
+        words: STOPPING,
         bytes: b"* OK hi\r\na1 OK\r\n",
         limits: READER_FAILS,
         ends: Err(Fault::Read),
         writes: b"data 9\n",
     },
     Run {
+        words: STOPPING,
         bytes: b"* OK hi\r\na1 OK\r\n",
         limits: WRITER_FAILS,
         ends: Err(Fault::Write),
         writes: b"data 9",
     },
     Run {
+        words: STOPPING,
         bytes: b"* OK hi\r\n",
         limits: WRITER_TAKES_NONE,
         ends: Err(Fault::Write),
@@ -293,6 +344,7 @@ fn reader_fails_behind(alloc: Global, size: usize, reads: usize) -> bool {
     let before_the_last = reads.saturating_sub(1).saturating_mul(size);
     let is_enough = GREETED.len() <= before_the_last;
     let want = Run {
+        words: STOPPING,
         bytes: GREETED,
         limits,
         ends: if is_enough {
@@ -337,7 +389,7 @@ fn writer_fails_behind(alloc: Global, size: usize, writes: usize) -> bool {
         calls_left: writes,
         has_failed: false,
     };
-    match run(alloc, &mut reader, &mut writer) {
+    match run(alloc, &STOPPING, &mut reader, &mut writer) {
         Err(Fault::Write) => {
             GREETED_REPORT.starts_with(&writer.written)
                 && writer.written.len() < GREETED_REPORT.len()

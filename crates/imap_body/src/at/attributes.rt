@@ -339,7 +339,7 @@ fn id_bytes(m: &[u8], p: usize) -> Reached<Span>
     Ok((q, id))
 }
 
-#[tactic(auto, using(crate::proofs::Resting::id_decoded, imap_shapes::proofs::Places::part_rests), unfolding(crate::specs::Attributes::object_id))]
+#[tactic(auto, using(crate::proofs::Resting::ids), unfolding(crate::specs::Attributes::object_id))]
 fn object_id(m: &[u8], p: usize) -> Reached<SpannedText>
     requires { p ≤ length m.now }
     ensures steps { StepsExactlyAt rules.object_id (text_in (named_in m.now)) m.now p result }

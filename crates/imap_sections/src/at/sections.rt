@@ -146,7 +146,7 @@ fn mime(m: &[u8], p: usize) -> Reached<MessageSection>
 
 /// What of a message is meant (RFC 3501, section 9: section-msgtext). What begins with neither `HEADER` nor `TEXT` is
 /// `Error`. No memory: names of header fields are read and dropped.
-#[tactic(auto, using(imap_grammar::proofs::Memory::exactly_never_at, crate::proofs::SectionFirstBytes::msgtext_none, crate::proofs::SectionFirstBytes::msgtext_is_header, crate::proofs::SectionFirstBytes::msgtext_is_text, crate::proofs::SectionFirstBytes::msgtext_other))]
+#[tactic(auto, using(imap_grammar::proofs::Memory::exactly_never_at, crate::proofs::SectionFirstBytes::msgtext_arms))]
 #[inline(always)]
 pub fn section_msgtext(m: &[u8], p: usize) -> Reached<MessageSection>
     requires { p ≤ length m.now }

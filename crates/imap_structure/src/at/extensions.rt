@@ -157,7 +157,7 @@ fn body_fld_lang<K: Keep>(
     language_list(keep, alloc, m, p)
 }
 
-#[tactic(auto, using(crate::proofs::Seeing::number_seen, crate::proofs::Seeing::number_rests), unfolding(crate::specs::Extensions::number_extension))]
+#[tactic(auto, using(crate::proofs::Seeing::numbers), unfolding(crate::specs::Extensions::number_extension))]
 fn number_extension<K: Keep>(m: &[u8], p: usize) -> Reached<BodyExtension<K::Text>>
     requires { p ≤ length m.now }
     ensures steps { StepsExactlyAt extensions.number_extension
@@ -235,7 +235,7 @@ fn extension_list<K: Keep>(
 }
 
 #[cycle(extension)]
-#[tactic(auto, using(imap_shapes::proofs::Trees::extension_list_seen), unfolding(crate::specs::Extensions::bracketed_extensions))]
+#[tactic(auto, using(crate::proofs::Seeing::lists), unfolding(crate::specs::Extensions::bracketed_extensions))]
 fn bracketed_extensions<K: Keep>(
     keep: &K,
     alloc: Global,
@@ -485,7 +485,7 @@ fn shared_fields<K: Keep>(
 ///
 /// A field that its rule denies counts as missing, with its space: nothing is read for it, and the next field is tried
 /// in its place. It takes memory for lists, and, where values are kept of its strings, for texts that are not UTF-8.
-#[tactic(auto, unfolding(crate::specs::Extensions::body_ext_1part, imap_shapes::specs::ExtensionValues::ext_1part_seen))]
+#[tactic(auto, unfolding(crate::proofs::Seeing::ext_1part))]
 pub fn body_ext_1part<K: Keep>(
     keep: &K,
     alloc: Global,
@@ -518,7 +518,7 @@ pub fn body_ext_1part<K: Keep>(
 ///
 /// A field that its rule denies counts as missing, with its space: nothing is read for it, and the next field is tried
 /// in its place. It takes memory for lists, and, where values are kept of its strings, for texts that are not UTF-8.
-#[tactic(auto, unfolding(crate::specs::Extensions::body_ext_mpart, imap_shapes::specs::ExtensionValues::ext_mpart_seen))]
+#[tactic(auto, unfolding(crate::proofs::Seeing::ext_mpart))]
 pub fn body_ext_mpart<K: Keep>(
     keep: &K,
     alloc: Global,

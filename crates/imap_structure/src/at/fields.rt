@@ -145,7 +145,7 @@ fn quoted_printable(m: &[u8], p: usize) -> Reached<ContentEncoding<SpannedText>>
     Ok((p, ContentEncoding::QuotedPrintable))
 }
 
-#[tactic(auto, using(crate::proofs::FirstBytes::name_none, crate::proofs::FirstBytes::name_is_seven_bit, crate::proofs::FirstBytes::name_is_eight_bit, crate::proofs::FirstBytes::name_is_binary_or_base64, crate::proofs::FirstBytes::name_is_quoted_printable, crate::proofs::FirstBytes::name_other))]
+#[tactic(auto, using(crate::proofs::FirstBytes::name_arms))]
 fn encoding_name(m: &[u8], p: usize) -> Reached<ContentEncoding<SpannedText>>
     requires { p ≤ length m.now }
     ensures steps { StepsExactlyAt fields.encoding_name (encoding_in (named_in m.now)) m.now p
@@ -215,7 +215,7 @@ fn encoding_in_quotes(m: &[u8], p: usize) -> Reached<ContentEncoding<SpannedText
 }
 
 /// How a body is encoded; `NIL` is `7BIT` (RFC 3501, section 9: body-fld-enc). No memory.
-#[tactic(auto, using(imap_grammar::proofs::Memory::exactly_never_at, crate::proofs::FirstBytes::encoding_none, crate::proofs::FirstBytes::encoding_is_in_quotes, crate::proofs::FirstBytes::encoding_is_literal, crate::proofs::FirstBytes::encoding_is_nil, crate::proofs::FirstBytes::encoding_other))]
+#[tactic(auto, using(imap_grammar::proofs::Memory::exactly_never_at, crate::proofs::FirstBytes::encoding_arms))]
 pub fn body_fld_enc(m: &[u8], p: usize) -> Reached<ContentEncoding<SpannedText>>
     requires { p ≤ length m.now }
     ensures steps { StepsExactlyAt fields.body_fld_enc (encoding_in (named_in m.now)) m.now p

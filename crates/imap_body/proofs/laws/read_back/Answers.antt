@@ -66,57 +66,6 @@ returns-clause-body_structure c = keeps_body_structure
 pub returns-clause-msg_att_body_section : goal.returns-clause-msg_att_body_section
 returns-clause-msg_att_body_section c = attribute_texts.keeps_body_section
 
-pub returns-clause-msg_att_body_structure : goal.returns-clause-msg_att_body_structure
-returns-clause-msg_att_body_structure c = attribute_texts.keeps_body_structure
-
-pub returns-clause-msg_att_envelope : goal.returns-clause-msg_att_envelope
-returns-clause-msg_att_envelope c = attribute_texts.keeps_envelope
-
-pub returns-clause-msg_att_internal_date : goal.returns-clause-msg_att_internal_date
-returns-clause-msg_att_internal_date c = attribute_texts.keeps_internal_date
-
-pub returns-clause-msg_att_flags : goal.returns-clause-msg_att_flags
-returns-clause-msg_att_flags c = attribute_texts.keeps_flags
-
-pub returns-clause-msg_att_mod_seq : goal.returns-clause-msg_att_mod_seq
-returns-clause-msg_att_mod_seq c = attribute_texts.keeps_mod_seq
-
-pub returns-clause-msg_att_rfc822 : goal.returns-clause-msg_att_rfc822
-returns-clause-msg_att_rfc822 c = attribute_texts.keeps_rfc822
-
-pub returns-clause-msg_att_rfc822_header : goal.returns-clause-msg_att_rfc822_header
-returns-clause-msg_att_rfc822_header c = attribute_texts.keeps_rfc822_header
-
-pub returns-clause-msg_att_rfc822_size : goal.returns-clause-msg_att_rfc822_size
-returns-clause-msg_att_rfc822_size c = attribute_texts.keeps_rfc822_size
-
-pub returns-clause-msg_att_rfc822_text : goal.returns-clause-msg_att_rfc822_text
-returns-clause-msg_att_rfc822_text c = attribute_texts.keeps_rfc822_text
-
-pub returns-clause-msg_att_uid : goal.returns-clause-msg_att_uid
-returns-clause-msg_att_uid c = attribute_texts.keeps_uid
-
-pub returns-clause-msg_att_gmail_labels : goal.returns-clause-msg_att_gmail_labels
-returns-clause-msg_att_gmail_labels c = attribute_texts.keeps_gmail_labels
-
-pub returns-clause-msg_att_gmail_msgid : goal.returns-clause-msg_att_gmail_msgid
-returns-clause-msg_att_gmail_msgid c = attribute_texts.keeps_gmail_msgid
-
-pub returns-clause-msg_att_gmail_thrid : goal.returns-clause-msg_att_gmail_thrid
-returns-clause-msg_att_gmail_thrid c = attribute_texts.keeps_gmail_thrid
-
-pub returns-clause-msg_att_email_id : goal.returns-clause-msg_att_email_id
-returns-clause-msg_att_email_id c = attribute_texts.keeps_email_id
-
-pub returns-clause-msg_att_thread_id : goal.returns-clause-msg_att_thread_id
-returns-clause-msg_att_thread_id c = attribute_texts.keeps_thread_id
-
-pub returns-clause-msg_att_save_date : goal.returns-clause-msg_att_save_date
-returns-clause-msg_att_save_date c = attribute_texts.keeps_save_date
-
-pub returns-clause-msg_att_unknown : goal.returns-clause-msg_att_unknown
-returns-clause-msg_att_unknown c = attribute_texts.keeps_unknown
-
 pub returns-clause-attribute : goal.returns-clause-attribute
 returns-clause-attribute c = attribute_texts.keeps_attribute
 

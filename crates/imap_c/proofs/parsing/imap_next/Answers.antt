@@ -9,3 +9,6 @@ pub returns-clause-fits : goal.returns-clause-fits
 returns-clause-fits c = λ f.
     moved_fits c.args.bytes.now c.args.cursor.now c.moved.result c.parsed-answer.result c.if-start-bytes.false (rw c.split_at.ensures.back at c.parsed-answer.ensures.answer) c.moved.ensures.start c.moved.ensures.nothing
     (rw c.split_at.ensures.back at c.moved.ensures.wanted)
+
+pub returns-clause-failure : goal.returns-clause-failure
+returns-clause-failure c = rw c.split_at.ensures.back at c.parsed-answer.ensures.failure

@@ -4,7 +4,7 @@ use Rattle.imap_report.proofs.telling.tell.Given as goal
 
 abbrev pub invariant-turns : goal.invariant-turns
 invariant-turns g l = record {
-  told : Told l.fn.feed l.feed (g.W.Sink.contents l.fn.writer) (g.W.Sink.contents l.writer);
+  told : Told (g.T.Wording.words l.wording) l.fn.feed l.feed (g.W.Sink.contents l.fn.writer) (g.W.Sink.contents l.writer);
   on : g.W.Sink.has_failed l.writer ≡ false;
 }
 
