@@ -9,6 +9,7 @@ use imap_report::{Finish, OnDenied, Wording};
 use std::alloc::{AllocError, Global};
 
 /// A line of JSON for each response, for each skipped line, and for the end.
+#[derive(Clone, Copy)]
 pub struct JsonLines {
     /// What is done with a denied line.
     pub on_denied: OnDenied,

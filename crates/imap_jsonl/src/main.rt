@@ -17,10 +17,13 @@ use std::process::ExitCode;
 fn asked(args: Args) -> Option<OnDenied> {
     let mut words = args;
     words.next(); // the program's name
-    match (words.next(), words.next()) {
-        (None, _) => Some(OnDenied::Stop),
-        (Some(word), None) if word.as_str() == "--skip" => Some(OnDenied::Skip),
-        _ => None,
+    let Some(word) = words.next() else {
+        return Some(OnDenied::Stop);
+    };
+    if word.as_str() == "--skip" && words.next().is_none() {
+        Some(OnDenied::Skip)
+    } else {
+        None
     }
 }
 

@@ -3,4 +3,4 @@ use Rattle.imap_jsonl.proofs.Owned.{text_alike}
 use Rattle.imap_jsonl.proofs.json_lines.JsonLinesWording.response.Goals as goal
 
 pub returns : goal.returns
-returns c = λ v is. text_alike v (response_value c.args.response.now) _ is c.to_json.ensures.text
+returns c = text_alike (response_value c.args.response.now) c.to_json.result c.to_json.ensures.text
