@@ -12,7 +12,7 @@ use Rattle.imap_grammar.proofs.Positions.{stepped, named_in_front}
 use Rattle.imap_shapes.specs.declared.spans.SpannedText.{SpannedText}
 use Rattle.imap_shapes.specs.Spans.{Lookup, Rests, bytes_in, text_in}
 use Rattle.imap_shapes.proofs.Places.{front_alike}
-use Rattle.imap_body.specs.declared.spanned.SpannedAttribute.{SpannedAttribute}
+use Rattle.imap_body.specs.declared.spanned_attribute.SpannedAttribute.{SpannedAttribute}
 use Rattle.imap_attributes.specs.AttributeValues.{AttributeKept, AttributeValue, parts_in, parts_said}
 use Rattle.imap_body.specs.Attributes.{attribute}
 use Rattle.imap_body.specs.SpannedAttributes.{attribute_in, attribute_said, Within, StandsAt, EndsAt, TurnsAt, InTurn, WithinItsSpan, Stands, InFront, KeepsAt}

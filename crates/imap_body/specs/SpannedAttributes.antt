@@ -10,7 +10,7 @@ use Rattle.imap_grammar.specs.declared.answer.Err.TheVariants.{Failure}
 use Rattle.imap_grammar.specs.Positions.{Reached, named_in}
 use Rattle.imap_grammar.specs.Step.{Step}
 use Rattle.imap_grammar.specs.Rule.{meaning}
-use Rattle.imap_body.specs.declared.spanned.SpannedAttribute.{SpannedAttribute}
+use Rattle.imap_body.specs.declared.spanned_attribute.SpannedAttribute.{SpannedAttribute}
 use Rattle.imap_shapes.specs.BodyValues.{BodyValue, body_seen}
 use Rattle.imap_shapes.specs.Spans.{Lookup, Rests, bytes_in, text_in}
 use Rattle.imap_shapes.specs.declared.shapes.bodies.BodyStructure.{BodyStructure as Structure}

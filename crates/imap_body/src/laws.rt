@@ -39,7 +39,7 @@ ghost use Rattle.imap_attributes.specs.AttributeValues.{Unknown, SaveDate};
 ghost use Rattle.imap_body.specs.AttributeTexts.{spells_attribute};
 ghost use Rattle.imap_body.specs.NoSpelling.{a_mailbox_alone, an_md5_alone};
 
-use crate::spanned::SpannedAttribute;
+use crate::spanned_attribute::SpannedAttribute;
 use imap_attributes::laws::attributes_equality;
 use imap_attributes::{AttributeSpans, AttributeValue};
 use imap_sections::{MessageSection, SectionPath};

@@ -2,10 +2,11 @@
 #![tactic(auto)]
 
 pub mod at;
-mod keeping;
+mod keep;
 pub mod laws;
 pub mod readers;
 pub mod spanned;
+mod spanned_attribute;
 
 pub use imap_attributes::{AttributeValue, owned_attributes};
 pub use imap_sections::{

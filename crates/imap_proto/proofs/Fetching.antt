@@ -22,7 +22,7 @@ use Rattle.imap_grammar.proofs.Yields.{Yields, either_yields, made_yields}
 use Rattle.imap_bytes.specs.Numbers.{number, digits}
 use Rattle.imap_grammar.specs.declared.at.span.Span.{Span}
 use Rattle.imap_shapes.specs.declared.spans.SpannedText.{SpannedText}
-use Rattle.imap_body.specs.declared.spanned.SpannedAttribute.{SpannedAttribute}
+use Rattle.imap_body.specs.declared.spanned_attribute.SpannedAttribute.{SpannedAttribute}
 use Rattle.imap_body.specs.SpannedAttributes.{Stands}
 use Rattle.imap_data.specs.MailboxData.{exists, recent}
 use Rattle.imap_data.specs.Annotations.{metadata_solicited, metadata_unsolicited}

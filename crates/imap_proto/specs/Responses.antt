@@ -15,7 +15,7 @@ use Rattle.imap_extensions.specs.Ids.{IdValue, id_value, changed_id}
 use Rattle.imap_extensions.specs.Acls.{AclValue, ListRightsValue, MyRightsValue, acl_value, list_rights_value, my_rights_value, changed_acl, changed_list_rights, changed_my_rights}
 use Rattle.imap_grammar.specs.declared.at.span.Span.{Span}
 use Rattle.imap_shapes.specs.declared.spans.SpannedText.{SpannedText}
-use Rattle.imap_body.specs.declared.spanned.SpannedAttribute.{SpannedAttribute}
+use Rattle.imap_body.specs.declared.spanned_attribute.SpannedAttribute.{SpannedAttribute}
 use Rattle.imap_body.specs.SpannedAttributes.{attribute_in}
 use Rattle.imap_attributes.specs.AttributeValues.{AttributeValue, attribute_value}
 use Rattle.imap_attributes.specs.Changed.{changed_attribute}

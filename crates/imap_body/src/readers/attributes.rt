@@ -10,7 +10,7 @@ ghost use Rattle.imap_body.specs.SpannedAttributes.{IsSliced, IsMadeAt};
 ghost use Rattle.imap_body.specs.Attributes as rules;
 
 use crate::at;
-use crate::keeping::kept_list;
+use crate::at::lists::kept_list;
 use imap_attributes::{AttributeSpans, AttributeValue};
 use imap_bytes::IResult;
 use imap_bytes::at::Reached;
@@ -69,7 +69,7 @@ pub fn msg_att_body_section(alloc: Global, i: &[u8]) -> IResult<&[u8], Attribute
     ensures steps { Steps rules.msg_att_body_section attribute_value i.now result }
     ensures answer { Answers rules.msg_att_body_section attribute_value i.now result }
 {
-    let (q, spans) = made!(at::attributes::msg_att_body_section(&Positions, alloc, i, 0));
+    let (q, spans) = made!(at::messages::msg_att_body_section(&Positions, alloc, i, 0));
     named(alloc, i, q, spans)
 }
 

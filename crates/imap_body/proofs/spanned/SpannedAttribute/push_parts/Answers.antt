@@ -1,5 +1,0 @@
-use Rattle.imap_shapes.specs.BodyValues.{body_seen}
-use Rattle.imap_body.proofs.spanned.SpannedAttribute.push_parts.Goals as goal
-
-pub returns : goal.returns
-returns g c f h = rw (c.make_first_room.ensures) at (c.push_unboxed.ensures f h (body_seen f h))

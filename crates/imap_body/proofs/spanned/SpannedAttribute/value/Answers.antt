@@ -1,4 +1,0 @@
-use Rattle.imap_body.proofs.spanned.SpannedAttribute.value.Goals as goal
-
-pub returns : goal.returns
-returns c = rw c.part.ensures at c.value.ensures
