@@ -1,4 +1,5 @@
 pub mod Attributes
+pub mod Reading
 pub mod SpannedAttributes
 pub mod AttributeTexts
 pub mod NoSpelling

@@ -2,6 +2,7 @@
 #![tactic(auto)]
 
 pub mod at;
+mod input;
 mod keep;
 pub mod laws;
 pub mod readers;

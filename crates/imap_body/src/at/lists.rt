@@ -10,6 +10,7 @@ ghost use Rattle.imap_body.specs.SpannedAttributes.{attribute_said, EndsAt, Keep
 ghost use Rattle.imap_body.specs.Attributes as rules;
 
 use crate::at::attributes::attribute;
+use crate::input::Input;
 use crate::keep::KeepAttribute;
 use crate::spanned_attribute::SpannedAttribute;
 use imap_bytes::at::Reached;
@@ -35,9 +36,14 @@ fn spanned_attribute<K: KeepAttribute>(
     ensures ahead { Ahead m.now p result }
     ensures stands { IfOk result (λ x. EndsAt K.text_said K.bytes_said m.now p x.0 x.1) }
 {
-    let (_, from) = m.split_at(p);
-    let behind = keep.behind(m, p);
-    let (size, parts) = made!(attribute(&behind, alloc, from, 0));
+    let (_, message) = m.split_at(p);
+    let keep = keep.behind(m, p);
+    let input = Input {
+        alloc,
+        message,
+        keep,
+    };
+    let (size, parts) = made!(attribute(&input, 0));
     let q = p + size;
     let span = Span { start: p, end: q };
     Ok((q, SpannedAttribute { span, parts }))

@@ -3,10 +3,10 @@
 ghost use Rattle.std.specs.Prelude.{◌≤◌, length};
 ghost use Rattle.imap_grammar.specs.Positions.{Ahead, Inside, named_in, StepsExactlyAt};
 ghost use Rattle.imap_grammar.specs.Rule.{run0, run1};
-ghost use Rattle.imap_shapes.specs.Spans.{RestsOn};
-ghost use Rattle.imap_attributes.specs.AttributeValues.{parts_said};
 ghost use Rattle.imap_body.specs.Attributes as rules;
+ghost use Rattle.imap_body.specs.Reading.{ReadsAttributeExactly};
 
+use crate::input::Input;
 use crate::keep::{Answer, KeepAttribute};
 use imap_attributes::AttributeParts;
 use imap_bytes::at::Reached;
@@ -95,15 +95,12 @@ fn skipped_value(m: &[u8], p: usize) -> Reached<()>
 // attributes apart would clear the room that it needs.
 #[tactic(auto, unfolding(crate::specs::Attributes::msg_att_unknown))]
 #[inline(never)]
-pub(crate) fn msg_att_unknown<K: KeepAttribute>(m: &[u8], p: usize) -> Answer<K>
-    requires { p ≤ length m.now }
-    ensures steps { StepsExactlyAt rules.msg_att_unknown
-        (parts_said K.text_said K.bytes_said (named_in m.now)) m.now p result }
-    ensures ahead { Ahead m.now p result }
-    ensures rests { RestsOn (parts_said K.text_said K.bytes_said) result }
+pub(crate) fn msg_att_unknown<K: KeepAttribute>(input: &Input<K>, p: usize) -> Answer<K>
+    requires { p ≤ length input.now }
+    ensures { ReadsAttributeExactly K.text_said K.bytes_said rules.msg_att_unknown input.now p result }
 {
-    let (p, _) = atom(m, p)?;
-    let (p, _) = tag(b" ", m, p)?;
-    let (p, _) = skipped_value(m, p)?;
+    let (p, _) = atom(input.message, p)?;
+    let (p, _) = tag(b" ", input.message, p)?;
+    let (p, _) = skipped_value(input.message, p)?;
     Ok((p, AttributeParts::Unknown))
 }

@@ -1,11 +1,12 @@
 //! Attributes that are a word and one value.
 
 ghost use Rattle.std.specs.Prelude.{◌≤◌, length};
-ghost use Rattle.imap_grammar.specs.Positions.{Ahead, Inside, named_in, StepsAt, StepsExactlyAt};
+ghost use Rattle.imap_grammar.specs.Positions.{Ahead, Inside, named_in, StepsExactlyAt};
 ghost use Rattle.imap_shapes.specs.Spans.{RestsOn, text_in};
-ghost use Rattle.imap_attributes.specs.AttributeValues.{parts_said};
 ghost use Rattle.imap_body.specs.Attributes as rules;
+ghost use Rattle.imap_body.specs.Reading.{ReadsAttribute, ReadsAttributeExactly};
 
+use crate::input::Input;
 use crate::keep::{Answer, KeepAttribute};
 use imap_attributes::AttributeParts;
 use imap_bytes::at::Reached;
@@ -21,26 +22,19 @@ use imap_envelopes::kept::kept_text;
 use imap_items::at::{gmail_msgid, gmail_thrid};
 use imap_shapes::made;
 use imap_shapes::spans::SpannedText;
-use std::alloc::Global;
 
 #[tactic(auto, using(crate::proofs::Resting::envelope_rests), unfolding(crate::specs::Attributes::msg_att_envelope))]
 #[inline(never)] // Its stack frame is large, and a caller that inlined it would clear it at each call.
-pub(crate) fn msg_att_envelope<K: KeepAttribute>(
-    keep: &K,
-    alloc: Global,
-    m: &[u8],
-    p: usize,
-) -> Answer<K>
-    requires start { p ≤ length m.now }
-    requires serves { K.serves keep.now m.now }
-    ensures steps { StepsAt rules.msg_att_envelope
-        (parts_said K.text_said K.bytes_said (named_in m.now)) m.now p result }
-    ensures ahead { Ahead m.now p result }
-    ensures rests { RestsOn (parts_said K.text_said K.bytes_said) result }
+pub(crate) fn msg_att_envelope<K: KeepAttribute>(input: &Input<K>, p: usize) -> Answer<K>
+    requires { p ≤ length input.now }
+    ensures { ReadsAttribute K.text_said K.bytes_said rules.msg_att_envelope input.now p result }
 {
-    let (p, _) = word(b"ENVELOPE ", m, p)?;
-    let (p, envelope) = made!(envelope(keep, alloc, m, p));
-    Ok((p, AttributeParts::Envelope(Box::new(alloc, envelope)?)))
+    let (p, _) = word(b"ENVELOPE ", input.message, p)?;
+    let (p, envelope) = made!(envelope(&input.keep, input.alloc, input.message, p));
+    Ok((
+        p,
+        AttributeParts::Envelope(Box::new(input.alloc, envelope)?),
+    ))
 }
 
 #[tactic(auto, unfolding(crate::specs::Attributes::date))]
@@ -54,106 +48,72 @@ fn date(m: &[u8], p: usize) -> Reached<SpannedText>
 }
 
 #[tactic(auto, unfolding(crate::specs::Attributes::msg_att_internal_date))]
-pub(crate) fn msg_att_internal_date<K: KeepAttribute>(keep: &K, m: &[u8], p: usize) -> Answer<K>
-    requires start { p ≤ length m.now }
-    requires serves { K.serves keep.now m.now }
-    ensures steps { StepsAt rules.msg_att_internal_date
-        (parts_said K.text_said K.bytes_said (named_in m.now)) m.now p result }
-    ensures ahead { Ahead m.now p result }
-    ensures rests { RestsOn (parts_said K.text_said K.bytes_said) result }
+pub(crate) fn msg_att_internal_date<K: KeepAttribute>(input: &Input<K>, p: usize) -> Answer<K>
+    requires { p ≤ length input.now }
+    ensures { ReadsAttribute K.text_said K.bytes_said rules.msg_att_internal_date input.now p result }
 {
-    let (p, _) = word(b"INTERNALDATE ", m, p)?;
-    let (p, date) = date(m, p)?;
-    let date = keep.text(m, date)?;
+    let (p, _) = word(b"INTERNALDATE ", input.message, p)?;
+    let (p, date) = date(input.message, p)?;
+    let date = input.keep.text(input.message, date)?;
     Ok((p, AttributeParts::InternalDate(date)))
 }
 
 #[tactic(auto, unfolding(crate::specs::Attributes::msg_att_flags))]
-pub(crate) fn msg_att_flags<K: KeepAttribute>(
-    keep: &K,
-    alloc: Global,
-    m: &[u8],
-    p: usize,
-) -> Answer<K>
-    requires start { p ≤ length m.now }
-    requires serves { K.serves keep.now m.now }
-    ensures steps { StepsAt rules.msg_att_flags
-        (parts_said K.text_said K.bytes_said (named_in m.now)) m.now p result }
-    ensures ahead { Ahead m.now p result }
-    ensures rests { RestsOn (parts_said K.text_said K.bytes_said) result }
+pub(crate) fn msg_att_flags<K: KeepAttribute>(input: &Input<K>, p: usize) -> Answer<K>
+    requires { p ≤ length input.now }
+    ensures { ReadsAttribute K.text_said K.bytes_said rules.msg_att_flags input.now p result }
 {
-    let (p, _) = word(b"FLAGS ", m, p)?;
-    let (p, flags) = keep.flags(alloc, m, p)?;
+    let (p, _) = word(b"FLAGS ", input.message, p)?;
+    let (p, flags) = input.keep.flags(input.alloc, input.message, p)?;
     Ok((p, AttributeParts::Flags(flags)))
 }
 
 #[tactic(auto, unfolding(crate::specs::Attributes::msg_att_uid))]
-pub(crate) fn msg_att_uid<K: KeepAttribute>(m: &[u8], p: usize) -> Answer<K>
-    requires { p ≤ length m.now }
-    ensures steps { StepsExactlyAt rules.msg_att_uid
-        (parts_said K.text_said K.bytes_said (named_in m.now)) m.now p result }
-    ensures ahead { Ahead m.now p result }
-    ensures rests { RestsOn (parts_said K.text_said K.bytes_said) result }
+pub(crate) fn msg_att_uid<K: KeepAttribute>(input: &Input<K>, p: usize) -> Answer<K>
+    requires { p ≤ length input.now }
+    ensures { ReadsAttributeExactly K.text_said K.bytes_said rules.msg_att_uid input.now p result }
 {
-    let (p, _) = word(b"UID ", m, p)?;
-    let (p, uid) = number(m, p)?;
+    let (p, _) = word(b"UID ", input.message, p)?;
+    let (p, uid) = number(input.message, p)?;
     Ok((p, AttributeParts::Uid(uid)))
 }
 
 #[tactic(auto, unfolding(crate::specs::Attributes::msg_att_mod_seq))]
-pub(crate) fn msg_att_mod_seq<K: KeepAttribute>(m: &[u8], p: usize) -> Answer<K>
-    requires { p ≤ length m.now }
-    ensures steps { StepsExactlyAt rules.msg_att_mod_seq
-        (parts_said K.text_said K.bytes_said (named_in m.now)) m.now p result }
-    ensures ahead { Ahead m.now p result }
-    ensures rests { RestsOn (parts_said K.text_said K.bytes_said) result }
+pub(crate) fn msg_att_mod_seq<K: KeepAttribute>(input: &Input<K>, p: usize) -> Answer<K>
+    requires { p ≤ length input.now }
+    ensures { ReadsAttributeExactly K.text_said K.bytes_said rules.msg_att_mod_seq input.now p result }
 {
-    let (p, _) = word(b"MODSEQ ", m, p)?;
-    let (p, _) = tag(b"(", m, p)?;
-    let (p, mod_seq) = number_64(m, p)?;
-    let (p, _) = tag(b")", m, p)?;
+    let (p, _) = word(b"MODSEQ ", input.message, p)?;
+    let (p, _) = tag(b"(", input.message, p)?;
+    let (p, mod_seq) = number_64(input.message, p)?;
+    let (p, _) = tag(b")", input.message, p)?;
     Ok((p, AttributeParts::ModSeq(mod_seq)))
 }
 
 #[tactic(auto, unfolding(crate::specs::Attributes::msg_att_gmail_labels))]
-pub(crate) fn msg_att_gmail_labels<K: KeepAttribute>(
-    keep: &K,
-    alloc: Global,
-    m: &[u8],
-    p: usize,
-) -> Answer<K>
-    requires start { p ≤ length m.now }
-    requires serves { K.serves keep.now m.now }
-    ensures steps { StepsAt rules.msg_att_gmail_labels
-        (parts_said K.text_said K.bytes_said (named_in m.now)) m.now p result }
-    ensures ahead { Ahead m.now p result }
-    ensures rests { RestsOn (parts_said K.text_said K.bytes_said) result }
+pub(crate) fn msg_att_gmail_labels<K: KeepAttribute>(input: &Input<K>, p: usize) -> Answer<K>
+    requires { p ≤ length input.now }
+    ensures { ReadsAttribute K.text_said K.bytes_said rules.msg_att_gmail_labels input.now p result }
 {
-    let (p, labels) = keep.labels(alloc, m, p)?;
+    let (p, labels) = input.keep.labels(input.alloc, input.message, p)?;
     Ok((p, AttributeParts::GmailLabels(labels)))
 }
 
 #[tactic(auto, unfolding(crate::specs::Attributes::msg_att_gmail_msgid))]
-pub(crate) fn msg_att_gmail_msgid<K: KeepAttribute>(m: &[u8], p: usize) -> Answer<K>
-    requires { p ≤ length m.now }
-    ensures steps { StepsExactlyAt rules.msg_att_gmail_msgid
-        (parts_said K.text_said K.bytes_said (named_in m.now)) m.now p result }
-    ensures ahead { Ahead m.now p result }
-    ensures rests { RestsOn (parts_said K.text_said K.bytes_said) result }
+pub(crate) fn msg_att_gmail_msgid<K: KeepAttribute>(input: &Input<K>, p: usize) -> Answer<K>
+    requires { p ≤ length input.now }
+    ensures { ReadsAttributeExactly K.text_said K.bytes_said rules.msg_att_gmail_msgid input.now p result }
 {
-    let (p, number) = gmail_msgid(m, p)?;
+    let (p, number) = gmail_msgid(input.message, p)?;
     Ok((p, AttributeParts::GmailMsgId(number)))
 }
 
 #[tactic(auto, unfolding(crate::specs::Attributes::msg_att_gmail_thrid))]
-pub(crate) fn msg_att_gmail_thrid<K: KeepAttribute>(m: &[u8], p: usize) -> Answer<K>
-    requires { p ≤ length m.now }
-    ensures steps { StepsExactlyAt rules.msg_att_gmail_thrid
-        (parts_said K.text_said K.bytes_said (named_in m.now)) m.now p result }
-    ensures ahead { Ahead m.now p result }
-    ensures rests { RestsOn (parts_said K.text_said K.bytes_said) result }
+pub(crate) fn msg_att_gmail_thrid<K: KeepAttribute>(input: &Input<K>, p: usize) -> Answer<K>
+    requires { p ≤ length input.now }
+    ensures { ReadsAttributeExactly K.text_said K.bytes_said rules.msg_att_gmail_thrid input.now p result }
 {
-    let (p, number) = gmail_thrid(m, p)?;
+    let (p, number) = gmail_thrid(input.message, p)?;
     Ok((p, AttributeParts::GmailThrId(number)))
 }
 
@@ -193,47 +153,35 @@ fn bracketed_id(m: &[u8], p: usize) -> Reached<SpannedText>
 }
 
 #[tactic(auto, unfolding(crate::specs::Attributes::msg_att_email_id))]
-pub(crate) fn msg_att_email_id<K: KeepAttribute>(keep: &K, m: &[u8], p: usize) -> Answer<K>
-    requires start { p ≤ length m.now }
-    requires serves { K.serves keep.now m.now }
-    ensures steps { StepsAt rules.msg_att_email_id
-        (parts_said K.text_said K.bytes_said (named_in m.now)) m.now p result }
-    ensures ahead { Ahead m.now p result }
-    ensures rests { RestsOn (parts_said K.text_said K.bytes_said) result }
+pub(crate) fn msg_att_email_id<K: KeepAttribute>(input: &Input<K>, p: usize) -> Answer<K>
+    requires { p ≤ length input.now }
+    ensures { ReadsAttribute K.text_said K.bytes_said rules.msg_att_email_id input.now p result }
 {
-    let (p, _) = word(b"EMAILID ", m, p)?;
-    let (p, id) = bracketed_id(m, p)?;
-    let id = keep.text(m, id)?;
+    let (p, _) = word(b"EMAILID ", input.message, p)?;
+    let (p, id) = bracketed_id(input.message, p)?;
+    let id = input.keep.text(input.message, id)?;
     Ok((p, AttributeParts::EmailId(id)))
 }
 
 #[tactic(auto, unfolding(crate::specs::Attributes::msg_att_thread_id))]
-pub(crate) fn msg_att_thread_id<K: KeepAttribute>(keep: &K, m: &[u8], p: usize) -> Answer<K>
-    requires start { p ≤ length m.now }
-    requires serves { K.serves keep.now m.now }
-    ensures steps { StepsAt rules.msg_att_thread_id
-        (parts_said K.text_said K.bytes_said (named_in m.now)) m.now p result }
-    ensures ahead { Ahead m.now p result }
-    ensures rests { RestsOn (parts_said K.text_said K.bytes_said) result }
+pub(crate) fn msg_att_thread_id<K: KeepAttribute>(input: &Input<K>, p: usize) -> Answer<K>
+    requires { p ≤ length input.now }
+    ensures { ReadsAttribute K.text_said K.bytes_said rules.msg_att_thread_id input.now p result }
 {
-    let (p, _) = word(b"THREADID ", m, p)?;
-    first!(nil(m, p), _ => AttributeParts::ThreadId(None));
-    let (p, id) = bracketed_id(m, p)?;
-    let id = keep.text(m, id)?;
+    let (p, _) = word(b"THREADID ", input.message, p)?;
+    first!(nil(input.message, p), _ => AttributeParts::ThreadId(None));
+    let (p, id) = bracketed_id(input.message, p)?;
+    let id = input.keep.text(input.message, id)?;
     Ok((p, AttributeParts::ThreadId(Some(id))))
 }
 
 #[tactic(auto, unfolding(crate::specs::Attributes::msg_att_save_date))]
-pub(crate) fn msg_att_save_date<K: KeepAttribute>(keep: &K, m: &[u8], p: usize) -> Answer<K>
-    requires start { p ≤ length m.now }
-    requires serves { K.serves keep.now m.now }
-    ensures steps { StepsAt rules.msg_att_save_date
-        (parts_said K.text_said K.bytes_said (named_in m.now)) m.now p result }
-    ensures ahead { Ahead m.now p result }
-    ensures rests { RestsOn (parts_said K.text_said K.bytes_said) result }
+pub(crate) fn msg_att_save_date<K: KeepAttribute>(input: &Input<K>, p: usize) -> Answer<K>
+    requires { p ≤ length input.now }
+    ensures { ReadsAttribute K.text_said K.bytes_said rules.msg_att_save_date input.now p result }
 {
-    let (p, _) = word(b"SAVEDATE ", m, p)?;
-    let (p, date) = nstring_text(m, p)?;
-    let date = kept_text(keep, m, date)?;
+    let (p, _) = word(b"SAVEDATE ", input.message, p)?;
+    let (p, date) = nstring_text(input.message, p)?;
+    let date = kept_text(&input.keep, input.message, date)?;
     Ok((p, AttributeParts::SaveDate(date)))
 }

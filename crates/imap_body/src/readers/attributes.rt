@@ -11,6 +11,7 @@ ghost use Rattle.imap_body.specs.Attributes as rules;
 
 use crate::at;
 use crate::at::lists::kept_list;
+use crate::input::Input;
 use imap_attributes::{AttributeSpans, AttributeValue};
 use imap_bytes::IResult;
 use imap_bytes::at::Reached;
@@ -69,7 +70,12 @@ pub fn msg_att_body_section(alloc: Global, i: &[u8]) -> IResult<&[u8], Attribute
     ensures steps { Steps rules.msg_att_body_section attribute_value i.now result }
     ensures answer { Answers rules.msg_att_body_section attribute_value i.now result }
 {
-    let (q, spans) = made!(at::messages::msg_att_body_section(&Positions, alloc, i, 0));
+    let input = Input {
+        alloc,
+        message: i,
+        keep: Positions,
+    };
+    let (q, spans) = made!(at::messages::msg_att_body_section(&input, 0));
     named(alloc, i, q, spans)
 }
 
@@ -83,7 +89,12 @@ pub fn attribute(alloc: Global, i: &[u8]) -> IResult<&[u8], AttributeValue<'_>>
     ensures steps { Steps rules.attribute attribute_value i.now result }
     ensures answer { Answers rules.attribute attribute_value i.now result }
 {
-    let (q, spans) = made!(at::attributes::attribute(&Positions, alloc, i, 0));
+    let input = Input {
+        alloc,
+        message: i,
+        keep: Positions,
+    };
+    let (q, spans) = made!(at::attributes::attribute(&input, 0));
     named(alloc, i, q, spans)
 }
 

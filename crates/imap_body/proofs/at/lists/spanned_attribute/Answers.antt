@@ -7,4 +7,4 @@ pub returns-2-clause-steps : goal.returns-2-clause-steps
 returns-2-clause-steps g c = search (rules, attribute_named) depth 2
 
 pub returns-2-clause-stands : goal.returns-2-clause-stands
-returns-2-clause-stands g c = ends_there _ _ _ _ _ _ (returns-2-clause-steps g c) (rests_more _ (omega arith) c.in-Ok-made.ensures.rests) (omega (arith)) refl refl
+returns-2-clause-stands g c = ends_there _ _ _ _ _ _ (returns-2-clause-steps g c) (rests_more _ (omega arith) c.in-Ok-made.ensures.2) (omega (arith)) refl refl
