@@ -1,5 +1,6 @@
 -- Which alternatives answer, by the first byte; what begins alike is read once.
 use Rattle.std.proofs.Common.{◌≡◌, ℕ, List, None, Err, refl, codes, ◌∙◌}
+use Prim.Native.String.{String}
 use Rattle.std.specs.Prelude.{⊤, slice_get}
 use Rattle.imap_grammar.specs.declared.answer.Err.TheVariants.{Incomplete}
 use Rattle.imap_grammar.specs.declared.answer.Needed.TheVariants.{Unknown}
@@ -97,49 +98,44 @@ of_body : AtAny "bB" attribute (msg_att_body_section or msg_att_body_structure o
 unfolding attribute_rules
 of_body = by_any "bB" attribute (msg_att_body_section or msg_att_body_structure or msg_att_unknown) (λ m. refl)
 
-pub attribute_is_of_b : AtAny "bB" attribute attribute_of_b
+attribute_at_b : AtAny "bB" attribute attribute_of_b
 unfolding attribute_of_b
-attribute_is_of_b m h = of_body m h ∙ grouped msg_att_body_section msg_att_body_structure msg_att_unknown m ∙ same_or (msg_att_body_section or msg_att_body_structure) body_attribute msg_att_unknown msg_att_unknown body_once (itself msg_att_unknown) m
+attribute_at_b m h = of_body m h ∙ grouped msg_att_body_section msg_att_body_structure msg_att_unknown m ∙ same_or (msg_att_body_section or msg_att_body_structure) body_attribute msg_att_unknown msg_att_unknown body_once (itself msg_att_unknown) m
 
 pub of_message : AtAny "rR" attribute (msg_att_rfc822 or msg_att_rfc822_header or msg_att_rfc822_size or msg_att_rfc822_text or msg_att_unknown)
 unfolding attribute_rules
 of_message = by_any "rR" attribute (msg_att_rfc822 or msg_att_rfc822_header or msg_att_rfc822_size or msg_att_rfc822_text or msg_att_unknown) (λ m. refl)
 
-pub attribute_is_of_r : AtAny "rR" attribute attribute_of_r
+attribute_at_r : AtAny "rR" attribute attribute_of_r
 unfolding attribute_of_r
-attribute_is_of_r m h = of_message m h ∙ last_apart msg_att_rfc822 msg_att_rfc822_header msg_att_rfc822_size msg_att_rfc822_text msg_att_unknown m ∙ same_or (msg_att_rfc822 or msg_att_rfc822_header or msg_att_rfc822_size or msg_att_rfc822_text) message_attribute msg_att_unknown msg_att_unknown message_once (itself msg_att_unknown) m
+attribute_at_r m h = of_message m h ∙ last_apart msg_att_rfc822 msg_att_rfc822_header msg_att_rfc822_size msg_att_rfc822_text msg_att_unknown m ∙ same_or (msg_att_rfc822 or msg_att_rfc822_header or msg_att_rfc822_size or msg_att_rfc822_text) message_attribute msg_att_unknown msg_att_unknown message_once (itself msg_att_unknown) m
 
-pub attribute_is_of_e : AtAny "eE" attribute attribute_of_e
-unfolding attribute_rules attribute_of_e
-attribute_is_of_e = by_any "eE" attribute attribute_of_e (λ m. refl)
+-- The arms of the choice: the rule that is read where one of these letters begins an attribute. As a relation, and of
+-- rules that have a name, it lets `search` find the letters by the rule that was read.
+pub data Arm : String → Rule AttributeValue → Type 1 where
+  arm_b : Arm "bB" attribute_of_b
+  arm_e : Arm "eE" attribute_of_e
+  arm_f : Arm "fF" attribute_of_f
+  arm_i : Arm "iI" attribute_of_i
+  arm_m : Arm "mM" attribute_of_m
+  arm_r : Arm "rR" attribute_of_r
+  arm_s : Arm "sS" attribute_of_s
+  arm_t : Arm "tT" attribute_of_t
+  arm_u : Arm "uU" attribute_of_u
+  arm_x : Arm "xX" attribute_of_x
 
-pub attribute_is_of_f : AtAny "fF" attribute attribute_of_f
-unfolding attribute_rules attribute_of_f
-attribute_is_of_f = by_any "fF" attribute attribute_of_f (λ m. refl)
-
-pub attribute_is_of_i : AtAny "iI" attribute attribute_of_i
-unfolding attribute_rules attribute_of_i
-attribute_is_of_i = by_any "iI" attribute attribute_of_i (λ m. refl)
-
-pub attribute_is_of_m : AtAny "mM" attribute attribute_of_m
-unfolding attribute_rules attribute_of_m
-attribute_is_of_m = by_any "mM" attribute attribute_of_m (λ m. refl)
-
-pub attribute_is_of_s : AtAny "sS" attribute attribute_of_s
-unfolding attribute_rules attribute_of_s
-attribute_is_of_s = by_any "sS" attribute attribute_of_s (λ m. refl)
-
-pub attribute_is_of_t : AtAny "tT" attribute attribute_of_t
-unfolding attribute_rules attribute_of_t
-attribute_is_of_t = by_any "tT" attribute attribute_of_t (λ m. refl)
-
-pub attribute_is_of_u : AtAny "uU" attribute attribute_of_u
-unfolding attribute_rules attribute_of_u
-attribute_is_of_u = by_any "uU" attribute attribute_of_u (λ m. refl)
-
-pub attribute_is_of_x : AtAny "xX" attribute attribute_of_x
-unfolding attribute_rules attribute_of_x
-attribute_is_of_x = by_any "xX" attribute attribute_of_x (λ m. refl)
+pub attribute_in_arm : (k : String) (r : Rule AttributeValue) → Arm k r → AtAny k attribute r
+unfolding attribute_rules attribute_of_e attribute_of_f attribute_of_i attribute_of_m attribute_of_s attribute_of_t attribute_of_u attribute_of_x
+attribute_in_arm k r arm_b = attribute_at_b
+attribute_in_arm k r arm_e = by_any "eE" attribute attribute_of_e (λ m. refl)
+attribute_in_arm k r arm_f = by_any "fF" attribute attribute_of_f (λ m. refl)
+attribute_in_arm k r arm_i = by_any "iI" attribute attribute_of_i (λ m. refl)
+attribute_in_arm k r arm_m = by_any "mM" attribute attribute_of_m (λ m. refl)
+attribute_in_arm k r arm_r = attribute_at_r
+attribute_in_arm k r arm_s = by_any "sS" attribute attribute_of_s (λ m. refl)
+attribute_in_arm k r arm_t = by_any "tT" attribute attribute_of_t (λ m. refl)
+attribute_in_arm k r arm_u = by_any "uU" attribute attribute_of_u (λ m. refl)
+attribute_in_arm k r arm_x = by_any "xX" attribute attribute_of_x (λ m. refl)
 
 pub attribute_other : AtOther "bBeEfFiImMrRsStTuUxX" attribute msg_att_unknown
 unfolding attribute_rules
@@ -147,15 +143,16 @@ attribute_other = by_other "bBeEfFiImMrRsStTuUxX" attribute msg_att_unknown (λ 
 
 pub ruleset arms = (
   attribute_none,
-  attribute_is_of_b,
-  attribute_is_of_e,
-  attribute_is_of_f,
-  attribute_is_of_i,
-  attribute_is_of_m,
-  attribute_is_of_r,
-  attribute_is_of_s,
-  attribute_is_of_t,
-  attribute_is_of_u,
-  attribute_is_of_x,
+  attribute_in_arm,
+  arm_b,
+  arm_e,
+  arm_f,
+  arm_i,
+  arm_m,
+  arm_r,
+  arm_s,
+  arm_t,
+  arm_u,
+  arm_x,
   attribute_other,
 )

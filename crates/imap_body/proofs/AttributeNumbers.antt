@@ -15,7 +15,7 @@ use Rattle.imap_items.specs.Gmail.{gmail_label_list, gmail_msgid, gmail_thrid}
 use Rattle.imap_attributes.specs.AttributeValues.{AttributeValue, ModSeq, Rfc822Size, Uid, GmailMsgId, GmailThrId}
 use Rattle.imap_body.specs.Attributes.{msg_att_mod_seq, msg_att_rfc822, msg_att_rfc822_header, msg_att_rfc822_size, msg_att_rfc822_text, msg_att_uid, msg_att_gmail_labels, msg_att_gmail_msgid, msg_att_gmail_thrid, msg_att_unknown, attribute, attribute_of_m, attribute_of_u, attribute_of_x}
 use Rattle.imap_body.specs.AttributeTexts.{ReadsEachBelow}
-use Rattle.imap_body.proofs.AttributeFirstBytes.{of_message, attribute_is_of_m, attribute_is_of_u, attribute_is_of_x}
+use Rattle.imap_body.proofs.AttributeFirstBytes.{of_message, attribute_in_arm, arm_m, arm_u, arm_x}
 
 -- ---- a word and a number
 
@@ -65,7 +65,7 @@ reads_sizes n t below ends =
 
 pub reads_uids : ReadsEachBelow (2 ^ 32) Uid
 unfolding msg_att_uid attribute_of_u number
-reads_uids n t below ends = same_step attribute_of_u _ (Uid n) t (attribute_is_of_u _ (inr refl)) (read_first msg_att_uid _ _ _ t (word_number (codes "UID ") (2 ^ 32) Uid refl (omega arith) n t below ends))
+reads_uids n t below ends = same_step attribute_of_u _ (Uid n) t (attribute_in_arm _ _ arm_u _ (inr refl)) (read_first msg_att_uid _ _ _ t (word_number (codes "UID ") (2 ^ 32) Uid refl (omega arith) n t below ends))
 
 pub reads_mod_seqs : ReadsEachBelow (2 ^ 64) ModSeq
 unfolding msg_att_mod_seq attribute_of_m number_64
@@ -74,7 +74,7 @@ reads_mod_seqs n t below ends =
     subst (λ l. (meaning (number_64 ◃ tag ")")).yields l n t) (sym (written_on (number_text n) (words ")") t))
     (before-on number_64 (tag ")") _ n (codes ")" ++ t) (codes ")") t (number_alone (2 ^ 64) n (omega arith) below (codes ")" ++ t) refl) (tag-on ◌==◌ (codes ")") (codes ")") t refl)) in
     let opened = behind_word ◌==◌ (codes "(") (number_64 ◃ tag ")") (number_text n then words ")") n t refl closed in
-    same_step attribute_of_m _ (ModSeq n) t (attribute_is_of_m _ (inr refl))
+    same_step attribute_of_m _ (ModSeq n) t (attribute_in_arm _ _ arm_m _ (inr refl))
     (read_first msg_att_mod_seq _ _ _ t
     (behind_word same_letter (codes "MODSEQ ") (gives ModSeq (tag "(" ▹ number_64 ◃ tag ")")) (words "(" then number_text n then words ")") (ModSeq n) t refl (made_on ModSeq (tag "(" ▹ number_64 ◃ tag ")") _ n t opened)))
 
@@ -85,14 +85,14 @@ gmail_number k is n t below ends = behind_word same_letter k (number_below (2 ^ 
 pub reads_msgids : ReadsEachBelow (2 ^ 64) GmailMsgId
 unfolding msg_att_gmail_labels gmail_label_list msg_att_gmail_msgid gmail_msgid attribute_of_x number_64
 reads_msgids n t below ends =
-    same_step attribute_of_x _ (GmailMsgId n) t (attribute_is_of_x _ (inr refl))
+    same_step attribute_of_x _ (GmailMsgId n) t (attribute_in_arm _ _ arm_x _ (inr refl))
     (read_next msg_att_gmail_labels _ _ _ t (denies-gives _ _ _ (denies-after _ _ _ (denies-tag _ _ _ refl)))
     (read_first msg_att_gmail_msgid _ _ _ t (made_on GmailMsgId gmail_msgid _ n t (gmail_number (codes "X-GM-MSGID ") refl n t below ends))))
 
 pub reads_thrids : ReadsEachBelow (2 ^ 64) GmailThrId
 unfolding msg_att_gmail_labels gmail_label_list msg_att_gmail_msgid gmail_msgid msg_att_gmail_thrid gmail_thrid attribute_of_x number_64
 reads_thrids n t below ends =
-    same_step attribute_of_x _ (GmailThrId n) t (attribute_is_of_x _ (inr refl))
+    same_step attribute_of_x _ (GmailThrId n) t (attribute_in_arm _ _ arm_x _ (inr refl))
     (read_next msg_att_gmail_labels _ _ _ t (denies-gives _ _ _ (denies-after _ _ _ (denies-tag _ _ _ refl)))
     (read_next msg_att_gmail_msgid _ _ _ t (denies-gives _ _ _ (denies-after _ _ _ (denies-tag _ _ _ refl)))
     (read_first msg_att_gmail_thrid _ _ _ t (made_on GmailThrId gmail_thrid _ n t (gmail_number (codes "X-GM-THRID ") refl n t below ends)))))

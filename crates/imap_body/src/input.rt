@@ -6,7 +6,7 @@ use crate::keep::KeepAttribute;
 use std::alloc::Global;
 use std::marker::Model;
 
-/// A message, and what is kept of what is read in it.
+/// A message, and what is kept of what is read in it, which serves for that message. A contract sees the message.
 #[derive(Drop)]
 pub(crate) struct Input<'m, K: KeepAttribute> {
     pub(crate) alloc: Global,
