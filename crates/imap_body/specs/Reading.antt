@@ -6,8 +6,8 @@ use Rattle.imap_grammar.specs.Positions.{Ahead, Reached, StepsAt, StepsExactlyAt
 use Rattle.imap_shapes.specs.Spans.{Lookup, RestsOn}
 use Rattle.imap_attributes.specs.AttributeValues.{AttributeKept, AttributeValue, parts_said}
 
--- What was read in m from p on is what the rule says of it; the reader stops in m, not before p, and what it keeps has no
--- positions behind where it stops.
+-- What was read in m from p on is what the rule says of it; the reader stops in m, not before p; and what it keeps has
+-- no positions behind where it stops.
 abbrev pub ReadsAttribute :
     {S B : Type 0} → (Lookup → S → Text) → (Lookup → B → Text) → Rule AttributeValue → Bytes → ℕ →
     Reached (AttributeKept S B) → Type 0

@@ -121,7 +121,7 @@ fn attribute_of_x<K: KeepAttribute>(input: &Input<K>, p: usize) -> Answer<K>
     msg_att_unknown(input, p)
 }
 
-// The byte at p, if there is one.
+// The byte at p, if there is one. The contract says that it is a byte: a proof isn't told that of what an input holds.
 #[inline(always)]
 fn byte_at(m: &[u8], p: usize) -> Option<u8>
     requires { p ≤ length m.now }
