@@ -355,57 +355,6 @@ attribute_list_spells = spells-nonempty_list_of attribute_spells
 pub keeps_body_section : AttributeReadsBack msg_att_body_section
 keeps_body_section = record { spelled = body_section_spells; back = reads_body_section }
 
-pub keeps_body_structure : AttributeReadsBack msg_att_body_structure
-keeps_body_structure = record { spelled = body_structure_spells; back = reads_body_structure }
-
-pub keeps_envelope : AttributeReadsBack msg_att_envelope
-keeps_envelope = record { spelled = msg_envelope_spells; back = reads_msg_envelope }
-
-pub keeps_internal_date : AttributeReadsBack msg_att_internal_date
-keeps_internal_date = record { spelled = internal_date_spells; back = reads_date }
-
-pub keeps_flags : AttributeReadsBack msg_att_flags
-keeps_flags = record { spelled = flags_spells; back = reads_flags }
-
-pub keeps_mod_seq : AttributeReadsBack msg_att_mod_seq
-keeps_mod_seq = record { spelled = mod_seq_spells; back = reads_mod_seq }
-
-pub keeps_rfc822 : AttributeReadsBack msg_att_rfc822
-keeps_rfc822 = record { spelled = rfc822_spells; back = reads_rfc822 }
-
-pub keeps_rfc822_header : AttributeReadsBack msg_att_rfc822_header
-keeps_rfc822_header = record { spelled = header_spells; back = reads_header }
-
-pub keeps_rfc822_size : AttributeReadsBack msg_att_rfc822_size
-keeps_rfc822_size = record { spelled = rfc822_size_spells; back = reads_size }
-
-pub keeps_rfc822_text : AttributeReadsBack msg_att_rfc822_text
-keeps_rfc822_text = record { spelled = rfc822_text_spells; back = reads_text }
-
-pub keeps_uid : AttributeReadsBack msg_att_uid
-keeps_uid = record { spelled = uid_spells; back = reads_uid }
-
-pub keeps_gmail_labels : AttributeReadsBack msg_att_gmail_labels
-keeps_gmail_labels = record { spelled = labels_spell; back = reads_labels }
-
-pub keeps_gmail_msgid : AttributeReadsBack msg_att_gmail_msgid
-keeps_gmail_msgid = record { spelled = msgid_spell; back = reads_msgid }
-
-pub keeps_gmail_thrid : AttributeReadsBack msg_att_gmail_thrid
-keeps_gmail_thrid = record { spelled = thrid_spell; back = reads_thrid }
-
-pub keeps_email_id : AttributeReadsBack msg_att_email_id
-keeps_email_id = record { spelled = email_id_spells; back = reads_email_id }
-
-pub keeps_thread_id : AttributeReadsBack msg_att_thread_id
-keeps_thread_id = record { spelled = thread_id_spells; back = reads_thread_id }
-
-pub keeps_save_date : AttributeReadsBack msg_att_save_date
-keeps_save_date = record { spelled = save_date_spells; back = reads_save_date }
-
-pub keeps_unknown : AttributeReadsBack msg_att_unknown
-keeps_unknown = record { spelled = unknown_spells; back = reads_unknown }
-
 pub keeps_attribute : AttributeReadsBack attribute
 keeps_attribute = record { spelled = attribute_spells; back = reads_attribute }
 
