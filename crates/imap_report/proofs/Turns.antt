@@ -92,11 +92,11 @@ line_same : (rest after more : Bytes) → length (rest ++ more) - length (after 
 line_same rest after more = omega (arith, length-append rest more, length-append after more)
 
 -- one line
-pub told_line : (w : Words) (m after text : Bytes) (x : Item) (old new : Option Bytes) → (meaning (items w.on_denied)).yields m x after → text ≡ line (w.of_item x (length m - length after)) → Appends old new text → Told w m after old new
-told_line w m after text x old new y t p =
+pub told_line : (w : Words) (m after text said : Bytes) (x : Item) (old new : Option Bytes) → (meaning (items w.on_denied)).yields m x after → text ≡ said → said ≡ line (w.of_item x (length m - length after)) → Appends old new text → Told w m after old new
+told_line w m after text said x old new y same t p =
     record {
       text = text;
-      completes = λ more report f h. subst (λ k. IsReport w (m ++ more) (k ++ report) f) (ap (λ n. line (w.of_item x n)) (line_same m after more) ∙ sym t) (next (m ++ more) x (after ++ more) report f ((is_stable (items w.on_denied)).yields_more m x after more y) h);
+      completes = λ more report f h. subst (λ k. IsReport w (m ++ more) (k ++ report) f) (ap (λ n. line (w.of_item x n)) (line_same m after more) ∙ sym (same ∙ t)) (next (m ++ more) x (after ++ more) report f ((is_stable (items w.on_denied)).yields_more m x after more y) h);
       written = p;
       within = let lt = shorter w.on_denied m after x y in omega arith;
     }
@@ -132,12 +132,12 @@ pub told_front : (w : Words) (m rest : Bytes) (old now : Option Bytes) → Told 
 told_front w m rest old now so_far = told_begun w m rest old now now so_far (nothing_begun w rest now)
 
 -- a beginning of a line
-pub line_begun : (w : Words) (m after text : Bytes) (x : Item) (old new : Option Bytes) → (meaning (items w.on_denied)).yields m x after → text ≡ line (w.of_item x (length m - length after)) → AppendsFront old new text → Begins w old new m
-line_begun w m after text x old new y t p =
+pub line_begun : (w : Words) (m after text said : Bytes) (x : Item) (old new : Option Bytes) → (meaning (items w.on_denied)).yields m x after → text ≡ said → said ≡ line (w.of_item x (length m - length after)) → AppendsFront old new text → Begins w old new m
+line_begun w m after text said x old new y same t p =
     let more = some_report w after in (
       text ++ more.0,
       more.1,
-      subst (λ k. IsReport w m (k ++ more.0) more.1) (sym t) (next m x after more.0 more.1 y more.2),
+      subst (λ k. IsReport w m (k ++ more.0) more.1) (sym (same ∙ t)) (next m x after more.0 more.1 y more.2),
       (p.0, p.1 ++ more.0, ap (λ (k : Bytes). k ++ more.0) p.2 ∙ append_assoc p.0 p.1 more.0, behind_some p.1 more.0 p.3, p.4),
     )
 

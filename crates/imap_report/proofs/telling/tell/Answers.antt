@@ -1,4 +1,3 @@
-use Rattle.std.proofs.Common.{◌∙◌}
 use Rattle.imap_report.proofs.Items.{shorter}
 use Rattle.imap_report.proofs.Turns.{told_front, told_on, told_line, told_begun, line_begun, on_err}
 use Rattle.imap_report.proofs.telling.tell.Goals as goal
@@ -10,7 +9,7 @@ pub turns-preserved : goal.turns-preserved
 turns-preserved g c =
     let h = rw c.in-Line.is at c.in_ok-text.ensures in
     record {
-      told = told_on _ _ _ _ _ _ _ c.turns.invariant.told (told_line _ _ _ _ h.0 _ _ h.1 (c.as_bytes.ensures.value ∙ h.2) c.in_ok-write_all-in-Line.ensures.ok);
+      told = told_on _ _ _ _ _ _ _ c.turns.invariant.told (told_line _ _ _ _ _ h.0 _ _ h.1 c.as_bytes.ensures.value h.2 c.in_ok-write_all-in-Line.ensures.ok);
       on = c.in_ok-write_all-in-Line.ensures.failed;
     }
 
@@ -20,4 +19,4 @@ turns-smaller g c = let h = rw c.in-Line.is at c.in_ok-text.ensures in shorter _
 pub returns-in_err-write_all-in-Line-clause-begun : goal.returns-in_err-write_all-in-Line-clause-begun
 returns-in_err-write_all-in-Line-clause-begun g c =
     let h = rw c.in-Line.is at c.in_ok-text.ensures in
-    on_err _ (told_begun _ _ _ _ _ _ c.turns.invariant.told (line_begun _ _ _ _ h.0 _ _ h.1 (c.as_bytes.ensures.value ∙ h.2) c.in_err-write_all-in-Line.ensures.front))
+    on_err _ (told_begun _ _ _ _ _ _ c.turns.invariant.told (line_begun _ _ _ _ _ h.0 _ _ h.1 c.as_bytes.ensures.value h.2 c.in_err-write_all-in-Line.ensures.front))
