@@ -1,6 +1,6 @@
-//! Reads standard input to its end, and writes a line of JSON for each response as soon as the bytes read tell it, and a
-//! last line on what is left, in the form that `docs/JSON.md` says. The exit status is 0, 2 or 3 by that line (`end`,
-//! `waits`, `denied`), and 1 after a fault, or where the arguments are other than none or `--skip`.
+//! Reads standard input to its end, and writes a line of JSON for each response as soon as the bytes read tell it,
+//! and a last line on what is left, in the form that `docs/JSON.md` says. The exit status is 0, 2 or 3 by that line
+//! (`end`, `waits`, `denied`), and 1 after a fault, or where the arguments are other than none or `--skip`.
 //!
 //! With `--skip` a line that is denied is skipped and told, and what is behind it is read.
 #![tactic(auto)]

@@ -25,9 +25,10 @@ pub fn exit_of(outcome: Result<Finish, Fault>) -> ExitCode
     }
 }
 
-/// Reads the source and writes the report of its bytes in these words as they come, to the end where no fault stops it. The exit
-/// status tells how that ended; it is 1 after any fault, and wherever a device failed. After a fault it prints
-/// `fault` on standard error, and what was written is a beginning of the report, and never all of it. It takes memory.
+/// Reads the source and writes the report of its bytes in these words as they come, to the end where no fault stops
+/// it. The exit status tells how that ended; it is 1 after any fault, and wherever a device failed. After a fault it
+/// prints `fault` on standard error, and what was written is a beginning of the report, and never all of it. It takes
+/// memory.
 ///
 /// Neither device may have failed before. A sink has no flush, so a writer that buffers has to be flushed behind the
 /// call.

@@ -1,7 +1,7 @@
 //! The report of a stream of responses: a line for each one, and a last line on what is left.
 //!
-//! [`run`] reads a source piece by piece and writes the report of its bytes to a sink as they come; [`cat`] is the whole
-//! program over any two devices, and tells by its exit status how the run ended. The words of a report are a
+//! [`run`] reads a source piece by piece and writes the report of its bytes to a sink as they come; [`cat`] is the
+//! whole program over any two devices, and tells by its exit status how the run ended. The words of a report are a
 //! [`Wording`]: [`Plain`] are those of `imap_cat`.
 #![tactic(auto)]
 

@@ -9,9 +9,9 @@ use crate::wording::{OnDenied, Wording};
 use imap_proto::Response;
 use std::alloc::{AllocError, Global};
 
-/// A name and a number in each line: of a response its kind in lower case and how many bytes it has, as `fetch 12`; of a
-/// skipped line `skipped` and how many; of the end `waiting` or `denied` and how many bytes are left, or `end` where none
-/// is.
+/// A name and a number in each line: of a response its kind in lower case and how many bytes it has, as `fetch 12`;
+/// of a skipped line `skipped` and how many; of the end `waiting` or `denied` and how many bytes are left, or `end`
+/// where none is.
 #[derive(Clone, Copy, Debug, PartialEq, Eq)]
 pub struct Plain {
     /// What is done with a denied line.

@@ -78,9 +78,10 @@ fn is_over(end: End, on_denied: OnDenied) -> bool
     matches!((end, on_denied), (End::Denied, OnDenied::Stop))
 }
 
-// Reads all input piece by piece, and writes the line of each thing that stands in it as soon as the bytes read tell it.
-// It tells how many bytes are left behind these, and why they give no more; and holds only what waits, or the denied line
-// that isn't whole. The reader failed exactly where the fault is `Read`, and the writer exactly where it is `Write`.
+// Reads all input piece by piece, and writes the line of each thing that stands in it as soon as the bytes read tell
+// it. It tells how many bytes are left behind these, and why they give no more; and holds only what waits, or the
+// denied line that isn't whole. The reader failed exactly where the fault is `Read`, and the writer exactly where it
+// is `Write`.
 fn tell_items<T: Wording, R: Source, W: Sink>(
     alloc: Global,
     wording: &T,
@@ -118,10 +119,10 @@ fn tell_items<T: Wording, R: Source, W: Sink>(
     Err(Fault::TooLong)
 }
 
-/// Reads all input piece by piece and writes its report in these words: a line for each response, and for each line that
-/// is skipped, as soon as the bytes read tell it, and a last line that tells what is left. It takes memory for a piece,
-/// for what waits, and for a response. After a `Fault` what was written is a beginning of the report of what was read, and
-/// never all of it.
+/// Reads all input piece by piece and writes its report in these words: a line for each response, and for each line
+/// that is skipped, as soon as the bytes read tell it, and a last line that tells what is left. It takes memory for a
+/// piece, for what waits, and for a response. After a `Fault` what was written is a beginning of the report of what
+/// was read, and never all of it.
 ///
 /// `Read`: the reader failed. `Write`: the writer failed. `TooLong`: at least 2^64 - 1 bytes were read.
 /// `OutOfMemory`: memory ran out. Where a device failed no other answer comes than its fault. Neither device may have

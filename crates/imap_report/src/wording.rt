@@ -15,8 +15,8 @@ use std::alloc::{AllocError, Global};
 pub enum OnDenied {
     /// It counts the bytes that are left, and ends.
     Stop,
-    /// It skips the logical line in front, as `Feed::skip_line` of `imap_proto` does, and goes on behind that. Where the
-    /// input ends before the line is whole, it ends.
+    /// It skips the logical line in front, as `Feed::skip_line` of `imap_proto` does, and goes on behind that. Where
+    /// the input ends before the line is whole, it ends.
     Skip,
 }
 

@@ -9,7 +9,8 @@ use std::alloc::Global;
 
 /// A command that selects the mailbox of this name (RFC 3501, section 6.3.1), whatever bytes the name has.
 ///
-/// `CarriageReturn`, `LineFeed`, `Nul`: the first such byte of the name. It takes memory; `OutOfMemory`: memory ran out.
+/// `CarriageReturn`, `LineFeed`, `Nul`: the first such byte of the name. It takes memory; `OutOfMemory`: memory ran
+/// out.
 pub fn selecting(alloc: Global, mailbox: &str) -> Result<Command, BuildError>
     ensures judged { Judges (refusal mailbox.now) result }
     ensures text { IfOk result (λ command.

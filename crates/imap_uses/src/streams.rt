@@ -13,8 +13,8 @@ use imap_proto::stream::{Feed, FeedError};
 /// Feeds a piece, and gives the response that stands in front then: `None` where more bytes are needed. What the feed
 /// holds afterwards is what stands behind that response.
 ///
-/// `Denied`: no response begins with what the feed holds then. It takes memory; `OutOfMemory`: memory ran out, and the piece
-/// may have been fed.
+/// `Denied`: no response begins with what the feed holds then. It takes memory; `OutOfMemory`: memory ran out, and
+/// the piece may have been fed.
 pub fn take(feed: &mut Feed, piece: &[u8]) -> Result<Option<Response<'static>>, FeedError>
     ensures given { IfOk result (λ given. Gave (feed.old ++ piece.now) given feed.new) }
     ensures denied { IfErr result (λ e.
