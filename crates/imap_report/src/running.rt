@@ -1,6 +1,6 @@
 //! Runs: input is read piece by piece, and its report is written as its bytes come.
 
-ghost use Rattle.std.specs.Prelude.{◌≡◌, ℕ, ◌+◌, ◌-◌, ◌^◌, ◌≤◌, ◌⊎◌, ◌++◌, List, length, true, false, IfOk, OnOk, OnErr, IfErr};
+ghost use Rattle.std.specs.Prelude.{◌≡◌, ◌↔◌, ℕ, ◌+◌, ◌-◌, ◌^◌, ◌≤◌, ◌⊎◌, ◌++◌, List, length, true, false, IfOk, OnOk, OnErr, IfErr};
 ghost use Rattle.imap_proto.specs.declared.stream.End.TheVariants.{Denied};
 ghost use Rattle.imap_report.specs.declared.wording.OnDenied.TheVariants.{Stop};
 ghost use Rattle.std.specs.Io.KnownBytes.{Consumes, IsAtEnd};
@@ -73,7 +73,7 @@ fn count_on<R: Source>(reader: &mut R, counted: usize) -> Result<usize, Fault>
 
 // Whether nothing more is told of what was denied.
 fn is_over(end: End, on_denied: OnDenied) -> bool
-    ensures { result ≡ true → (end ≡ Denied) × (on_denied ≡ Stop) }
+    ensures { (result ≡ true) ↔ ((end ≡ Denied) × (on_denied ≡ Stop)) }
 {
     matches!((end, on_denied), (End::Denied, OnDenied::Stop))
 }

@@ -54,7 +54,7 @@ pub returns-then-is_over-clause-told : goal.returns-then-is_over-clause-told
 returns-then-is_over-clause-told g c =
     let so_far = some_read _ _ _ _ _ _ _ _ _ _ c.pieces.invariant.so_far c.in_ok-n.ensures.taken c.if-n-eq0.false in
     let told = lines_told _ _ _ _ _ _ _ _ _ so_far c.in_ok-end.ensures.told in
-    let over = c.is_over.ensures c.if-is_over.true in
+    let over = c.is_over.ensures.0 c.if-is_over.true in
     let read = c.in_ok-left.ensures.read in
     ends_denied _ _ _ _ _ _ c.tell.new.feed read.0 _ _ told (sym c.on_denied.ensures ∙ over.1) (subst (EndsAs c.tell.new.feed) over.0 c.in_ok-end.ensures.ends) read.1
     (read.2 ∙ ap (λ k. length k + length read.0) c.held-then-is_over.ensures) c.in_ok-left.ensures.end
