@@ -8,21 +8,21 @@ use lib.Utf8.{encode}
 use Rattle.std.proofs.Common.{◌≡◌, refl}
 use Rattle.imap_grammar.specs.Text.{as_text}
 use Rattle.imap_grammar.specs.Ranges.{fresh}
-use Rattle.imap_items.specs.Capabilities as capability
-use Rattle.imap_items.specs.UidSets as member
-use Rattle.imap_items.specs.declared.types.statuses.Status.TheVariants as status
-use Rattle.imap_items.specs.declared.types.rights.AclRight.TheVariants as right
+use Rattle.imap_shared.specs.Capabilities as capability
+use Rattle.imap_shared.specs.UidSets as member
+use Rattle.imap_shared.specs.declared.types.statuses.Status.TheVariants as status
+use Rattle.imap_shared.specs.declared.types.rights.AclRight.TheVariants as right
 use Rattle.imap_data.specs.Codes as code
 use Rattle.imap_data.specs.Names as name
 use Rattle.imap_data.specs.DatumValues as datum
 use Rattle.imap_data.specs.declared.types.counts.StatusAttribute.TheVariants as item
 use Rattle.imap_extensions.specs.Quotas as resource
-use Rattle.imap_shapes.specs.ExtensionValues as extension
-use Rattle.imap_shapes.specs.declared.shapes.fields.ContentEncoding.TheVariants as encoding
-use Rattle.imap_shapes.specs.BodyValues as body
+use Rattle.imap_body_types.specs.ExtensionValues as extension
+use Rattle.imap_body_types.specs.declared.shapes.fields.ContentEncoding.TheVariants as encoding
+use Rattle.imap_body_types.specs.BodyValues as body
 use Rattle.imap_sections.specs.SectionValues as path
 use Rattle.imap_sections.specs.declared.types.sections.MessageSection.TheVariants as section
-use Rattle.imap_attributes.specs.AttributeValues as attribute
+use Rattle.imap_body.specs.AttributeValues as attribute
 use Rattle.imap_proto.specs.Responses as response
 use Rattle.imap_proto.specs.LineTexts.{canonical_bytes}
 """

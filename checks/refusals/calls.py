@@ -1,10 +1,10 @@
 """The public calls that may answer want of memory, read off the sources.
 
 A call may answer it where its answer names `AllocError` or an error that has the variant `OutOfMemory`, or where it is
-a reader's answer (`Err` has the variant `Failure`) and the call is given the memory to take, `alloc`.
+a reader's answer (`Err` has the variant `Failure`) and the call is given the memory to take, as `alloc` or in an `Input`.
 
 A call is named by its crate, the module `at` where it stands there, its type, and its name:
-`imap_items::at::flag_list`, `imap_data::MailboxDatum::clone`. The type has its parameters where calls of one name differ in them alone.
+`imap_shared::at::flag_list`, `imap_data::MailboxDatum::clone`. The type has its parameters where calls of one name differ in them alone.
 """
 
 import re
@@ -70,7 +70,7 @@ def calls(top):
         at = "at" in path.relative_to(top / "crates" / crate / "src").parts
         for function in FUNCTION.finditer(text):
             parameters, answer = signature(text, function.start())
-            if errors.search(answer) or READS.search(answer) and "alloc: Global" in parameters:
+            if errors.search(answer) or READS.search(answer) and re.search(r"\balloc: Global|\bInput<", parameters):
                 of = owner(text, function.group(1), function.start())
                 found.append(Call(crate, at, of, function.group(2), parameters))
     return found

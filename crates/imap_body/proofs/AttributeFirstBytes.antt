@@ -11,10 +11,10 @@ use Rattle.imap_grammar.specs.Tags.{same_letter, word, maybe_space}
 use Rattle.imap_grammar.proofs.Starts.{AtAny, AtOther, waits_without, by_any, by_other}
 use Rattle.imap_bytes.specs.Numbers.{number}
 use Rattle.imap_bytes.specs.Strings.{atom}
-use Rattle.imap_items.specs.Gmail.{gmail_label_list, gmail_msgid, gmail_thrid}
+use Rattle.imap_shared.specs.Gmail.{gmail_label_list, gmail_msgid, gmail_thrid}
 use Rattle.imap_envelopes.specs.Envelopes.{byte_string}
-use Rattle.imap_structure.specs.Bodies.{body_structure}
-use Rattle.imap_attributes.specs.AttributeValues.{AttributeValue, BodyStructure, Rfc822, Rfc822Header, Rfc822Size, Rfc822Text}
+use Rattle.imap_bodystructure.specs.Bodies.{body_structure}
+use Rattle.imap_body.specs.AttributeValues.{AttributeValue, BodyStructure, Rfc822, Rfc822Header, Rfc822Size, Rfc822Text}
 use Rattle.imap_body.specs.Attributes.{attribute, section_contents, structure, body_attribute, whole_message, message_header, message_size, message_text, message_part, message_attribute, msg_att_body_section, msg_att_body_structure, msg_att_envelope, msg_att_internal_date, msg_att_flags, msg_att_mod_seq, msg_att_rfc822, msg_att_rfc822_header, msg_att_rfc822_size, msg_att_rfc822_text, msg_att_uid, msg_att_gmail_labels, msg_att_gmail_msgid, msg_att_gmail_thrid, msg_att_email_id, msg_att_thread_id, msg_att_save_date, msg_att_unknown, attribute_of_b, attribute_of_e, attribute_of_f, attribute_of_i, attribute_of_m, attribute_of_r, attribute_of_s, attribute_of_t, attribute_of_u, attribute_of_x}
 use Rattle.imap_body.proofs.Factoring.{same_or, itself, same_behind, front_once, front_once3, grouped, word_parts}
 

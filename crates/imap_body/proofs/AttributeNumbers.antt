@@ -11,8 +11,8 @@ use Rattle.imap_grammar.proofs.Agreement.{agrees}
 use Rattle.imap_grammar.proofs.Reading.{raw_on, written_on, after-on, before-on, tag-on, denies-gives, denies-after, denies-tag, ends_item-in}
 use Rattle.imap_bytes.specs.Numbers.{number_below, number, number_64}
 use Rattle.imap_bytes.proofs.ReadingTexts.{not_digit, number_on}
-use Rattle.imap_items.specs.Gmail.{gmail_label_list, gmail_msgid, gmail_thrid}
-use Rattle.imap_attributes.specs.AttributeValues.{AttributeValue, ModSeq, Rfc822Size, Uid, GmailMsgId, GmailThrId}
+use Rattle.imap_shared.specs.Gmail.{gmail_label_list, gmail_msgid, gmail_thrid}
+use Rattle.imap_body.specs.AttributeValues.{AttributeValue, ModSeq, Rfc822Size, Uid, GmailMsgId, GmailThrId}
 use Rattle.imap_body.specs.Attributes.{msg_att_mod_seq, msg_att_rfc822, msg_att_rfc822_header, msg_att_rfc822_size, msg_att_rfc822_text, msg_att_uid, msg_att_gmail_labels, msg_att_gmail_msgid, msg_att_gmail_thrid, msg_att_unknown, attribute, attribute_of_m, attribute_of_u, attribute_of_x}
 use Rattle.imap_body.specs.AttributeTexts.{ReadsEachBelow}
 use Rattle.imap_body.proofs.AttributeFirstBytes.{of_message, attribute_in_arm, arm_m, arm_u, arm_x}

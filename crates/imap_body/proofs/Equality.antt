@@ -9,11 +9,11 @@ use Rattle.imap_grammar.specs.Equality.{Tells}
 use Rattle.imap_grammar.proofs.Seen.{text_tells, retold}
 use Rattle.imap_grammar.specs.declared.at.span.Span.{Span}
 use Rattle.imap_grammar.specs.contracts.at.span.SpanPartialEq.TheImpl as span_eq
-use Rattle.imap_shapes.specs.Spans.{bytes_of}
-use Rattle.imap_shapes.specs.declared.spans.SpannedText.{SpannedText}
-use Rattle.imap_shapes.specs.declared.spans.SpannedText.TheVariants as spanned
-use Rattle.imap_shapes.specs.contracts.spans.SpannedTextPartialEq.TheImpl as text_eq
-use Rattle.imap_shapes.proofs.Equality.{field, named_tell}
+use Rattle.imap_body_types.specs.Spans.{bytes_of}
+use Rattle.imap_body_types.specs.declared.spans.SpannedText.{SpannedText}
+use Rattle.imap_body_types.specs.declared.spans.SpannedText.TheVariants as spanned
+use Rattle.imap_body_types.specs.contracts.spans.SpannedTextPartialEq.TheImpl as text_eq
+use Rattle.imap_body_types.proofs.Equality.{field, named_tell}
 use Rattle.imap_body.specs.SpannedAttributes.{place_of, place_of_text}
 
 pub slices_tell : Tells (λ (x y : CowSlice ℕ Global). pointwise nat_eq (cow_slice_items x) (cow_slice_items y)) (λ x. lent_text (bytes_of x))

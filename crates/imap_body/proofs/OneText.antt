@@ -4,18 +4,18 @@ use Rattle.std.specs.Option.{option_map}
 use Rattle.imap_grammar.specs.Text.{lent_text}
 use Rattle.imap_grammar.specs.Pieces.{◌then◌, words, space, number_text, literal_text, plain}
 use Rattle.imap_grammar.proofs.OneText.{Keeps, each_keeps, list_keeps, ntext_keeps}
-use Rattle.imap_items.specs.GmailTexts.{canonical_label, canonical_label_list}
-use Rattle.imap_shapes.specs.declared.shapes.fields.ContentEncoding.TheVariants.{SevenBit, EightBit, Binary, Base64, QuotedPrintable, Other}
-use Rattle.imap_shapes.specs.ExtensionValues.{Num, Str, Listed, no_extensions, one_extension}
-use Rattle.imap_shapes.specs.BodyValues.{Basic, TextBody, Message, Multipart, no_bodies, one_body}
-use Rattle.imap_shapes.specs.Lent.{lent_address, lent_addresses, lent_envelope, lent_pair, lent_params, lent_encoding, lent_fields, lent_disposition, lent_languages, lent_extension, lent_extensions, lent_last, lent_ext_1part, lent_ext_mpart, lent_body, lent_bodies}
+use Rattle.imap_shared.specs.GmailTexts.{canonical_label, canonical_label_list}
+use Rattle.imap_body_types.specs.declared.shapes.fields.ContentEncoding.TheVariants.{SevenBit, EightBit, Binary, Base64, QuotedPrintable, Other}
+use Rattle.imap_body_types.specs.ExtensionValues.{Num, Str, Listed, no_extensions, one_extension}
+use Rattle.imap_body_types.specs.BodyValues.{Basic, TextBody, Message, Multipart, no_bodies, one_body}
+use Rattle.imap_body_types.specs.Lent.{lent_address, lent_addresses, lent_envelope, lent_pair, lent_params, lent_encoding, lent_fields, lent_disposition, lent_languages, lent_extension, lent_extensions, lent_last, lent_ext_1part, lent_ext_mpart, lent_body, lent_bodies}
 use Rattle.imap_envelopes.specs.EnvelopeTexts.{canonical_address, canonical_addresses, canonical_envelope}
-use Rattle.imap_structure.specs.FieldTexts.{canonical_pair, canonical_params, canonical_encoding, canonical_fields}
-use Rattle.imap_structure.specs.ExtensionTexts.{canonical_disposition, canonical_languages, canonical_extension, canonical_members, canonical_further, canonical_last, canonical_ext_1part, canonical_ext_mpart}
-use Rattle.imap_structure.specs.BodyTexts.{fields_in, ext_1part_in, ext_mpart_in, in_brackets, canonical_inside, canonical_each, canonical_body}
+use Rattle.imap_bodystructure.specs.FieldTexts.{canonical_pair, canonical_params, canonical_encoding, canonical_fields}
+use Rattle.imap_bodystructure.specs.ExtensionTexts.{canonical_disposition, canonical_languages, canonical_extension, canonical_members, canonical_further, canonical_last, canonical_ext_1part, canonical_ext_mpart}
+use Rattle.imap_bodystructure.specs.BodyTexts.{fields_in, ext_1part_in, ext_mpart_in, in_brackets, canonical_inside, canonical_each, canonical_body}
 use Rattle.imap_sections.specs.SectionTexts.{canonical_section}
-use Rattle.imap_attributes.specs.AttributeValues.{BodySection, BodyStructure, Envelope, Flags, InternalDate, ModSeq, Rfc822, Rfc822Header, Rfc822Size, Rfc822Text, Uid, GmailLabels, GmailMsgId, GmailThrId, EmailId, ThreadId, SaveDate, Unknown}
-use Rattle.imap_attributes.specs.Changed.{lent_attribute}
+use Rattle.imap_body.specs.AttributeValues as said
+use Rattle.imap_body.specs.Changed.{lent_attribute}
 use Rattle.imap_body.specs.AttributeTexts.{canonical_origin, canonical_nid, canonical_attribute, canonical_attributes}
 
 -- ---- envelopes
@@ -109,24 +109,24 @@ nid None = refl
 nid (Some t) = refl
 
 pub attribute : Keeps lent_attribute canonical_attribute
-attribute (BodySection path origin contents) = ap (λ x. words "BODY" then canonical_section path then canonical_origin origin then space then x) (ntext_keeps contents)
-attribute (BodyStructure b) = ap (λ x. words "BODYSTRUCTURE " then x) (body b)
-attribute (Envelope e) = ap (λ x. words "ENVELOPE " then x) (envelope e)
-attribute (Flags fs) = ap (λ x. words "FLAGS " then x) (list_keeps lent_text plain (λ t. refl) fs)
-attribute (InternalDate t) = refl
-attribute (ModSeq n) = refl
-attribute (Rfc822 t) = ap (λ x. words "RFC822 " then x) (ntext_keeps t)
-attribute (Rfc822Header t) = ap (λ x. words "RFC822.HEADER " then x) (ntext_keeps t)
-attribute (Rfc822Size n) = refl
-attribute (Rfc822Text t) = ap (λ x. words "RFC822.TEXT " then x) (ntext_keeps t)
-attribute (Uid n) = refl
-attribute (GmailLabels ts) = labels ts
-attribute (GmailMsgId n) = refl
-attribute (GmailThrId n) = refl
-attribute (EmailId t) = refl
-attribute (ThreadId t) = ap (λ x. words "THREADID " then x) (nid t)
-attribute (SaveDate t) = ap (λ x. words "SAVEDATE " then x) (ntext_keeps t)
-attribute Unknown = refl
+attribute (said.BodySection path origin contents) = ap (λ x. words "BODY" then canonical_section path then canonical_origin origin then space then x) (ntext_keeps contents)
+attribute (said.BodyStructure b) = ap (λ x. words "BODYSTRUCTURE " then x) (body b)
+attribute (said.Envelope e) = ap (λ x. words "ENVELOPE " then x) (envelope e)
+attribute (said.Flags fs) = ap (λ x. words "FLAGS " then x) (list_keeps lent_text plain (λ t. refl) fs)
+attribute (said.InternalDate t) = refl
+attribute (said.ModSeq n) = refl
+attribute (said.Rfc822 t) = ap (λ x. words "RFC822 " then x) (ntext_keeps t)
+attribute (said.Rfc822Header t) = ap (λ x. words "RFC822.HEADER " then x) (ntext_keeps t)
+attribute (said.Rfc822Size n) = refl
+attribute (said.Rfc822Text t) = ap (λ x. words "RFC822.TEXT " then x) (ntext_keeps t)
+attribute (said.Uid n) = refl
+attribute (said.GmailLabels ts) = labels ts
+attribute (said.GmailMsgId n) = refl
+attribute (said.GmailThrId n) = refl
+attribute (said.EmailId t) = refl
+attribute (said.ThreadId t) = ap (λ x. words "THREADID " then x) (nid t)
+attribute (said.SaveDate t) = ap (λ x. words "SAVEDATE " then x) (ntext_keeps t)
+attribute said.Unknown = refl
 
 pub attributes : Keeps (map lent_attribute) canonical_attributes
 attributes = list_keeps lent_attribute canonical_attribute attribute

@@ -7,9 +7,9 @@ use Rattle.imap_grammar.specs.declared.at.span.Span.{Span}
 use Rattle.imap_grammar.specs.Positions.{named_in}
 use Rattle.imap_grammar.proofs.Agreement.{agrees, shrinks}
 use Rattle.imap_grammar.proofs.Sliced.{ended}
-use Rattle.imap_items.specs.Spanned.{decoded_in}
-use Rattle.imap_shapes.specs.declared.spans.SpannedText.TheVariants.{Part}
-use Rattle.imap_shapes.specs.Spans.{text_in}
+use Rattle.imap_shared.specs.Spanned.{decoded_in}
+use Rattle.imap_body_types.specs.declared.spans.SpannedText.TheVariants.{Part}
+use Rattle.imap_body_types.specs.Spans.{text_in}
 
 -- what a reader of k behind p left, as a position of m, where k is m
 pub placed : {V : Type 0} (r : Rule V) (m k left : Bytes) (p : ℕ) (v : V) → k ≡ m → p ≤ length m → step r (drop p k) ≡ Ok (left, v)

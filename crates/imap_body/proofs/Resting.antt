@@ -6,15 +6,15 @@ use Rattle.imap_grammar.specs.Rule.{run1, gives}
 use Rattle.imap_grammar.specs.Step.{step}
 use Rattle.imap_grammar.specs.Text.{Bytes, Text, as_text, decoded}
 use Rattle.imap_grammar.proofs.Reading.{test-has}
-use Rattle.imap_items.proofs.Spanned.{utf8_decoded}
-use Rattle.imap_shapes.specs.Spans.{Lookup, Rests}
-use Rattle.imap_shapes.specs.declared.shapes.envelopes.Envelope.{Envelope as Kept}
-use Rattle.imap_shapes.specs.declared.shapes.bodies.BodyStructure.{BodyStructure as Structure}
-use Rattle.imap_shapes.specs.EnvelopeValues.{envelope_seen}
-use Rattle.imap_shapes.proofs.Places.{part_rests}
-use Rattle.imap_shapes.specs.BodyValues.{boxed_seen}
-use Rattle.imap_attributes.specs.declared.attributes.AttributeParts.TheVariants as parts
-use Rattle.imap_attributes.specs.AttributeValues.{BodyStructure, Envelope, parts_said}
+use Rattle.imap_shared.proofs.Spanned.{utf8_decoded}
+use Rattle.imap_body_types.specs.Spans.{Lookup, Rests}
+use Rattle.imap_body_types.specs.declared.shapes.envelopes.Envelope.{Envelope as Kept}
+use Rattle.imap_body_types.specs.declared.shapes.bodies.BodyStructure.{BodyStructure as Structure}
+use Rattle.imap_body_types.specs.EnvelopeValues.{envelope_seen}
+use Rattle.imap_body_types.proofs.Places.{part_rests}
+use Rattle.imap_body_types.specs.BodyValues.{boxed_seen}
+use Rattle.imap_body.specs.declared.attributes.AttributeParts.TheVariants as parts
+use Rattle.imap_body.specs.AttributeValues.{BodyStructure, Envelope, parts_said}
 use Rattle.imap_body.specs.Attributes.{id_bytes}
 
 pub structure_rests : {S B : Type 0} (text : Lookup → S → Text) (bytes : Lookup → B → Text) (q : ℕ) (b : Box (Structure S B) Global) → Rests (λ n x. boxed_seen (text n) (bytes n) x) q b → Rests (λ n x. parts_said text bytes n x) q (parts.BodyStructure b)

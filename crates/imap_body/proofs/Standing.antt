@@ -9,11 +9,11 @@ use Rattle.imap_grammar.specs.Text.{Bytes, Text}
 use Rattle.imap_grammar.specs.declared.at.span.Span.{Span}
 use Rattle.imap_grammar.proofs.Agreement.{agrees}
 use Rattle.imap_grammar.proofs.Positions.{stepped, named_in_front}
-use Rattle.imap_shapes.specs.declared.spans.SpannedText.{SpannedText}
-use Rattle.imap_shapes.specs.Spans.{Lookup, Rests, bytes_in, text_in}
-use Rattle.imap_shapes.proofs.Places.{front_alike}
+use Rattle.imap_body_types.specs.declared.spans.SpannedText.{SpannedText}
+use Rattle.imap_body_types.specs.Spans.{Lookup, Rests, bytes_in, text_in}
+use Rattle.imap_body_types.proofs.Places.{front_alike}
 use Rattle.imap_body.specs.declared.spanned_attribute.SpannedAttribute.{SpannedAttribute}
-use Rattle.imap_attributes.specs.AttributeValues.{AttributeKept, AttributeValue, parts_in, parts_said}
+use Rattle.imap_body.specs.AttributeValues.{AttributeKept, AttributeValue, parts_in, parts_said}
 use Rattle.imap_body.specs.Attributes.{attribute}
 use Rattle.imap_body.specs.SpannedAttributes.{attribute_in, attribute_said, Within, StandsAt, EndsAt, TurnsAt, InTurn, WithinItsSpan, Stands, InFront, KeepsAt}
 

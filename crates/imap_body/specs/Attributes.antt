@@ -11,13 +11,14 @@ use Rattle.imap_grammar.specs.Lists.{nonempty_list_of}
 use Rattle.imap_bytes.specs.Numbers.{number, number_64}
 use Rattle.imap_bytes.specs.Strings.{nil_or, nstring, atom, in_utf8}
 use Rattle.imap_bytes.specs.Texts.{string_utf8, nstring_utf8}
-use Rattle.imap_items.specs.Flags.{flag_list}
-use Rattle.imap_items.specs.Gmail.{gmail_label_list, gmail_msgid, gmail_thrid}
+use Rattle.imap_shared.specs.Flags.{flag_list}
+use Rattle.imap_shared.specs.Gmail.{gmail_label_list, gmail_msgid, gmail_thrid}
 use Rattle.imap_sections.specs.Sections.{section}
 use Rattle.imap_sections.specs.SectionValues.{PathValue}
 use Rattle.imap_envelopes.specs.Envelopes.{spaced, byte_string, envelope}
-use Rattle.imap_structure.specs.Bodies.{body_structure}
-use Rattle.imap_attributes.specs.AttributeValues.{AttributeValue, BodySection, BodyStructure, Envelope, Flags, InternalDate, ModSeq, Rfc822, Rfc822Header, Rfc822Size, Rfc822Text, Uid, GmailLabels, GmailMsgId, GmailThrId, EmailId, ThreadId, SaveDate, Unknown}
+use Rattle.imap_bodystructure.specs.Bodies.{body_structure}
+use Rattle.imap_body.specs.AttributeValues.{AttributeValue}
+use Rattle.imap_body.specs.AttributeValues as said
 
 -- ---- bodies
 
@@ -26,7 +27,7 @@ unfoldable pub origin : Rule ℕ
 origin = tag "<" ▹ number ◃ tag ">"
 
 abbrev pub section_of : Option PathValue × (Option ℕ × Option Text) → AttributeValue
-section_of (section, (index, contents)) = BodySection section index contents
+section_of (section, (index, contents)) = said.BodySection section index contents
 
 -- section ["<" number ">"] SP nstring
 unfoldable pub section_contents : Rule AttributeValue
@@ -38,31 +39,31 @@ msg_att_body_section = word "BODY" ▹ section_contents
 
 -- "BODYSTRUCTURE" SP body
 unfoldable pub msg_att_body_structure : Rule AttributeValue
-msg_att_body_structure = word "BODYSTRUCTURE " ▹ gives BodyStructure body_structure
+msg_att_body_structure = word "BODYSTRUCTURE " ▹ gives said.BodyStructure body_structure
 
 -- ---- messages as they are
 
 -- "RFC822" SP nstring
 unfoldable pub msg_att_rfc822 : Rule AttributeValue
-msg_att_rfc822 = word "RFC822 " ▹ gives Rfc822 byte_string
+msg_att_rfc822 = word "RFC822 " ▹ gives said.Rfc822 byte_string
 
 -- "RFC822.HEADER" SP nstring, maybe with one more space
 unfoldable pub msg_att_rfc822_header : Rule AttributeValue
-msg_att_rfc822_header = word "RFC822.HEADER " ▹ maybe_space ▹ gives Rfc822Header byte_string
+msg_att_rfc822_header = word "RFC822.HEADER " ▹ maybe_space ▹ gives said.Rfc822Header byte_string
 
 -- "RFC822.SIZE" SP number
 unfoldable pub msg_att_rfc822_size : Rule AttributeValue
-msg_att_rfc822_size = word "RFC822.SIZE " ▹ gives Rfc822Size number
+msg_att_rfc822_size = word "RFC822.SIZE " ▹ gives said.Rfc822Size number
 
 -- "RFC822.TEXT" SP nstring
 unfoldable pub msg_att_rfc822_text : Rule AttributeValue
-msg_att_rfc822_text = word "RFC822.TEXT " ▹ gives Rfc822Text byte_string
+msg_att_rfc822_text = word "RFC822.TEXT " ▹ gives said.Rfc822Text byte_string
 
 -- ---- the other attributes of RFC 3501
 
 -- "ENVELOPE" SP envelope
 unfoldable pub msg_att_envelope : Rule AttributeValue
-msg_att_envelope = word "ENVELOPE " ▹ gives Envelope envelope
+msg_att_envelope = word "ENVELOPE " ▹ gives said.Envelope envelope
 
 -- date-time, which may be any string
 unfoldable pub date : Rule Text
@@ -70,33 +71,33 @@ date = string_utf8
 
 -- "INTERNALDATE" SP date-time
 unfoldable pub msg_att_internal_date : Rule AttributeValue
-msg_att_internal_date = word "INTERNALDATE " ▹ gives InternalDate date
+msg_att_internal_date = word "INTERNALDATE " ▹ gives said.InternalDate date
 
 -- "FLAGS" SP "(" [flag-fetch *(SP flag-fetch)] ")", where `\*` is read too, and a space before the `)`
 unfoldable pub msg_att_flags : Rule AttributeValue
-msg_att_flags = word "FLAGS " ▹ gives Flags flag_list
+msg_att_flags = word "FLAGS " ▹ gives said.Flags flag_list
 
 -- "UID" SP uniqueid
 unfoldable pub msg_att_uid : Rule AttributeValue
-msg_att_uid = word "UID " ▹ gives Uid number
+msg_att_uid = word "UID " ▹ gives said.Uid number
 
 -- ---- attributes of extensions
 
 -- "MODSEQ" SP "(" permsg-modsequence ")"
 unfoldable pub msg_att_mod_seq : Rule AttributeValue
-msg_att_mod_seq = word "MODSEQ " ▹ gives ModSeq (tag "(" ▹ number_64 ◃ tag ")")
+msg_att_mod_seq = word "MODSEQ " ▹ gives said.ModSeq (tag "(" ▹ number_64 ◃ tag ")")
 
 -- "X-GM-LABELS" SP "(" [label *(SP label)] ")", where a space may stand before the `)`
 unfoldable pub msg_att_gmail_labels : Rule AttributeValue
-msg_att_gmail_labels = gives GmailLabels gmail_label_list
+msg_att_gmail_labels = gives said.GmailLabels gmail_label_list
 
 -- "X-GM-MSGID" SP number of 64 bits
 unfoldable pub msg_att_gmail_msgid : Rule AttributeValue
-msg_att_gmail_msgid = gives GmailMsgId gmail_msgid
+msg_att_gmail_msgid = gives said.GmailMsgId gmail_msgid
 
 -- "X-GM-THRID" SP number of 64 bits
 unfoldable pub msg_att_gmail_thrid : Rule AttributeValue
-msg_att_gmail_thrid = gives GmailThrId gmail_thrid
+msg_att_gmail_thrid = gives said.GmailThrId gmail_thrid
 
 -- the bytes of an objectid, which may be any astring-chars that are UTF-8
 unfoldable pub id_bytes : Rule Bytes
@@ -112,21 +113,21 @@ bracketed_id = tag "(" ▹ object_id ◃ tag ")"
 
 -- "EMAILID" SP "(" objectid ")"
 unfoldable pub msg_att_email_id : Rule AttributeValue
-msg_att_email_id = word "EMAILID " ▹ gives EmailId bracketed_id
+msg_att_email_id = word "EMAILID " ▹ gives said.EmailId bracketed_id
 
 -- "THREADID" SP ("(" objectid ")" / nil)
 unfoldable pub msg_att_thread_id : Rule AttributeValue
-msg_att_thread_id = word "THREADID " ▹ gives ThreadId (nil_or bracketed_id)
+msg_att_thread_id = word "THREADID " ▹ gives said.ThreadId (nil_or bracketed_id)
 
 -- "SAVEDATE" SP (date-time / nil), where the date may be any string
 unfoldable pub msg_att_save_date : Rule AttributeValue
-msg_att_save_date = word "SAVEDATE " ▹ gives SaveDate nstring_utf8
+msg_att_save_date = word "SAVEDATE " ▹ gives said.SaveDate nstring_utf8
 
 -- ---- any other attribute
 
 -- any byte but `)`
-abbrev pub is_inside : ℕ → Bool
-is_inside b = not (b == close_parenthesis)
+abbrev pub is_within_brackets : ℕ → Bool
+is_within_brackets b = not (b == close_parenthesis)
 
 -- any byte but SP and `)`
 abbrev pub is_bare : ℕ → Bool
@@ -134,7 +135,7 @@ is_bare b = not (b == space) && not (b == close_parenthesis)
 
 -- "(" *<any byte but ")"> ")"
 unfoldable pub skipped_brackets : Rule (Unit {0})
-skipped_brackets = dropped (tag "(" ▹ run0 is_inside ◃ tag ")")
+skipped_brackets = dropped (tag "(" ▹ run0 is_within_brackets ◃ tag ")")
 
 -- nstring
 unfoldable pub skipped_nstring : Rule (Unit {0})
@@ -151,7 +152,7 @@ skipped_value = skipped_brackets or skipped_nstring or skipped_bare
 
 -- atom SP and a value that is skipped
 unfoldable pub msg_att_unknown : Rule AttributeValue
-msg_att_unknown = atom ▹ sp ▹ skipped_value ▹ nothing Unknown
+msg_att_unknown = atom ▹ sp ▹ skipped_value ▹ nothing said.Unknown
 
 -- ---- attributes
 
@@ -187,7 +188,7 @@ attribute_list = nonempty_list_of attribute
 
 -- "STRUCTURE" SP body
 unfoldable pub structure : Rule AttributeValue
-structure = word "STRUCTURE " ▹ gives BodyStructure body_structure
+structure = word "STRUCTURE " ▹ gives said.BodyStructure body_structure
 
 -- "BODY" and a section or `STRUCTURE`
 unfoldable pub body_attribute : Rule AttributeValue
@@ -210,16 +211,16 @@ attribute_of_m = msg_att_mod_seq or msg_att_unknown
 
 -- SP nstring
 unfoldable pub whole_message : Rule AttributeValue
-whole_message = word " " ▹ gives Rfc822 byte_string
+whole_message = word " " ▹ gives said.Rfc822 byte_string
 
 unfoldable pub message_header : Rule AttributeValue
-message_header = word "HEADER " ▹ maybe_space ▹ gives Rfc822Header byte_string
+message_header = word "HEADER " ▹ maybe_space ▹ gives said.Rfc822Header byte_string
 
 unfoldable pub message_size : Rule AttributeValue
-message_size = word "SIZE " ▹ gives Rfc822Size number
+message_size = word "SIZE " ▹ gives said.Rfc822Size number
 
 unfoldable pub message_text : Rule AttributeValue
-message_text = word "TEXT " ▹ gives Rfc822Text byte_string
+message_text = word "TEXT " ▹ gives said.Rfc822Text byte_string
 
 -- "." ("HEADER" / "SIZE" / "TEXT")
 unfoldable pub message_part : Rule AttributeValue

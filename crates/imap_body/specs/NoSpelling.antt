@@ -1,8 +1,8 @@
 -- Values of which texts are told that do not spell them.
 use Rattle.std.specs.Prelude.{None, Some}
 use Rattle.imap_grammar.specs.Text.{Bytes, as_text}
-use Rattle.imap_shapes.specs.EnvelopeValues.{AddressValue}
-use Rattle.imap_shapes.specs.ExtensionValues.{Ext1PartValue}
+use Rattle.imap_body_types.specs.EnvelopeValues.{AddressValue}
+use Rattle.imap_body_types.specs.ExtensionValues.{Ext1PartValue}
 
 -- an address with a mailbox alone
 abbrev pub a_mailbox_alone : Bytes → AddressValue

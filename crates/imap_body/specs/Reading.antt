@@ -2,25 +2,19 @@
 use Rattle.std.specs.Prelude.{ℕ}
 use Rattle.imap_grammar.specs.Text.{Bytes, Text}
 use Rattle.imap_grammar.specs.Rule.{Rule}
-use Rattle.imap_grammar.specs.Positions.{Ahead, Reached, StepsAt, StepsExactlyAt, named_in}
-use Rattle.imap_shapes.specs.Spans.{Lookup, RestsOn}
-use Rattle.imap_attributes.specs.AttributeValues.{AttributeKept, AttributeValue, parts_said}
+use Rattle.imap_grammar.specs.Positions.{Reached}
+use Rattle.imap_envelopes.specs.Reading.{Reads, ReadsExactly}
+use Rattle.imap_body_types.specs.Spans.{Lookup}
+use Rattle.imap_body.specs.AttributeValues.{AttributeKept, AttributeValue, parts_said}
 
--- What was read in m from p on is what the rule says of it; the reader stops in m, not before p; and what it keeps has
--- no positions behind where it stops.
+-- As `Reads` says it: what is kept is seen as the attribute that the rule yields.
 abbrev pub ReadsAttribute :
     {S B : Type 0} → (Lookup → S → Text) → (Lookup → B → Text) → Rule AttributeValue → Bytes → ℕ →
     Reached (AttributeKept S B) → Type 0
-ReadsAttribute text bytes r m p result =
-    StepsAt r (parts_said text bytes (named_in m)) m p result
-    × Ahead m p result
-    × RestsOn (parts_said text bytes) result
+ReadsAttribute text bytes r m p result = Reads r (parts_said text bytes) m p result
 
--- It is, by a reader that takes no memory.
+-- The same, by a reader that takes no memory.
 abbrev pub ReadsAttributeExactly :
     {S B : Type 0} → (Lookup → S → Text) → (Lookup → B → Text) → Rule AttributeValue → Bytes → ℕ →
     Reached (AttributeKept S B) → Type 0
-ReadsAttributeExactly text bytes r m p result =
-    StepsExactlyAt r (parts_said text bytes (named_in m)) m p result
-    × Ahead m p result
-    × RestsOn (parts_said text bytes) result
+ReadsAttributeExactly text bytes r m p result = ReadsExactly r (parts_said text bytes) m p result

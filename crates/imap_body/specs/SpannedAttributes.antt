@@ -11,14 +11,14 @@ use Rattle.imap_grammar.specs.Positions.{Reached, named_in}
 use Rattle.imap_grammar.specs.Step.{Step}
 use Rattle.imap_grammar.specs.Rule.{meaning}
 use Rattle.imap_body.specs.declared.spanned_attribute.SpannedAttribute.{SpannedAttribute}
-use Rattle.imap_shapes.specs.BodyValues.{BodyValue, body_seen}
-use Rattle.imap_shapes.specs.Spans.{Lookup, Rests, bytes_in, text_in}
-use Rattle.imap_shapes.specs.declared.shapes.bodies.BodyStructure.{BodyStructure as Structure}
-use Rattle.imap_shapes.specs.declared.spans.SpannedText.{SpannedText}
-use Rattle.imap_shapes.specs.declared.spans.SpannedText.TheVariants as spanned
-use Rattle.imap_attributes.specs.AttributeValues.{AttributeValue, AttributeSpans, attribute_seen, parts_said}
-use Rattle.imap_attributes.specs.Changed.{lent_attribute}
-use Rattle.imap_attributes.specs.Unescaped.{HasNoEscape, unescaped_text, unescaped_bytes}
+use Rattle.imap_body_types.specs.BodyValues.{BodyValue, body_seen}
+use Rattle.imap_body_types.specs.Spans.{Lookup, Rests, bytes_in, text_in}
+use Rattle.imap_body_types.specs.declared.shapes.bodies.BodyStructure.{BodyStructure as Structure}
+use Rattle.imap_body_types.specs.declared.spans.SpannedText.{SpannedText}
+use Rattle.imap_body_types.specs.declared.spans.SpannedText.TheVariants as spanned
+use Rattle.imap_body.specs.AttributeValues.{AttributeValue, AttributeSpans, attribute_seen, parts_said}
+use Rattle.imap_body.specs.Changed.{lent_attribute}
+use Rattle.imap_body.specs.Unescaped.{HasNoEscape, unescaped_text, unescaped_bytes}
 use Rattle.imap_body.specs.Attributes.{attribute}
 
 -- The value that the attribute stands for in m, by the values of its texts and byte strings. Its positions count from

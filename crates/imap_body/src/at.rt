@@ -14,6 +14,6 @@ pub(crate) mod messages;
 mod skipped;
 mod worded;
 
+pub use imap_bodystructure::at::{bodies, extensions, fields};
 pub use imap_envelopes::at::{envelopes, texts};
 pub use imap_sections::at::sections;
-pub use imap_structure::at::{bodies, extensions, fields};

@@ -4,21 +4,21 @@ ghost use Rattle.std.specs.Prelude.{◌≡◌, ◌≤◌, ◌++◌, ◌∷◌, [
 ghost use Rattle.imap_grammar.specs.Positions.{Ahead, named_in, StepsAt};
 ghost use Rattle.imap_grammar.specs.Text.{text_of};
 ghost use Rattle.imap_grammar.specs.declared.at.span.Span.{Span};
-ghost use Rattle.imap_shapes.specs.declared.spans.SpannedText.{SpannedText};
-ghost use Rattle.imap_shapes.specs.declared.spans.SpannedText.TheVariants.{Part};
-ghost use Rattle.imap_shapes.specs.Spans.{RestsOn, bytes_of, text_in};
-ghost use Rattle.imap_items.specs.Flags as flags;
-ghost use Rattle.imap_items.specs.Gmail as gmail;
-ghost use Rattle.imap_attributes.specs.AttributeValues.{attribute_value};
+ghost use Rattle.imap_body_types.specs.declared.spans.SpannedText.{SpannedText};
+ghost use Rattle.imap_body_types.specs.declared.spans.SpannedText.TheVariants.{Part};
+ghost use Rattle.imap_body_types.specs.Spans.{RestsOn, bytes_of, text_in};
+ghost use Rattle.imap_shared.specs.Flags as flags;
+ghost use Rattle.imap_shared.specs.Gmail as gmail;
+ghost use Rattle.imap_body.specs.AttributeValues.{attribute_value};
 ghost use Rattle.imap_body.specs.declared.spanned_attribute.SpannedAttribute.{SpannedAttribute};
 ghost use Rattle.imap_body.specs.SpannedAttributes.{attribute_said};
 
+use crate::attributes::{AttributeKept, AttributeValue};
 use crate::spanned_attribute::SpannedAttribute;
-use imap_attributes::{AttributeKept, AttributeValue};
+use imap_body_types::spans::{Span, SpannedText};
 use imap_bytes::at::Reached;
-use imap_envelopes::{Keep, Named, Positions};
-use imap_items::{at, readers};
-use imap_shapes::spans::{Span, SpannedText};
+use imap_envelopes::{Keep, Positions, Values};
+use imap_shared::{at, readers};
 use std::alloc::{AllocError, Global};
 use std::borrow::{CowSlice, CowStr};
 
@@ -29,7 +29,7 @@ pub(crate) type Answer<K> = Reached<AttributeKept<<K as Keep>::Text, <K as Keep>
 const ROOM_FOR_POSITIONS: usize = 4;
 
 /// What a list keeps of each attribute that is read.
-pub(crate) trait KeepAttribute: Keep + Drop {
+pub(crate) trait KeepAttribute: Keep {
     /// What is kept of an attribute.
     type Attribute: Drop;
 
@@ -129,16 +129,16 @@ impl KeepAttribute for Positions {
     }
 }
 
-impl<'a> KeepAttribute for Named<'a> {
+impl<'a> KeepAttribute for Values<'a> {
     type Attribute = AttributeValue<'a>;
 
     ghost keeps = { λ k read kept.
         map attribute_value kept
         ≡ map (attribute_said (λ n. text_of) (λ n. bytes_of) k.message.now) read };
 
-    fn behind(&self, _m: &[u8], p: usize) -> Named<'a> {
+    fn behind(&self, _m: &[u8], p: usize) -> Values<'a> {
         let (_, message) = self.message.split_at(p);
-        Named {
+        Values {
             alloc: self.alloc,
             message,
         }

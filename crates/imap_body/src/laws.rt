@@ -1,54 +1,65 @@
-//! Laws of the rules of this crate, of `imap_envelopes`, of `imap_structure` and of `imap_sections`, and of `==` of
-//! what they read, as contracts of functions that do nothing.
+//! Laws of the rules of this crate, of `imap_envelopes`, of `imap_bodystructure` and of `imap_sections`, and of what
+//! they read, as contracts of functions that do nothing.
 
-ghost use Rattle.imap_grammar.specs.Text.{Bytes, as_text, text_of};
+ghost use Rattle.imap_grammar.specs.Text.{Bytes, Text, as_text, text_of, lent_text};
 ghost use Rattle.imap_grammar.specs.Step.{step};
 ghost use Rattle.imap_grammar.specs.Equality.{Tells};
 ghost use Rattle.imap_grammar.specs.Copying.{CopiesFreely};
-ghost use Rattle.imap_shapes.specs.Spans.{bytes_of};
-ghost use Rattle.imap_shapes.specs.EnvelopeValues.{address_seen, envelope_seen};
-ghost use Rattle.imap_shapes.specs.FieldValues.{params_seen, encoding_seen};
-ghost use Rattle.imap_shapes.specs.ExtensionValues.{disposition_seen, extension_seen};
-ghost use Rattle.imap_shapes.specs.BodyValues.{type_seen, common_seen, single_seen, body_seen};
+ghost use Rattle.imap_body_types.specs.Spans.{bytes_of};
+ghost use Rattle.imap_body_types.specs.EnvelopeValues.{address_seen, envelope_seen};
+ghost use Rattle.imap_body_types.specs.FieldValues.{params_seen, encoding_seen};
+ghost use Rattle.imap_body_types.specs.ExtensionValues.{disposition_seen, extension_seen};
+ghost use Rattle.imap_body_types.specs.BodyValues.{BodyValue, type_seen, common_seen, single_seen, body_seen};
 ghost use Rattle.imap_sections.specs.SectionValues.{path_value};
 ghost use Rattle.imap_grammar.specs.Stable.{Stable};
 ghost use Rattle.imap_sections.specs.Sections as sections;
 ghost use Rattle.imap_body.specs.Attributes as attributes;
 ghost use Rattle.imap_envelopes.specs.Envelopes as envelopes;
-ghost use Rattle.imap_structure.specs.Fields as fields;
-ghost use Rattle.imap_structure.specs.Extensions as extensions;
-ghost use Rattle.imap_structure.specs.Bodies as bodies;
+ghost use Rattle.imap_bodystructure.specs.Fields as fields;
+ghost use Rattle.imap_bodystructure.specs.Extensions as extensions;
+ghost use Rattle.imap_bodystructure.specs.Bodies as bodies;
 ghost use Rattle.std.specs.Option.{option_map};
-ghost use Rattle.imap_structure.specs.declared.limits.TheConstants.{MAX_BODY_DEPTH, MAX_EXTENSION_DEPTH};
+ghost use Rattle.imap_bodystructure.specs.declared.limits.TheConstants.{MAX_BODY_DEPTH, MAX_EXTENSION_DEPTH};
 ghost use Rattle.std.specs.Prelude.{ℕ, ◌≡◌, ◌^◌, ◌∷◌, [], None, Some, codes, map};
 ghost use Rattle.imap_grammar.specs.ReadBack.{SpellsAndReadsBack, HasOneText, Closes, as_is};
-ghost use Rattle.imap_shapes.specs.Lent.{lent_address, lent_addresses, lent_envelope, lent_params, lent_encoding, lent_fields, lent_disposition, lent_languages, lent_extension, lent_ext_1part, lent_ext_mpart, lent_type, lent_common, lent_single, lent_body};
-ghost use Rattle.imap_sections.specs.SectionTexts.{canonical_section_text, canonical_part, canonical_path, canonical_section, spells_message_text, spells_section_text, spells_part, spells_path, spells_section};
-ghost use Rattle.imap_attributes.specs.AttributeValues.{attribute_value, ModSeq, Rfc822Size, Uid, GmailMsgId, GmailThrId};
-ghost use Rattle.imap_attributes.specs.Changed.{lent_attribute};
+ghost use Rattle.imap_body_types.specs.Lent.{lent_address, lent_addresses, lent_envelope, lent_params, lent_encoding};
+ghost use Rattle.imap_body_types.specs.Lent.{lent_fields, lent_disposition, lent_languages, lent_extension};
+ghost use Rattle.imap_body_types.specs.Lent.{lent_ext_1part, lent_ext_mpart, lent_type, lent_common, lent_single};
+ghost use Rattle.imap_body_types.specs.Lent.{lent_body};
+ghost use Rattle.imap_sections.specs.SectionTexts.{canonical_section_text, canonical_part, canonical_path};
+ghost use Rattle.imap_sections.specs.SectionTexts.{canonical_section, spells_message_text, spells_section_text};
+ghost use Rattle.imap_sections.specs.SectionTexts.{spells_part, spells_path, spells_section};
+ghost use Rattle.imap_body.specs.AttributeValues.{AttributeValue as AttributeSaid, attribute_seen, attribute_value};
+ghost use Rattle.imap_body.specs.AttributeValues.{ModSeq, Rfc822Size, Uid, GmailMsgId, GmailThrId};
+ghost use Rattle.imap_body.specs.Changed.{lent_attribute, owned_attribute};
 ghost use Rattle.imap_body.specs.SpannedAttributes.{SameWithoutEscapes, places_of_body, places_of, spanned_value};
-ghost use Rattle.imap_body.specs.AttributeTexts.{canonical_attribute, canonical_attributes, spells_attributes, AttributeReadsBack, ReadsEachBelow};
-ghost use Rattle.imap_envelopes.specs.EnvelopeTexts.{canonical_address, canonical_addresses, canonical_envelope, spells_address, spells_addresses, spells_envelope};
-ghost use Rattle.imap_structure.specs.FieldTexts.{canonical_params, canonical_encoding, canonical_fields, spells_params, spells_encoding, spells_fields};
-ghost use Rattle.imap_structure.specs.ExtensionTexts.{canonical_disposition, canonical_languages, canonical_extension, canonical_ext_1part, canonical_ext_mpart, spells_disposition, spells_languages, spells_extension, spells_ext_1part, spells_ext_mpart};
-ghost use Rattle.imap_structure.specs.BodyTexts.{canonical_body, spells_body};
+ghost use Rattle.imap_body.specs.AttributeTexts.{canonical_attribute, canonical_attributes, spells_attributes};
+ghost use Rattle.imap_body.specs.AttributeTexts.{AttributeReadsBack, ReadsEachBelow};
+ghost use Rattle.imap_envelopes.specs.EnvelopeTexts.{canonical_address, canonical_addresses, canonical_envelope};
+ghost use Rattle.imap_envelopes.specs.EnvelopeTexts.{spells_address, spells_addresses, spells_envelope};
+ghost use Rattle.imap_bodystructure.specs.FieldTexts.{canonical_params, canonical_encoding, canonical_fields};
+ghost use Rattle.imap_bodystructure.specs.FieldTexts.{spells_params, spells_encoding, spells_fields};
+ghost use Rattle.imap_bodystructure.specs.ExtensionTexts.{canonical_disposition, canonical_languages};
+ghost use Rattle.imap_bodystructure.specs.ExtensionTexts.{canonical_extension, canonical_ext_1part};
+ghost use Rattle.imap_bodystructure.specs.ExtensionTexts.{canonical_ext_mpart, spells_disposition, spells_languages};
+ghost use Rattle.imap_bodystructure.specs.ExtensionTexts.{spells_extension, spells_ext_1part, spells_ext_mpart};
+ghost use Rattle.imap_bodystructure.specs.BodyTexts.{canonical_body, spells_body};
 ghost use Rattle.imap_sections.specs.SectionValues as section;
 ghost use Rattle.imap_sections.specs.declared.types.sections.MessageSection.TheVariants as part;
-ghost use Rattle.imap_shapes.specs.declared.shapes.fields.ContentEncoding.TheVariants as encoding;
-ghost use Rattle.imap_attributes.specs.AttributeValues.{Unknown, SaveDate};
+ghost use Rattle.imap_body_types.specs.declared.shapes.fields.ContentEncoding.TheVariants as encoding;
+ghost use Rattle.imap_body.specs.AttributeValues.{Unknown, SaveDate};
 ghost use Rattle.imap_body.specs.AttributeTexts.{spells_attribute};
 ghost use Rattle.imap_body.specs.NoSpelling.{a_mailbox_alone, an_md5_alone};
 
+use crate::attributes::{AttributeParts, AttributeSpans, AttributeValue};
 use crate::spanned_attribute::SpannedAttribute;
-use imap_attributes::laws::attributes_equality;
-use imap_attributes::{AttributeSpans, AttributeValue};
-use imap_sections::{MessageSection, SectionPath};
-use imap_shapes::shapes::bodies::BodyStructure as Structure;
-use imap_shapes::spans::{Span, SpannedText};
-use imap_shapes::{
+use imap_body_types::shapes::bodies::BodyStructure as Structure;
+use imap_body_types::spans::{Span, SpannedText};
+use imap_body_types::{
     Address, BodyContentCommon, BodyContentSinglePart, BodyExtension, BodyParams, BodyStructure,
     ContentDisposition, ContentEncoding, ContentType, Envelope, laws,
 };
+use imap_sections::{MessageSection, SectionPath};
 use std::borrow::{CowSlice, CowStr};
 
 /// Each rule has one answer. Bytes that are appended change neither a value nor a denial; and where n bytes are
@@ -173,6 +184,17 @@ pub fn numbers()
     ensures gmail_thrid { ReadsEachBelow (2 ^ 64) GmailThrId }
 {}
 
+/// If `==` of texts and of bodies answers whether f, g and h say the same of both, borrowed or owned, then `==` of
+/// attributes of these answers whether the two attributes say the same.
+pub fn attributes_equality<S: PartialEq, B: PartialEq, Y: PartialEq>()
+    ensures { (f : S → Text) (g : B → Text) (h : Y → BodyValue) →
+        Tells S.eq (λ s. lent_text (f s)) →
+        Tells B.eq (λ b. lent_text (g b)) →
+        Tells Y.eq (λ y. lent_body (h y)) →
+        Tells ⟦<AttributeParts<S, B, Y> as PartialEq>⟧.eq (λ x.
+        lent_attribute (attribute_seen f g h x)) }
+{}
+
 // `==` tells body structures and attributes of spans by their positions.
 fn spans_equality()
     ensures body_structure { Tells ⟦<Structure<SpannedText, Span> as PartialEq>⟧.eq (λ x.
@@ -221,14 +243,24 @@ pub fn equality()
     attributes_equality::<CowStr<'static>, CowSlice<'static, u8>, BodyStructure<'static>>();
 }
 
+/// With its texts owned, an attribute says the same as the one that it was made from.
+pub fn owning()
+    ensures { (a : AttributeSaid) → lent_attribute (owned_attribute a) ≡ lent_attribute a }
+{}
+
+/// The owned form of an attribute doesn't depend on which of its texts are borrowed.
+pub fn lending()
+    ensures { (a : AttributeSaid) → owned_attribute (lent_attribute a) ≡ owned_attribute a }
+{}
+
 /// A clone takes no memory, and is the same value.
 pub fn cloning()
     ensures message_section { CopiesFreely ⟦<MessageSection as Clone>⟧.is_infallible
         ⟦<MessageSection as Clone>⟧.is_clone }
 {}
 
-/// Where no `\` stands behind a `"` in its bytes, an attribute has no escape: `value` and `unescaped` say the same of it
-/// (RFC 3501, section 9: quoted).
+/// Where no `\` stands behind a `"` in its bytes, an attribute has no escape: `value` and `unescaped` say the same of
+/// it (RFC 3501, section 9: quoted).
 pub fn escapes()
     ensures { SameWithoutEscapes }
 {}

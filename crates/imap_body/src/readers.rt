@@ -6,8 +6,8 @@
 pub mod attributes;
 
 pub use attributes::{attribute, attribute_list, attribute_values_at};
-pub use imap_envelopes::readers::{address, envelope};
-pub use imap_sections::readers::sections;
-pub use imap_structure::readers::{
+pub use imap_bodystructure::readers::{
     bodies, body_extension, body_fields, body_structure, extensions, fields,
 };
+pub use imap_envelopes::readers::{address, envelope};
+pub use imap_sections::readers::sections;

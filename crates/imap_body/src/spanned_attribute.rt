@@ -3,13 +3,13 @@
 
 ghost use Rattle.std.specs.Prelude.{◌≡◌, ◌++◌, ◌∷◌, [], map, IfOk, OnOk};
 ghost use Rattle.imap_grammar.specs.Text.{Text};
-ghost use Rattle.imap_attributes.specs.AttributeValues.{attribute_seen, attribute_value};
-ghost use Rattle.imap_shapes.specs.BodyValues.{body_seen, boxed_seen};
+ghost use Rattle.imap_body.specs.AttributeValues.{attribute_seen, attribute_value};
+ghost use Rattle.imap_body_types.specs.BodyValues.{body_seen, boxed_seen};
 ghost use Rattle.imap_body.specs.SpannedAttributes.{span_of, attribute_in, unescaped_attribute_in};
 
-use imap_attributes::{AttributeKept, AttributeParts, AttributeValue};
-use imap_shapes::shapes::bodies::BodyStructure;
-use imap_shapes::spans::{Span, SpannedText};
+use crate::attributes::{AttributeKept, AttributeParts, AttributeValue};
+use imap_body_types::shapes::bodies::BodyStructure;
+use imap_body_types::spans::{Span, SpannedText};
 use std::alloc::{AllocError, Global};
 
 /// An attribute of a message as positions and numbers. `S` and `B` are what is kept of its texts and byte strings; by

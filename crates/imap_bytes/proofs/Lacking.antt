@@ -22,3 +22,5 @@ astring_lacks = later_lacks (run1 is_astring_char) string refl string_lacks
 pub nstring_lacks : LacksAll nstring
 unfolding nstring nil
 nstring_lacks = later_lacks (nil ▹ nothing None) (gives Some string) refl (given_lacks Some string string_lacks)
+
+pub ruleset strings_lack = (literal_lacks, string_lacks, astring_lacks, nstring_lacks)

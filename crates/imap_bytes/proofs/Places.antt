@@ -12,7 +12,7 @@ use Rattle.imap_grammar.specs.Meaning.{begins, outside}
 use Rattle.imap_grammar.specs.Positions.{Reached, Lies, Inside, named_in, StepsExactlyAt}
 use Rattle.imap_grammar.specs.Rule.{meaning, run0, run1, tag_by}
 use Rattle.imap_grammar.specs.Step.{step}
-use Rattle.imap_grammar.proofs.Agreement.{agrees}
+use Rattle.imap_grammar.proofs.Agreement.{agrees, exact_answer_at}
 use Rattle.imap_grammar.proofs.ReadingWords.{exact}
 use Rattle.imap_bytes.specs.Places.{IsRunPlace, IsQuotedPlace, IsLiteralPlace, IsStringPlace, IsAstringPlace}
 
@@ -39,6 +39,8 @@ pub word_place : (same : ℕ → ℕ → Bool) (text m : List ℕ) (p : ℕ) (r 
 unfolding meaning
 word_place same text m p (Ok x) steps inside = is_all m p x.0 x.1 ((agrees (tag_by same text) (drop p m)).yielded (named_in m x.1) (drop x.0 m) steps).0 inside.0 inside.1
 word_place same text m p (Err e) steps inside = record {}
+
+pub ruleset word_answers = (exact_answer_at, word_place)
 
 -- ---- a run's first byte
 

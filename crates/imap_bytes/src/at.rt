@@ -2,7 +2,8 @@
 //!
 //! Each reads m from p on as the reader of the same name reads a slice, and answers the position behind what it read
 //! in place of the rest; runs (`.._chars`) stand here alone. The condition of each is that p is at most m's length.
-//! Strings come as the span of their content, so that reading them takes no memory.
+//! Strings come as the span of their content, so that reading them takes no memory; `texts::quoted_utf8` and
+//! `texts::astring_utf8` decode it.
 
 pub mod numbers;
 pub mod sets;

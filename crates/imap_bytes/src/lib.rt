@@ -14,7 +14,7 @@ pub mod texts;
 
 pub use imap_grammar::{
     Err, IResult, Needed, classes, first, is_astring_char, is_atom_char, is_atom_specials, is_char,
-    is_list_wildcards, is_quoted_specials, is_resp_specials, is_text_char, lists, maybe, named,
+    is_list_wildcards, is_quoted_specials, is_resp_specials, is_text_char, lists, maybe, on_word,
     opt_opt, paren_delimited, parenthesized_list, parenthesized_nonempty_list, tags,
 };
 pub use numbers::{number, number_64};

@@ -12,7 +12,7 @@ use imap_grammar::at::span::rest;
 ///
 /// No digit in front, or a larger number, is `Error`. It is judged behind the byte that ends its digits: digits up to
 /// the end of the input wait.
-#[tactic(auto, using(imap_grammar::proofs::Agreement::exact_answered), unfolding(crate::specs::Numbers::number))]
+#[tactic(auto, using(imap_grammar::proofs::Agreement::exact_answer), unfolding(crate::specs::Numbers::number))]
 #[inline(always)]
 pub fn number(i: &[u8]) -> IResult<&[u8], u32>
     ensures steps { StepsExactly numbers.number (λ x. x) i.now result }
@@ -26,7 +26,7 @@ pub fn number(i: &[u8]) -> IResult<&[u8], u32>
 /// A number below 2^64, leading zeros allowed (RFC 4551, section 4: mod-sequence-value). No memory.
 ///
 /// It is judged as `number` is.
-#[tactic(auto, using(imap_grammar::proofs::Agreement::exact_answered), unfolding(crate::specs::Numbers::number_64))]
+#[tactic(auto, using(imap_grammar::proofs::Agreement::exact_answer), unfolding(crate::specs::Numbers::number_64))]
 pub fn number_64(i: &[u8]) -> IResult<&[u8], u64>
     ensures steps { StepsExactly numbers.number_64 (λ x. x) i.now result }
     ensures answer { Answers numbers.number_64 (λ x. x) i.now result }

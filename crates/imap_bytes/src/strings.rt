@@ -16,7 +16,7 @@ use std::str;
 /// A quoted string: its raw content, backslashes and all (RFC 3501, section 9: quoted). No memory.
 ///
 /// No quote in front, or in the content NUL, CR, LF, or a backslash before another byte than `"` and `\`, is `Error`.
-#[tactic(auto, using(imap_grammar::proofs::Agreement::exact_answered), unfolding(crate::specs::Strings::quoted))]
+#[tactic(auto, using(imap_grammar::proofs::Agreement::exact_answer), unfolding(crate::specs::Strings::quoted))]
 pub fn quoted(i: &[u8]) -> IResult<&[u8], &[u8]>
     ensures steps { StepsExactly strings.quoted (λ x. x.now) i.now result }
     ensures answer { Answers strings.quoted (λ x. x.now) i.now result }
@@ -29,7 +29,7 @@ pub fn quoted(i: &[u8]) -> IResult<&[u8], &[u8]>
 ///
 /// Where fewer follow, `Needed::Size` is how many are missing. A header of another form, or with a count above
 /// 4,294,967,295, is `Error`.
-#[tactic(auto, using(imap_grammar::proofs::Agreement::exact_answered), unfolding(crate::specs::Strings::literal))]
+#[tactic(auto, using(imap_grammar::proofs::Agreement::exact_answer), unfolding(crate::specs::Strings::literal))]
 pub fn literal(i: &[u8]) -> IResult<&[u8], &[u8]>
     ensures steps { StepsExactly strings.literal (λ x. x.now) i.now result }
     ensures answer { Answers strings.literal (λ x. x.now) i.now result }
@@ -41,7 +41,7 @@ pub fn literal(i: &[u8]) -> IResult<&[u8], &[u8]>
 /// A string: quoted, or a literal (RFC 3501, section 9: string). No memory.
 ///
 /// What begins with neither a quote nor a brace is `Error`.
-#[tactic(auto, using(imap_grammar::proofs::Agreement::exact_answered), unfolding(crate::specs::Strings::string))]
+#[tactic(auto, using(imap_grammar::proofs::Agreement::exact_answer), unfolding(crate::specs::Strings::string))]
 #[inline(always)]
 pub fn string(i: &[u8]) -> IResult<&[u8], &[u8]>
     ensures steps { StepsExactly strings.string (λ x. x.now) i.now result }
@@ -54,7 +54,7 @@ pub fn string(i: &[u8]) -> IResult<&[u8], &[u8]>
 /// Bare astring-chars, or a string (RFC 3501, section 9: astring). No memory.
 ///
 /// What begins with neither an astring-char nor a quote nor a brace is `Error`.
-#[tactic(auto, using(imap_grammar::proofs::Agreement::exact_answered), unfolding(crate::specs::Strings::astring))]
+#[tactic(auto, using(imap_grammar::proofs::Agreement::exact_answer), unfolding(crate::specs::Strings::astring))]
 pub fn astring(i: &[u8]) -> IResult<&[u8], &[u8]>
     ensures steps { StepsExactly strings.astring (λ x. x.now) i.now result }
     ensures answer { Answers strings.astring (λ x. x.now) i.now result }
@@ -66,7 +66,7 @@ pub fn astring(i: &[u8]) -> IResult<&[u8], &[u8]>
 /// `NIL` in any case: the three bytes, whatever follows them (RFC 3501, section 9: nil). No memory.
 ///
 /// Any other bytes are `Error`.
-#[tactic(auto, using(imap_grammar::proofs::Agreement::exact_answered), unfolding(crate::specs::Strings::nil))]
+#[tactic(auto, using(imap_grammar::proofs::Agreement::exact_answer), unfolding(crate::specs::Strings::nil))]
 pub fn nil(i: &[u8]) -> IResult<&[u8], &[u8]>
     ensures steps { StepsExactly strings.nil (λ x. x.now) i.now result }
     ensures answer { Answers strings.nil (λ x. x.now) i.now result }
@@ -78,7 +78,7 @@ pub fn nil(i: &[u8]) -> IResult<&[u8], &[u8]>
 /// `NIL`, or a string (RFC 3501, section 9: nstring). No memory.
 ///
 /// What is neither is `Error`.
-#[tactic(auto, using(imap_grammar::proofs::Agreement::exact_answered), unfolding(crate::specs::Strings::nstring))]
+#[tactic(auto, using(imap_grammar::proofs::Agreement::exact_answer), unfolding(crate::specs::Strings::nstring))]
 pub fn nstring(i: &[u8]) -> IResult<&[u8], Option<&[u8]>>
     ensures steps { StepsExactly strings.nstring (option_map (λ y. y.now)) i.now result }
     ensures answer { Answers strings.nstring (option_map (λ y. y.now)) i.now result }
@@ -101,7 +101,7 @@ pub fn as_utf8(bytes: &[u8]) -> Option<&str>
 /// An atom (RFC 3501, section 9: atom). No memory.
 ///
 /// No atom-char in front, or bytes that are not UTF-8, are `Error`.
-#[tactic(auto, using(imap_grammar::proofs::Agreement::exact_answered), unfolding(crate::specs::Strings::atom))]
+#[tactic(auto, using(imap_grammar::proofs::Agreement::exact_answer), unfolding(crate::specs::Strings::atom))]
 pub fn atom(i: &[u8]) -> IResult<&[u8], &str>
     ensures steps { StepsExactly strings.atom (λ x. x.now) i.now result }
     ensures answer { Answers strings.atom (λ x. x.now) i.now result }

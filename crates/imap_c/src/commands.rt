@@ -1,14 +1,15 @@
 //! Commands, and arguments of them, as texts that go into a caller's buffer, without tag and line end.
 //!
-//! Arguments are judged before memory is taken: first whether they are UTF-8, and then, in their order, whether a quoted
-//! string can have their bytes.
+//! Arguments are judged before memory is taken: first whether they are UTF-8, and then, in their order, whether a
+//! quoted string can have their bytes.
 
 ghost use Rattle.std.specs.Prelude.{◌≡◌, ◌≢◌, [], ◌∷◌, None, Some, IfOk, MatchResult};
 ghost use Rattle.imap_command.specs.Arguments.{quoted};
 ghost use Rattle.imap_command.specs.Calls as call;
 ghost use Rattle.imap_command.specs.Calls.{told, begun};
 ghost use Rattle.imap_command.specs.declared.words.Attribute.{Attribute};
-ghost use Rattle.imap_c.specs.Commands.{text_refusal, argument_refusal, arguments_refusal, Makes, PutsMade, Answers, attribute_number, begun_by, messages_called, AsksFor, MakesFetch, AnswersFetch};
+ghost use Rattle.imap_c.specs.Commands.{text_refusal, argument_refusal, arguments_refusal, Makes, PutsMade, Answers};
+ghost use Rattle.imap_c.specs.Commands.{attribute_number, begun_by, messages_called, AsksFor, MakesFetch, AnswersFetch};
 
 use crate::refusals::{Refusal, number_of};
 use crate::texts::{TextAnswer, put, without_text};
@@ -203,8 +204,8 @@ pub extern "C" fn imap_list(
     put_made(out, list(alloc, reference, glob))
 }
 
-/// FETCH, or UID FETCH, of the messages from one to another, or from the first one on where the last is 0, that asks for
-/// these attributes in this order (RFC 3501, sections 6.4.5 and 6.4.8). It takes memory, and gives it back.
+/// FETCH, or UID FETCH, of the messages from one to another, or from the first one on where the last is 0, that asks
+/// for these attributes in this order (RFC 3501, sections 6.4.5 and 6.4.8). It takes memory, and gives it back.
 #[unsafe(no_mangle)]
 pub extern "C" fn imap_fetch(
     alloc: Global,

@@ -4,8 +4,8 @@ ghost use Rattle.std.specs.Prelude.{◌≡◌, ◌+◌, ◌<◌, ◌≤◌, ◌^
 
 use crate::answers::Answer;
 
-/// How far a caller's buffer is read. The caller puts what comes behind what the buffer holds. `{ 0, 0 }` is a cursor at
-/// its front.
+/// How far a caller's buffer is read. The caller puts what comes behind what the buffer holds. `{ 0, 0 }` is a cursor
+/// at its front.
 #[repr(C)]
 #[derive(Clone, Copy)]
 pub struct Cursor {

@@ -50,12 +50,12 @@ pub extern "C" fn imap_parse(alloc: Global, bytes: &[u8]) -> Answer
 }
 
 /// The next response in a buffer: what stands from the cursor's start on, as `imap_parse` answers it. Behind a response
-/// the cursor moves to what follows. Where a literal lacks bytes, the cursor keeps how many have to be there, and nothing
-/// is read again before they are.
+/// the cursor moves to what follows. Where a literal lacks bytes, the cursor keeps how many have to be there, and
+/// nothing is read again before they are.
 ///
-/// The cursor has to be one that an earlier call left, over the same bytes or fewer of them, or a new one. A cursor that
-/// begins behind the bytes is answered as outcome 4. With any other a response may be waited for that is there: no more
-/// comes of it.
+/// The cursor has to be one that an earlier call left, over the same bytes or fewer of them, or a new one. A cursor
+/// that begins behind the bytes is answered as outcome 4. With any other a response may be waited for that is there: no
+/// more comes of it.
 #[unsafe(no_mangle)]
 pub extern "C" fn imap_next(alloc: Global, bytes: &[u8], cursor: &mut Cursor) -> Answer
     ensures answer { Fits bytes.now cursor.old → Tells (held bytes.now cursor.old) result }

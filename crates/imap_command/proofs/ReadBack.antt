@@ -12,7 +12,7 @@ use Rattle.imap_command.specs.Calls.{Call, InRange, Stage, Ends, after, added, c
 use Rattle.imap_command.specs.declared.words.AttrMacro.TheVariants as group
 use Rattle.imap_command.specs.declared.words.Attribute.{Attribute}
 use Rattle.imap_command.proofs.Runs.{beyond, front-append, beyond-append, stripped, is_digit, number, number-decimal, beyond-decimal, quoted_content, behind_quoted, quoted_content-quoted, behind_quoted-quoted}
-use Rattle.imap_command.proofs.Reader.{Found, on_word, pair, single, item, in_word, named, word, since, reads, named-attribute_word, whole_words}
+use Rattle.imap_command.proofs.Reader.{Found, on_word, pair, single, item, in_word, known_attribute, word, since, reads, known-attribute_word, whole_words}
 
 -- arguments
 single_read : (call : List ℕ → Call) (a text : List ℕ) → single call (quoted a ++ text) ≡ Some (call a, text)
@@ -79,8 +79,8 @@ item_range m n b rest fits fits_too stop =
 -- attributes and modifiers
 word_read : (a : Attribute) (b : ℕ) (rest : List ℕ) → in_word b ≡ false → word (attribute_word a ++ (b ∷ rest)) ≡ Some (attr a, b ∷ rest)
 word_read a b rest stop =
-    ap (λ x. option_map (λ y. (attr y, beyond in_word (attribute_word a ++ (b ∷ rest)))) (named x)) (front-append in_word (attribute_word a) b rest (whole_words a) stop)
-    ∙ ap (option_map (λ y. (attr y, beyond in_word (attribute_word a ++ (b ∷ rest))))) (named-attribute_word a)
+    ap (λ x. option_map (λ y. (attr y, beyond in_word (attribute_word a ++ (b ∷ rest)))) (known_attribute x)) (front-append in_word (attribute_word a) b rest (whole_words a) stop)
+    ∙ ap (option_map (λ y. (attr y, beyond in_word (attribute_word a ++ (b ∷ rest))))) (known-attribute_word a)
     ∙ ap (λ x. Some (attr a, x)) (beyond-append in_word (attribute_word a) b rest (whole_words a) stop)
 
 since_read : (n : ℕ) (text : List ℕ) → n < 2 ^ 64 → since ((decimal n ++ codes ")") ++ text) ≡ Some (changed_since n, text)

@@ -37,8 +37,8 @@ item text =
     (Some (num first, rest)))
 
 -- the attribute of a word
-abbrev pub named : List ℕ → Option Attribute
-named word =
+abbrev pub known_attribute : List ℕ → Option Attribute
+known_attribute word =
     cond (bytes_eq word (codes "BODY")) (Some attribute.Body)
     (cond (bytes_eq word (codes "ENVELOPE")) (Some attribute.Envelope)
     (cond (bytes_eq word (codes "FLAGS")) (Some attribute.Flags)
@@ -57,7 +57,7 @@ abbrev pub in_word : ℕ → Bool
 in_word b = not (b == 32 || b == 41)
 
 abbrev pub word : List ℕ → Found
-word text = option_map (λ a. (attr a, beyond in_word text)) (named (front in_word text))
+word text = option_map (λ a. (attr a, beyond in_word text)) (known_attribute (front in_word text))
 
 abbrev pub since : List ℕ → Found
 since text = Some (changed_since (number text), drop 1 (beyond is_digit text))
@@ -85,19 +85,19 @@ reads modifiers text = on_word (codes " (CHANGEDSINCE ") text since None
 reads stage text = None
 
 -- each word names its attribute, and has no byte that ends it
-pub named-attribute_word : (a : Attribute) → named (attribute_word a) ≡ Some a
-named-attribute_word attribute.Body = refl
-named-attribute_word attribute.Envelope = refl
-named-attribute_word attribute.Flags = refl
-named-attribute_word attribute.InternalDate = refl
-named-attribute_word attribute.ModSeq = refl
-named-attribute_word attribute.Rfc822 = refl
-named-attribute_word attribute.Rfc822Size = refl
-named-attribute_word attribute.Rfc822Text = refl
-named-attribute_word attribute.Uid = refl
-named-attribute_word attribute.GmailLabels = refl
-named-attribute_word attribute.GmailMsgId = refl
-named-attribute_word attribute.GmailThrId = refl
+pub known-attribute_word : (a : Attribute) → known_attribute (attribute_word a) ≡ Some a
+known-attribute_word attribute.Body = refl
+known-attribute_word attribute.Envelope = refl
+known-attribute_word attribute.Flags = refl
+known-attribute_word attribute.InternalDate = refl
+known-attribute_word attribute.ModSeq = refl
+known-attribute_word attribute.Rfc822 = refl
+known-attribute_word attribute.Rfc822Size = refl
+known-attribute_word attribute.Rfc822Text = refl
+known-attribute_word attribute.Uid = refl
+known-attribute_word attribute.GmailLabels = refl
+known-attribute_word attribute.GmailMsgId = refl
+known-attribute_word attribute.GmailThrId = refl
 
 pub whole_words : (a : Attribute) → list_all in_word (attribute_word a) ≡ true
 whole_words attribute.Body = refl

@@ -103,8 +103,8 @@ impl CommandBuilder {
 
     /// Any other command, by its name, as `NOOP`, `UID STORE` or `X-ALIVE` (RFC 3501, section 9: command).
     ///
-    /// `BadName`: the name isn't made of words of letters, digits, `-` and `.` with a single space between two. It takes
-    /// memory; `OutOfMemory`: memory ran out.
+    /// `BadName`: the name isn't made of words of letters, digits, `-` and `.` with a single space between two. It
+    /// takes memory; `OutOfMemory`: memory ran out.
     pub fn other(alloc: Global, name: &str) -> Result<OtherCommand<Arguments>, BuildError>
         ensures judged { Judges (name_refusal name.now) result }
         ensures begins { IfOk result (λ text. text ≡ begun name.now []) }

@@ -25,8 +25,8 @@ mod members;
 mod sections;
 mod sets;
 
-/// A command that has no builder of its own, and is being built; `T` is what it has been told so far. An argument that is
-/// refused and want of memory give the command up.
+/// A command that has no builder of its own, and is being built; `T` is what it has been told so far. An argument that
+/// is refused and want of memory give the command up.
 #[derive(Drop)]
 pub struct OtherCommand<T> {
     args: Vec<u8>,

@@ -9,10 +9,10 @@ use Rattle.imap_grammar.proofs.ReadingLists.{takes-text, takes-word, reads-nonem
 use Rattle.imap_grammar.proofs.Spelling.{◌⨾ˢ◌, ◌▹ˢ◌, ◌◃ˢ◌, ◌orˢ◌, spells-gives, spells-names, spells-nothing, spells-word, spells-tag, spells-nonempty_list_of}
 use Rattle.imap_bytes.proofs.ReadingTexts.{reads-number, reads-number_64, reads-astring_utf8}
 use Rattle.imap_bytes.proofs.SpellingTexts.{spells-number, spells-number_64, spells-astring_utf8}
-use Rattle.imap_items.specs.Capabilities.{capability_data}
-use Rattle.imap_items.proofs.FlagTexts.{reads_flag_list, flag_list_spells}
-use Rattle.imap_items.proofs.CapabilityTexts.{reads_offered, keeps_capability_data}
-use Rattle.imap_items.proofs.UidSetTexts.{reads_uid_set, uid_set_spells}
+use Rattle.imap_shared.specs.Capabilities.{capability_data}
+use Rattle.imap_shared.proofs.FlagTexts.{reads_flag_list, flag_list_spells}
+use Rattle.imap_shared.proofs.CapabilityTexts.{reads_offered, keeps_capability_data}
+use Rattle.imap_shared.proofs.UidSetTexts.{reads_uid_set, uid_set_spells}
 use Rattle.imap_data.specs.Codes.{lent_code, charsets, append_uid_of, copy_uid_of, basic_code, uid_code, metadata_code, any_code, response_code, Alert, Parse, ReadOnly, ReadWrite, TryCreate, UidNotSticky, MetadataTooMany, MetadataNoPrivate, BadCharset, Capabilities, PermanentFlags, UidNext, UidValidity, Unseen, HighestModSeq, MetadataLongEntries, MetadataMaxSize}
 use Rattle.imap_data.proofs.Rules.{basic_rules, uid_rules, metadata_rules, code_rules}
 use Rattle.imap_data.specs.CodeTexts.{canonical_charsets, canonical_code, canonical_response_code, spells_charsets, spells_code, spells_response_code}

@@ -7,19 +7,19 @@ use Rattle.std.specs.Cow.{cow_str_bytes}
 use Rattle.std.specs.Cmp.Lexicographic.{pointwise}
 use Rattle.imap_grammar.specs.Equality.{Tells}
 use Rattle.imap_grammar.specs.Text.{text_of, lent_text}
-use Rattle.imap_items.specs.Capabilities.{capability_value, lent_capability}
+use Rattle.imap_shared.specs.Capabilities.{capability_value, lent_capability}
 use Rattle.imap_data.specs.Codes.{code_content, Alert, Parse, ReadOnly, ReadWrite, TryCreate, UidNotSticky, MetadataTooMany, MetadataNoPrivate, AppendUid, CopyUid, BadCharset, Capabilities, PermanentFlags, UidNext, UidValidity, Unseen, HighestModSeq, MetadataLongEntries, MetadataMaxSize, CodeValue, code_value, HasOrderedUids, AppendUid, CopyUid, append_uid_of, copy_uid_of, append_uid, copy_uid, highest_mod_seq, basic_code, uid_code, metadata_code, any_code}
 use Rattle.imap_data.specs.declared.types.codes.ResponseCode.{ResponseCode}
 use Rattle.imap_data.specs.declared.types.codes.ResponseCode.TheVariants as code
 use Rattle.imap_data.specs.contracts.types.codes.ResponseCodePartialEq.TheImpl as code_eq
 use Rattle.std.proofs.lemmas.Bool.{and_parts, and_from}
 use Rattle.imap_grammar.proofs.Seen.{unequal, kinds_apart, items_tell, option_tells, on_tells, numbers_tell, retold, lists_tell, text_lists_tell, option_twice}
-use Rattle.imap_items.proofs.Capabilities.{capability_tells}
-use Rattle.imap_items.proofs.UidSets.{member_tells}
+use Rattle.imap_shared.proofs.Capabilities.{capability_tells}
+use Rattle.imap_shared.proofs.UidSets.{member_tells}
 use Rattle.std.specs.List.{All}
 use Rattle.imap_grammar.specs.Step.{step}
 use Rattle.imap_grammar.proofs.Agreement.{reads}
-use Rattle.imap_items.proofs.UidSets.{IsOrderedValue, set_ordered, all_ordered}
+use Rattle.imap_shared.proofs.UidSets.{IsOrderedValue, set_ordered, all_ordered}
 use Rattle.imap_grammar.proofs.Yields.{Yields, either_yields, given_yields, made_yields, named_yields, both_yield, right_yields, second_yields}
 use Rattle.imap_data.proofs.Rules.{basic_rules, metadata_rules}
 

@@ -17,3 +17,4 @@ mod Wants
 mod NoSpelling
 mod NoIdSpelling
 pub mod OneText
+pub mod Annotations

@@ -4,13 +4,13 @@ use Rattle.std.specs.Cmp.Lexicographic.{pointwise}
 use Rattle.std.proofs.lemmas.Bool.{and_parts, and_from}
 use Rattle.imap_grammar.specs.Equality.{Tells}
 use Rattle.imap_grammar.proofs.Seen.{unequal, kinds_apart, texts_tell, text_tells, numbers_tell, items_tell, text_lists_tell, plain_lists_tell}
-use Rattle.imap_extensions.specs.Annotations.{metadata_value}
-use Rattle.imap_extensions.proofs.Annotations.{metadata_tell}
+use Rattle.imap_data.specs.AnnotationValues.{metadata_value}
+use Rattle.imap_data.proofs.Annotations.{metadata_tell}
 use Rattle.imap_data.specs.DatumValues.{DatumValue, Exists, Flags, Listed, Search, Sort, Status, Recent, MetadataSolicited, MetadataUnsolicited, GmailLabels, GmailMsgId, GmailThrId, datum_content}
 use Rattle.imap_data.specs.declared.types.mailbox_data.MailboxDatum.{MailboxDatum}
 use Rattle.imap_data.specs.declared.types.mailbox_data.MailboxDatum.TheVariants as datum
 use Rattle.imap_data.specs.contracts.types.counts.StatusAttributePartialEq.TheImpl as item_eq
-use Rattle.imap_extensions.specs.contracts.types.annotations.MetadataPartialEq.TheImpl as metadata_eq
+use Rattle.imap_data.specs.contracts.types.annotations.MetadataPartialEq.TheImpl as metadata_eq
 use Rattle.imap_data.specs.contracts.types.mailbox_data.MailboxDatumPartialEq.TheImpl as datum_eq
 use Rattle.imap_data.proofs.Names.{list_tells}
 

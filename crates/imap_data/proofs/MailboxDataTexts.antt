@@ -16,9 +16,9 @@ use Rattle.imap_bytes.proofs.ReadingTexts.{not_digit, reads-number, reads-number
 use Rattle.imap_bytes.proofs.ReadingCounts.{word_no_number, reads-counted, counted_apart, counted_other, closes_space, reads-spaced_numbers}
 use Rattle.imap_bytes.proofs.SpellingTexts.{spells-number, spells-number_64}
 use Rattle.std.proofs.lemmas.List.{map-id}
-use Rattle.imap_items.proofs.FlagTexts.{reads_flag_list, flag_list_spells}
-use Rattle.imap_items.proofs.GmailTexts.{keeps_label_list, keeps_msgid, keeps_thrid}
-use Rattle.imap_items.proofs.MailboxTexts.{reads_mailbox, mailbox_spells}
+use Rattle.imap_shared.proofs.FlagTexts.{reads_flag_list, flag_list_spells}
+use Rattle.imap_shared.proofs.GmailTexts.{keeps_label_list, keeps_msgid, keeps_thrid}
+use Rattle.imap_shared.proofs.MailboxTexts.{reads_mailbox, mailbox_spells}
 use Rattle.imap_data.specs.declared.types.counts.StatusAttribute.TheVariants.{HighestModSeq, Messages, Recent as RecentItem, UidNext, UidValidity, Unseen}
 use Rattle.imap_data.specs.Counts.{status_item, status_items, found_number, found_numbers}
 use Rattle.imap_data.specs.Names.{ListValue, lent_list, list_data}

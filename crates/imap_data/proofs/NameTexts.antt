@@ -18,11 +18,11 @@ use Rattle.imap_bytes.specs.Strings.{quoted, nil}
 use Rattle.imap_bytes.specs.Texts.{quoted_utf8}
 use Rattle.imap_bytes.proofs.ReadingQuoted.{reads-quoted_utf8}
 use Rattle.imap_bytes.proofs.SpellingTexts.{spells-quoted_utf8}
-use Rattle.imap_items.specs.Flags.{backslashed, backslashed_text}
-use Rattle.imap_items.proofs.FlagTexts.{backslashed-has, reads_backslashed}
-use Rattle.imap_items.proofs.MailboxTexts.{reads_mailbox, mailbox_spells}
-use Rattle.imap_data.specs.Names.{NameAttributeValue, NoInferiors, NoSelect, Marked, Unmarked, All, Archive, Drafts, Flagged, Junk, Sent, Trash, lent_attribute, lent_list, extension_of, name_attribute, name_attributes, delimiter, list_of_parts, list_data}
-use Rattle.imap_data.specs.NameTexts.{canonical_attribute, canonical_delimiter, canonical_list, spells_attribute, spells_list_data}
+use Rattle.imap_shared.specs.Flags.{backslashed, backslashed_text}
+use Rattle.imap_shared.proofs.FlagTexts.{backslashed-has, reads_backslashed}
+use Rattle.imap_shared.proofs.MailboxTexts.{reads_mailbox, mailbox_spells}
+use Rattle.imap_data.specs.Names.{NameAttributeValue, NoInferiors, NoSelect, Marked, Unmarked, All, Archive, Drafts, Flagged, Junk, Sent, Trash, lent_name_attribute, lent_list, extension_of, name_attribute, name_attributes, delimiter, list_of_parts, list_data}
+use Rattle.imap_data.specs.NameTexts.{canonical_name_attribute, canonical_delimiter, canonical_list, spells_name_attribute, spells_list_data}
 
 abbrev AtomEnds : Bytes → Type 0
 AtomEnds = BeginsWith (outside is_atom_char)
@@ -34,18 +34,18 @@ word-apart k m v rest t cases d y e =
     let input : m ≡ 92 ∷ (has.0 ++ rest) = has.4 ∙ ap (λ l. l ++ rest) has.1 in
     subst (λ l. differs same_letter (92 ∷ k) (l ++ t) ≡ true) (sym has.1) (differs-again is_atom_char k has.0 rest t cases (subst (λ l. differs same_letter (92 ∷ k) l ≡ true) input d) e)
 
-extension_apart : (k : Bytes) (x : NameAttributeValue) → has_cases is_atom_char k ≡ true → Apart (tag_by same_letter (92 ∷ k) ▹ nothing x) (gives extension_of backslashed_text) canonical_attribute AtomEnds
+extension_apart : (k : Bytes) (x : NameAttributeValue) → has_cases is_atom_char k ≡ true → Apart (tag_by same_letter (92 ∷ k) ▹ nothing x) (gives extension_of backslashed_text) canonical_name_attribute AtomEnds
 unfolding meaning backslashed_text
 extension_apart k x cases = record {
   denied = λ m v rest d y f t e.
       let no_ = word-apart k m y.0 rest t cases (tag-denied same_letter (92 ∷ k) m (names-denied (tag_by same_letter (92 ∷ k)) x m d)) (test-has is_utf8 backslashed m y.0 rest y.1).0 e in
-      subst (λ w. Denies (meaning (tag_by same_letter (92 ∷ k) ▹ nothing x)) (written (canonical_attribute w) ++ t)) y.2
+      subst (λ w. Denies (meaning (tag_by same_letter (92 ∷ k) ▹ nothing x)) (written (canonical_name_attribute w) ++ t)) y.2
       (denies-after (tag_by same_letter (92 ∷ k)) (nothing x) (written (raw y.0) ++ t) (denies-tag same_letter (92 ∷ k) (written (raw y.0) ++ t) (subst (λ l. differs same_letter (92 ∷ k) l ≡ true) (sym (raw_on y.0 t)) no_)));
 }
 
 ruleset name_forms = (extension_apart, apart_forms)
 
-pub reads_name_attribute : ReadsBack name_attribute lent_attribute canonical_attribute AtomEnds
+pub reads_name_attribute : ReadsBack name_attribute lent_name_attribute canonical_name_attribute AtomEnds
 unfolding name_attribute backslashed_text
 reads_name_attribute =
     first (reads-word _ _ NoInferiors (codes "\\Noinferiors") refl refl refl) (search name_forms depth 30)
@@ -72,7 +72,7 @@ reads_list_data =
 
 -- ---- spelling
 
-name_attribute_spells : Spells name_attribute spells_attribute
+name_attribute_spells : Spells name_attribute spells_name_attribute
 unfolding name_attribute backslashed_text backslashed
 name_attribute_spells =
     spells-names NoInferiors (spells-word "\\Noinferiors")

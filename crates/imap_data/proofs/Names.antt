@@ -9,19 +9,19 @@ use Rattle.std.proofs.lemmas.Bool.{and_parts, and_from}
 use Rattle.imap_grammar.specs.Equality.{Tells}
 use Rattle.imap_grammar.specs.Text.{text_of, lent_text}
 use Rattle.imap_grammar.proofs.Seen.{texts_tell, lists_tell, options_tell}
-use Rattle.imap_data.specs.Names.{ListValue, attribute_value, lent_attribute, attribute_content, list_content}
+use Rattle.imap_data.specs.Names.{ListValue, name_attribute_value, lent_name_attribute, name_attribute_content, list_content}
 use Rattle.imap_data.specs.declared.types.names.MailboxListData.{MailboxListData}
-use Rattle.imap_data.specs.contracts.types.names.NameAttributePartialEq.TheImpl as attribute_eq
+use Rattle.imap_data.specs.contracts.types.names.NameAttributePartialEq.TheImpl as name_attribute_eq
 use Rattle.imap_data.specs.contracts.types.names.MailboxListDataPartialEq.TheImpl as list_eq
 
-attributes_tell : Tells (attribute_eq.eq-value).it attribute_content
-attributes_tell = search rules
+name_attributes_tell : Tells (name_attribute_eq.eq-value).it name_attribute_content
+name_attributes_tell = search rules
 
 delimiters_tell : Tells (option_eq (λ (x y : CowStr Global). pointwise nat_eq (cow_str_bytes x) (cow_str_bytes y))) (λ x. option_map lent_text (option_map text_of x))
 delimiters_tell = options_tell _ text_of lent_text texts_tell
 
-names_tell : Tells (pointwise (attribute_eq.eq-value).it) (λ xs. map lent_attribute (map attribute_value xs))
-names_tell = lists_tell _ attribute_value lent_attribute attributes_tell
+names_tell : Tells (pointwise (name_attribute_eq.eq-value).it) (λ xs. map lent_name_attribute (map name_attribute_value xs))
+names_tell = lists_tell _ name_attribute_value lent_name_attribute name_attributes_tell
 
 list_same : (x y : MailboxListData) → (list_eq.eq-value).it x y ≡ true → list_content x ≡ list_content y
 list_same x y h =

@@ -3,11 +3,11 @@ use Rattle.std.proofs.Common.{ℕ, ◌||◌, ◌&&◌, Bool, codes}
 use Rattle.imap_grammar.specs.Text.{Bytes}
 use Rattle.imap_grammar.specs.Ranges.{fresh}
 use Rattle.imap_grammar.specs.Spelling.{spells_ends}
-use Rattle.imap_items.specs.UidSets.{UidRange}
-use Rattle.imap_items.specs.UidSetTexts.{spells_member}
+use Rattle.imap_shared.specs.UidSets.{UidRange}
+use Rattle.imap_shared.specs.UidSetTexts.{spells_member}
 use Rattle.imap_grammar.specs.Meaning.{is_word}
 use Rattle.imap_grammar.specs.Tags.{same_letter}
-use Rattle.imap_items.specs.MailboxTexts.{spells_inbox}
+use Rattle.imap_shared.specs.MailboxTexts.{spells_inbox}
 use Rattle.imap_grammar.proofs.NoSpelling.{Passes, told_astring, tells-astring, tells-lossy, may_decode, any_cut, ◌andᵖ◌, ◌orᵖ◌, passes-this, passes-number, is_number, same_as}
 
 -- two numbers with a colon between

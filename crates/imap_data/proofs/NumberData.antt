@@ -6,7 +6,7 @@ use Rattle.imap_grammar.specs.Step.{step}
 use Rattle.imap_grammar.proofs.Agreement.{reads}
 use Rattle.imap_grammar.proofs.Memory.{never_both}
 use Rattle.imap_grammar.proofs.Yields.{Yields, either_yields, made_yields}
-use Rattle.imap_items.specs.Gmail.{gmail_msgid, gmail_thrid}
+use Rattle.imap_shared.specs.Gmail.{gmail_msgid, gmail_thrid}
 use Rattle.imap_data.specs.DatumValues.{DatumValue, Flags, Listed, Search, Sort, GmailLabels, IsNumber}
 use Rattle.imap_data.specs.Annotations.{solicited_of, metadata_solicited, unsolicited_of, metadata_unsolicited}
 use Rattle.imap_data.specs.MailboxData.{flags, list, lsub, status_of, status, search, sort, labels, msgid, thrid, list_or_lsub, datum_of_s, datum_of_x}

@@ -8,23 +8,23 @@ use Rattle.std.specs.FinMap.{entries}
 use Rattle.imap_grammar.specs.Text.{lent_text}
 use Rattle.imap_grammar.specs.Pieces.{◌then◌, words, space, number_text, literal_text, plain}
 use Rattle.imap_grammar.proofs.OneText.{Keeps, each_keeps, separated_keeps, list_keeps}
-use Rattle.imap_items.specs.Capabilities.{Imap4rev1, Auth, Atom, lent_capability, is_revision}
-use Rattle.imap_items.specs.CapabilityTexts.{canonical_capability, canonical_capabilities, canonical_each}
-use Rattle.imap_items.specs.FlagTexts.{canonical_flag_list}
-use Rattle.imap_items.specs.GmailTexts.{canonical_label, canonical_label_list}
-use Rattle.imap_items.specs.MailboxTexts.{canonical_mailbox}
+use Rattle.imap_shared.specs.Capabilities.{Imap4rev1, Auth, Atom, lent_capability, is_revision}
+use Rattle.imap_shared.specs.CapabilityTexts.{canonical_capability, canonical_capabilities, canonical_each}
+use Rattle.imap_shared.specs.FlagTexts.{canonical_flag_list}
+use Rattle.imap_shared.specs.GmailTexts.{canonical_label, canonical_label_list}
+use Rattle.imap_shared.specs.MailboxTexts.{canonical_mailbox}
 use Rattle.imap_extensions.specs.Quotas.{Storage, Message, Atom as AtomResource, lent_quota_resource_name, lent_quota_resource, lent_quota, lent_quota_root}
 use Rattle.imap_extensions.specs.QuotaTexts.{canonical_resource_name, canonical_resource, canonical_quota, canonical_quota_root}
 use Rattle.imap_extensions.specs.Ids.{lent_entry, lent_id}
 use Rattle.imap_extensions.specs.IdTexts.{canonical_field, canonical_fields, canonical_params, canonical_id}
 use Rattle.imap_extensions.specs.Acls.{lent_acl_entry, lent_acl, lent_list_rights, lent_my_rights}
 use Rattle.imap_extensions.specs.AclTexts.{canonical_acl_entry, canonical_acl, canonical_list_rights, canonical_my_rights}
-use Rattle.imap_extensions.specs.AnnotationTexts.{canonical_metadata, canonical_entries}
+use Rattle.imap_data.specs.AnnotationTexts.{canonical_metadata, canonical_entries}
 use Rattle.imap_extensions.proofs.Ids.{entries-lent_id}
 use Rattle.imap_data.specs.Codes.{Alert, Parse, ReadOnly, ReadWrite, TryCreate, UidNotSticky, MetadataTooMany, MetadataNoPrivate, BadCharset, Capabilities, PermanentFlags, UidNext, UidValidity, Unseen, HighestModSeq, MetadataLongEntries, MetadataMaxSize, AppendUid, CopyUid, lent_code}
 use Rattle.imap_data.specs.CodeTexts.{canonical_charsets, canonical_code, canonical_response_code}
-use Rattle.imap_data.specs.Names.{NoInferiors, NoSelect, Marked, Unmarked, All, Archive, Drafts, Flagged, Junk, Sent, Trash, Extension, lent_attribute, lent_list}
-use Rattle.imap_data.specs.NameTexts.{canonical_attribute, canonical_delimiter, canonical_list}
+use Rattle.imap_data.specs.Names.{NoInferiors, NoSelect, Marked, Unmarked, All, Archive, Drafts, Flagged, Junk, Sent, Trash, Extension, lent_name_attribute, lent_list}
+use Rattle.imap_data.specs.NameTexts.{canonical_name_attribute, canonical_delimiter, canonical_list}
 use Rattle.imap_data.specs.DatumValues.{Exists, Flags, Listed, Search, Sort, Status, Recent, MetadataSolicited, MetadataUnsolicited, GmailLabels, GmailMsgId, GmailThrId, lent_datum}
 use Rattle.imap_data.specs.MailboxDataTexts.{canonical_datum}
 
@@ -88,7 +88,7 @@ response_code c = ap (λ x. words "[" then x then words "]") (code c)
 
 -- ---- data of a mailbox
 
-name_attribute : Keeps lent_attribute canonical_attribute
+name_attribute : Keeps lent_name_attribute canonical_name_attribute
 name_attribute NoInferiors = refl
 name_attribute NoSelect = refl
 name_attribute Marked = refl
@@ -107,7 +107,7 @@ delimiter None = refl
 delimiter (Some t) = refl
 
 list : Keeps lent_list canonical_list
-list l = ap₂ (λ x y. x then space then y then space then canonical_mailbox l.name) (list_keeps lent_attribute canonical_attribute name_attribute l.name_attributes) (delimiter l.delimiter)
+list l = ap₂ (λ x y. x then space then y then space then canonical_mailbox l.name) (list_keeps lent_name_attribute canonical_name_attribute name_attribute l.name_attributes) (delimiter l.delimiter)
 
 pub entries_kept : Keeps (map lent_text) canonical_entries
 entries_kept = separated_keeps space lent_text literal_text (λ t. refl)

@@ -1,8 +1,8 @@
 -- Sets of rules: where one of these is unfolded, each of its rules is.
 use Rattle.std.specs.Prelude.{⊤}
 use Rattle.imap_bytes.specs.Numbers.{number, digits}
-use Rattle.imap_items.specs.Capabilities.{capability_data}
-use Rattle.imap_items.specs.Gmail.{gmail_label_list, gmail_msgid, gmail_thrid}
+use Rattle.imap_shared.specs.Capabilities.{capability_data}
+use Rattle.imap_shared.specs.Gmail.{gmail_label_list, gmail_msgid, gmail_thrid}
 use Rattle.imap_data.specs.Annotations.{metadata_solicited, metadata_unsolicited}
 use Rattle.imap_data.specs.Codes.{any_code, basic_code, uid_code, metadata_code, bad_charset, capabilities, permanent_flags, uid_validity, uid_next, unseen, highest_mod_seq, append_uid, copy_uid, long_entries, max_size, too_many, no_private}
 use Rattle.imap_data.specs.Counts.{status_item, messages, highest_mod_seq as item_mod_seq, recent as item_recent, uid_next as item_uid_next, uid_validity as item_uid_validity, unseen as item_unseen}

@@ -9,9 +9,9 @@ use Rattle.imap_grammar.specs.Step.{step, tag_step, run0_step}
 use Rattle.imap_grammar.specs.Tags.{same_letter}
 use Rattle.imap_grammar.proofs.ReadingWords.{letter}
 use Rattle.imap_grammar.proofs.Starts.{waited, denied}
-use Rattle.imap_items.specs.Flags.{backslashed_text, backslashed}
+use Rattle.imap_shared.specs.Flags.{backslashed_text, backslashed}
 use Rattle.imap_data.specs.Names.{NameAttributeValue, NoInferiors, NoSelect, Marked, Unmarked, All, Archive, Drafts, Flagged, Junk, Sent, Trash, name_attribute}
-use Rattle.imap_data.specs.NameGroups.{extension, attribute_of_n, attribute_of_m_u, attribute_of_a, attribute_of_d_f_j, attribute_of_s_t}
+use Rattle.imap_data.specs.NameGroups.{extension, name_attribute_of_n, name_attribute_of_m_u, name_attribute_of_a, name_attribute_of_d_f_j, name_attribute_of_s_t}
 
 -- words, each with its value
 abbrev Words : Type 0
@@ -162,42 +162,42 @@ unfolding name_attribute extension backslashed_text backslashed tag_step run0_st
 alone c true e = elim (letter 92 c e) [ inl is ↦ rw is refl | inr is ↦ rw is refl ]
 alone c false e = denied name_attribute c [] (rw (e, no_backslash c e) refl) ∙ sym (denied extension c [] (no_backslash c e))
 
-pub attribute_alone : (m : List ℕ) → slice_get m 1 ≡ None → step name_attribute m ≡ step extension m
+pub name_attribute_alone : (m : List ℕ) → slice_get m 1 ≡ None → step name_attribute m ≡ step extension m
 unfolding name_attribute extension backslashed_text backslashed
-attribute_alone [] is = waited name_attribute refl ∙ sym (waited extension refl)
-attribute_alone (c ∷ []) is = alone c (same_letter 92 c) refl
-attribute_alone (c ∷ d ∷ m) is = absurd cc
+name_attribute_alone [] is = waited name_attribute refl ∙ sym (waited extension refl)
+name_attribute_alone (c ∷ []) is = alone c (same_letter 92 c) refl
+name_attribute_alone (c ∷ d ∷ m) is = absurd cc
 
-pub attribute_is_of_n : (m : List ℕ) → SecondAny (codes "nN") m → step name_attribute m ≡ step attribute_of_n m
-unfolding name_attribute attribute_of_n extension
-attribute_is_of_n = by_second (codes "nN") attributes ((codes "\\Noinferiors", NoInferiors) ∷ (codes "\\Noselect", NoSelect) ∷ []) (refl, (refl, tt))
+pub name_attribute_is_of_n : (m : List ℕ) → SecondAny (codes "nN") m → step name_attribute m ≡ step name_attribute_of_n m
+unfolding name_attribute name_attribute_of_n extension
+name_attribute_is_of_n = by_second (codes "nN") attributes ((codes "\\Noinferiors", NoInferiors) ∷ (codes "\\Noselect", NoSelect) ∷ []) (refl, (refl, tt))
 
-pub attribute_is_of_m_u : (m : List ℕ) → SecondAny (codes "mMuU") m → step name_attribute m ≡ step attribute_of_m_u m
-unfolding name_attribute attribute_of_m_u extension
-attribute_is_of_m_u = by_second (codes "mMuU") attributes ((codes "\\Marked", Marked) ∷ (codes "\\Unmarked", Unmarked) ∷ []) (refl, (refl, (refl, (refl, tt))))
+pub name_attribute_is_of_m_u : (m : List ℕ) → SecondAny (codes "mMuU") m → step name_attribute m ≡ step name_attribute_of_m_u m
+unfolding name_attribute name_attribute_of_m_u extension
+name_attribute_is_of_m_u = by_second (codes "mMuU") attributes ((codes "\\Marked", Marked) ∷ (codes "\\Unmarked", Unmarked) ∷ []) (refl, (refl, (refl, (refl, tt))))
 
-pub attribute_is_of_a : (m : List ℕ) → SecondAny (codes "aA") m → step name_attribute m ≡ step attribute_of_a m
-unfolding name_attribute attribute_of_a extension
-attribute_is_of_a = by_second (codes "aA") attributes ((codes "\\All", All) ∷ (codes "\\Archive", Archive) ∷ []) (refl, (refl, tt))
+pub name_attribute_is_of_a : (m : List ℕ) → SecondAny (codes "aA") m → step name_attribute m ≡ step name_attribute_of_a m
+unfolding name_attribute name_attribute_of_a extension
+name_attribute_is_of_a = by_second (codes "aA") attributes ((codes "\\All", All) ∷ (codes "\\Archive", Archive) ∷ []) (refl, (refl, tt))
 
-pub attribute_is_of_d_f_j : (m : List ℕ) → SecondAny (codes "dDfFjJ") m → step name_attribute m ≡ step attribute_of_d_f_j m
-unfolding name_attribute attribute_of_d_f_j extension
-attribute_is_of_d_f_j = by_second (codes "dDfFjJ") attributes ((codes "\\Drafts", Drafts) ∷ (codes "\\Flagged", Flagged) ∷ (codes "\\Junk", Junk) ∷ []) (refl, (refl, (refl, (refl, (refl, (refl, tt))))))
+pub name_attribute_is_of_d_f_j : (m : List ℕ) → SecondAny (codes "dDfFjJ") m → step name_attribute m ≡ step name_attribute_of_d_f_j m
+unfolding name_attribute name_attribute_of_d_f_j extension
+name_attribute_is_of_d_f_j = by_second (codes "dDfFjJ") attributes ((codes "\\Drafts", Drafts) ∷ (codes "\\Flagged", Flagged) ∷ (codes "\\Junk", Junk) ∷ []) (refl, (refl, (refl, (refl, (refl, (refl, tt))))))
 
-pub attribute_is_of_s_t : (m : List ℕ) → SecondAny (codes "sStT") m → step name_attribute m ≡ step attribute_of_s_t m
-unfolding name_attribute attribute_of_s_t extension
-attribute_is_of_s_t = by_second (codes "sStT") attributes ((codes "\\Sent", Sent) ∷ (codes "\\Trash", Trash) ∷ []) (refl, (refl, (refl, (refl, tt))))
+pub name_attribute_is_of_s_t : (m : List ℕ) → SecondAny (codes "sStT") m → step name_attribute m ≡ step name_attribute_of_s_t m
+unfolding name_attribute name_attribute_of_s_t extension
+name_attribute_is_of_s_t = by_second (codes "sStT") attributes ((codes "\\Sent", Sent) ∷ (codes "\\Trash", Trash) ∷ []) (refl, (refl, (refl, (refl, tt))))
 
-pub attribute_is_other : (m : List ℕ) → SecondOther (codes "nNmMuUaAdDfFjJsStT") m → step name_attribute m ≡ step extension m
+pub name_attribute_is_other : (m : List ℕ) → SecondOther (codes "nNmMuUaAdDfFjJsStT") m → step name_attribute m ≡ step extension m
 unfolding name_attribute extension
-attribute_is_other = by_none_of (codes "nNmMuUaAdDfFjJsStT") attributes refl
+name_attribute_is_other = by_none_of (codes "nNmMuUaAdDfFjJsStT") attributes refl
 
 pub ruleset arms = (
-  attribute_alone,
-  attribute_is_of_n,
-  attribute_is_of_m_u,
-  attribute_is_of_a,
-  attribute_is_of_d_f_j,
-  attribute_is_of_s_t,
-  attribute_is_other,
+  name_attribute_alone,
+  name_attribute_is_of_n,
+  name_attribute_is_of_m_u,
+  name_attribute_is_of_a,
+  name_attribute_is_of_d_f_j,
+  name_attribute_is_of_s_t,
+  name_attribute_is_other,
 )

@@ -8,7 +8,7 @@ use Rattle.imap_grammar.specs.Tags.{word, sp}
 use Rattle.imap_grammar.specs.Text.{Bytes, Text, IsOwned}
 use Rattle.imap_grammar.proofs.Memory.{stands_behind}
 use Rattle.imap_bytes.specs.Texts.{quoted_utf8, astring_utf8, YieldsOwned}
-use Rattle.imap_items.specs.Mailboxes.{mailbox}
+use Rattle.imap_shared.specs.Mailboxes.{mailbox}
 use Rattle.imap_data.specs.Counts.{status_item}
 use Rattle.imap_data.specs.Names.{NameAttributeValue, name_attributes, delimiter, ListMayWant}
 use Rattle.imap_data.specs.MailboxData.{StatusMayWant}

@@ -4,9 +4,9 @@ use Rattle.imap_grammar.specs.Text.{Text}
 use Rattle.imap_grammar.specs.Pieces.{Pieces, ◌then◌, words, space, number_text, literal_text, list_text}
 use Rattle.imap_grammar.specs.ReadBack.{Texts}
 use Rattle.imap_grammar.specs.Spelling.{this, exactly, in_any_case, ◌and◌, spells_number, spells_astring_text, spells_some_list}
-use Rattle.imap_items.specs.FlagTexts.{canonical_flag_list, spells_flag_list}
-use Rattle.imap_items.specs.CapabilityTexts.{canonical_each, spells_capability_data}
-use Rattle.imap_items.specs.UidSetTexts.{canonical_uid_set, spells_uid_set}
+use Rattle.imap_shared.specs.FlagTexts.{canonical_flag_list, spells_flag_list}
+use Rattle.imap_shared.specs.CapabilityTexts.{canonical_each, spells_capability_data}
+use Rattle.imap_shared.specs.UidSetTexts.{canonical_uid_set, spells_uid_set}
 use Rattle.imap_data.specs.Codes.{CodeValue, Alert, Parse, ReadOnly, ReadWrite, TryCreate, UidNotSticky, MetadataTooMany, MetadataNoPrivate, BadCharset, Capabilities, PermanentFlags, UidNext, UidValidity, Unseen, HighestModSeq, MetadataLongEntries, MetadataMaxSize, AppendUid, CopyUid}
 
 abbrev pub canonical_charsets : Option (List Text) → Pieces

@@ -8,11 +8,11 @@ use Rattle.imap_grammar.specs.Tags.{tag, word, names, sp}
 use Rattle.imap_grammar.specs.Lists.{nonempty_list_of}
 use Rattle.imap_bytes.specs.Numbers.{number, number_64}
 use Rattle.imap_bytes.specs.Texts.{astring_utf8}
-use Rattle.imap_items.specs.Flags.{flag_list}
-use Rattle.imap_items.specs.Capabilities.{capability_data}
-use Rattle.imap_items.specs.UidSets.{MemberValue, uid_set, member_value, IsOrdered}
+use Rattle.imap_shared.specs.Flags.{flag_list}
+use Rattle.imap_shared.specs.Capabilities.{capability_data}
+use Rattle.imap_shared.specs.UidSets.{MemberValue, uid_set, member_value, IsOrdered}
 use Rattle.std.specs.List.{All}
-use Rattle.imap_items.specs.Capabilities.{CapabilityValue, capability_value, changed_capability}
+use Rattle.imap_shared.specs.Capabilities.{CapabilityValue, capability_value, changed_capability}
 use Rattle.imap_data.specs.declared.types.codes.ResponseCode.{ResponseCode}
 use Rattle.imap_data.specs.declared.types.codes.ResponseCode.TheVariants as code
 

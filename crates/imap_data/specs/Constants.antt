@@ -5,9 +5,9 @@ use Rattle.imap_grammar.specs.Meaning.{is_word}
 use Rattle.imap_grammar.specs.Tags.{same_letter}
 use Rattle.imap_grammar.specs.Text.{Bytes}
 use Rattle.imap_grammar.specs.Rule.{Rule, meaning}
-use Rattle.imap_items.specs.Capabilities.{CapabilityValue, Imap4rev1}
-use Rattle.imap_items.specs.declared.types.statuses.Status.{Status}
-use Rattle.imap_items.specs.declared.types.statuses.Status.TheVariants.{Ok, No, Bad, PreAuth, Bye}
+use Rattle.imap_shared.specs.Capabilities.{CapabilityValue, Imap4rev1}
+use Rattle.imap_shared.specs.declared.types.statuses.Status.{Status}
+use Rattle.imap_shared.specs.declared.types.statuses.Status.TheVariants.{Ok, No, Bad, PreAuth, Bye}
 use Rattle.imap_extensions.specs.Quotas.{QuotaResourceNameValue, Storage, Message}
 use Rattle.imap_data.specs.Codes.{CodeValue, Alert, Parse, ReadOnly, ReadWrite, TryCreate, UidNotSticky, MetadataTooMany, MetadataNoPrivate, BadCharset}
 use Rattle.imap_data.specs.Names.{NameAttributeValue, NoInferiors, NoSelect, Marked, Unmarked, All, Archive, Drafts, Flagged, Junk, Sent, Trash}
@@ -31,8 +31,8 @@ code_texts =
     ∷ ("[METADATA NOPRIVATE]", MetadataNoPrivate)
     ∷ []
 
-abbrev pub attribute_texts : List (String × NameAttributeValue)
-attribute_texts =
+abbrev pub name_attribute_texts : List (String × NameAttributeValue)
+name_attribute_texts =
     ("\\Noinferiors", NoInferiors)
     ∷ ("\\Noselect", NoSelect)
     ∷ ("\\Marked", Marked)

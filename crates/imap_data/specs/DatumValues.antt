@@ -1,7 +1,7 @@
 -- The values of mailbox data: texts by their bytes, and whether they are borrowed.
 use Rattle.std.specs.Prelude.{ℕ, List, map}
 use Rattle.imap_grammar.specs.Text.{Text, text_of, lent_text}
-use Rattle.imap_extensions.specs.Annotations.{MetadataValue, metadata_value}
+use Rattle.imap_data.specs.AnnotationValues.{MetadataValue, metadata_value}
 use Rattle.imap_data.specs.Names.{ListValue, list_value, changed_list}
 use Rattle.imap_data.specs.declared.types.counts.StatusAttribute.{StatusAttribute}
 use Rattle.imap_data.specs.declared.types.mailbox_data.MailboxDatum.{MailboxDatum}

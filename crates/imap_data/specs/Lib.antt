@@ -10,3 +10,5 @@ pub mod NameTexts
 pub mod MailboxDataTexts
 pub mod Owned
 pub mod Constants
+pub mod AnnotationTexts
+pub mod AnnotationValues

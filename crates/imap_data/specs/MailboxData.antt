@@ -8,11 +8,11 @@ use Rattle.imap_grammar.specs.Tags.{word, sp}
 use Rattle.imap_bytes.specs.Numbers.{number}
 use Rattle.imap_bytes.specs.Texts.{astring_utf8, YieldsOwned}
 use Rattle.imap_data.specs.declared.types.counts.StatusAttribute.{StatusAttribute}
-use Rattle.imap_items.specs.Flags.{flag_text, flag_list}
-use Rattle.imap_items.specs.Mailboxes.{mailbox}
+use Rattle.imap_shared.specs.Flags.{flag_text, flag_list}
+use Rattle.imap_shared.specs.Mailboxes.{mailbox}
 use Rattle.imap_data.specs.Names.{list_data, ListMayWant}
 use Rattle.imap_data.specs.Counts.{status_item, status_items, found_number, found_numbers}
-use Rattle.imap_items.specs.Gmail.{gmail_label_list, gmail_msgid, gmail_thrid}
+use Rattle.imap_shared.specs.Gmail.{gmail_label_list, gmail_msgid, gmail_thrid}
 use Rattle.imap_data.specs.DatumValues.{DatumValue, Exists, Flags, Listed, Search, Sort, Status, Recent, GmailLabels, GmailMsgId, GmailThrId}
 
 unfoldable pub flags : Rule DatumValue

@@ -3,13 +3,13 @@ use Rattle.std.specs.Prelude.{ℕ, ◌⊎◌, List}
 use Rattle.imap_grammar.specs.Pieces.{Pieces, ◌then◌, words, space, number_text, each, list_text}
 use Rattle.imap_grammar.specs.ReadBack.{Texts}
 use Rattle.imap_grammar.specs.Spelling.{exactly, in_any_case, ◌and◌, maybe, each_of, spells_number, spells_list}
-use Rattle.imap_items.specs.FlagTexts.{canonical_flag_list, spells_flag_list}
-use Rattle.imap_items.specs.GmailTexts.{canonical_label_list, canonical_msgid, canonical_thrid, spells_label_list, spells_msgid, spells_thrid}
-use Rattle.imap_items.specs.MailboxTexts.{canonical_mailbox, spells_mailbox}
+use Rattle.imap_shared.specs.FlagTexts.{canonical_flag_list, spells_flag_list}
+use Rattle.imap_shared.specs.GmailTexts.{canonical_label_list, canonical_msgid, canonical_thrid, spells_label_list, spells_msgid, spells_thrid}
+use Rattle.imap_shared.specs.MailboxTexts.{canonical_mailbox, spells_mailbox}
 use Rattle.imap_data.specs.declared.types.counts.StatusAttribute.{StatusAttribute}
 use Rattle.imap_data.specs.declared.types.counts.StatusAttribute.TheVariants.{HighestModSeq, Messages, Recent as RecentItem, UidNext, UidValidity, Unseen}
 use Rattle.imap_data.specs.NameTexts.{canonical_list, spells_list_data}
-use Rattle.imap_extensions.specs.AnnotationTexts.{canonical_solicited, canonical_unsolicited, spells_solicited, spells_unsolicited}
+use Rattle.imap_data.specs.AnnotationTexts.{canonical_solicited, canonical_unsolicited, spells_solicited, spells_unsolicited}
 use Rattle.imap_data.specs.DatumValues.{DatumValue, Exists, Flags, Listed, Search, Sort, Status, Recent, MetadataSolicited, MetadataUnsolicited, GmailLabels, GmailMsgId, GmailThrId}
 
 abbrev pub canonical_item : StatusAttribute → Pieces

@@ -8,9 +8,9 @@ use Rattle.imap_grammar.specs.Tags.{names, sp}
 use Rattle.imap_grammar.specs.Lists.{list_of, opened}
 use Rattle.imap_bytes.specs.Strings.{nil}
 use Rattle.imap_bytes.specs.Texts.{quoted_utf8, astring_utf8, YieldsOwned}
-use Rattle.imap_items.specs.Flags.{backslashed_text}
-use Rattle.imap_items.specs.Copies.{IsLent}
-use Rattle.imap_items.specs.Mailboxes.{mailbox}
+use Rattle.imap_shared.specs.Flags.{backslashed_text}
+use Rattle.imap_shared.specs.Copies.{IsLent}
+use Rattle.imap_shared.specs.Mailboxes.{mailbox}
 use Rattle.imap_data.specs.declared.types.names.NameAttribute.{NameAttribute}
 use Rattle.imap_data.specs.declared.types.names.NameAttribute.TheVariants as name
 use Rattle.imap_data.specs.declared.types.names.MailboxListData.{MailboxListData}
@@ -29,60 +29,60 @@ pub record ListValue : Type 0 where
 
 -- ---- of the code's values
 
-abbrev pub attribute_value : NameAttribute → NameAttributeValue
-attribute_value name.NoInferiors = NoInferiors
-attribute_value name.NoSelect = NoSelect
-attribute_value name.Marked = Marked
-attribute_value name.Unmarked = Unmarked
-attribute_value name.All = All
-attribute_value name.Archive = Archive
-attribute_value name.Drafts = Drafts
-attribute_value name.Flagged = Flagged
-attribute_value name.Junk = Junk
-attribute_value name.Sent = Sent
-attribute_value name.Trash = Trash
-attribute_value (name.Extension t) = Extension (text_of t)
+abbrev pub name_attribute_value : NameAttribute → NameAttributeValue
+name_attribute_value name.NoInferiors = NoInferiors
+name_attribute_value name.NoSelect = NoSelect
+name_attribute_value name.Marked = Marked
+name_attribute_value name.Unmarked = Unmarked
+name_attribute_value name.All = All
+name_attribute_value name.Archive = Archive
+name_attribute_value name.Drafts = Drafts
+name_attribute_value name.Flagged = Flagged
+name_attribute_value name.Junk = Junk
+name_attribute_value name.Sent = Sent
+name_attribute_value name.Trash = Trash
+name_attribute_value (name.Extension t) = Extension (text_of t)
 
 abbrev pub list_value : MailboxListData → ListValue
 list_value l =
     record {
-      name_attributes = map attribute_value l.name_attributes.items;
+      name_attributes = map name_attribute_value l.name_attributes.items;
       delimiter = option_map text_of l.delimiter;
       name = text_of l.name;
     }
 
 -- ---- with each text changed by h
 
-abbrev pub changed_attribute : (Text → Text) → NameAttributeValue → NameAttributeValue
-changed_attribute h (Extension t) = Extension (h t)
-changed_attribute h other = other
+abbrev pub changed_name_attribute : (Text → Text) → NameAttributeValue → NameAttributeValue
+changed_name_attribute h (Extension t) = Extension (h t)
+changed_name_attribute h other = other
 
 abbrev pub changed_list : (Text → Text) → ListValue → ListValue
 changed_list h l =
     record {
-      name_attributes = map (changed_attribute h) l.name_attributes;
+      name_attributes = map (changed_name_attribute h) l.name_attributes;
       delimiter = option_map h l.delimiter;
       name = h l.name;
     }
 
 -- ---- with all texts borrowed: two values say the same where these are equal
 
-abbrev pub lent_attribute : NameAttributeValue → NameAttributeValue
-lent_attribute = changed_attribute lent_text
+abbrev pub lent_name_attribute : NameAttributeValue → NameAttributeValue
+lent_name_attribute = changed_name_attribute lent_text
 
 abbrev pub lent_list : ListValue → ListValue
 lent_list = changed_list lent_text
 
-abbrev pub attribute_content : NameAttribute → NameAttributeValue
-attribute_content a = lent_attribute (attribute_value a)
+abbrev pub name_attribute_content : NameAttribute → NameAttributeValue
+name_attribute_content a = lent_name_attribute (name_attribute_value a)
 
 abbrev pub list_content : MailboxListData → ListValue
 list_content l = lent_list (list_value l)
 
 -- it holds no owned text
-abbrev pub IsLentAttribute : NameAttributeValue → Type 0
-IsLentAttribute (Extension t) = IsLent t
-IsLentAttribute other = Unit {0}
+abbrev pub IsLentNameAttribute : NameAttributeValue → Type 0
+IsLentNameAttribute (Extension t) = IsLent t
+IsLentNameAttribute other = Unit {0}
 
 -- ---- rules
 

@@ -2,7 +2,7 @@
 use Rattle.std.specs.Prelude.{Some}
 use Rattle.imap_grammar.specs.Text.{owned_text, IsOwned}
 use Rattle.imap_data.specs.Codes.{CodeValue, BadCharset, Capabilities, PermanentFlags, changed_code}
-use Rattle.imap_data.specs.Names.{NameAttributeValue, Extension, ListValue, changed_attribute, changed_list}
+use Rattle.imap_data.specs.Names.{NameAttributeValue, Extension, ListValue, changed_name_attribute, changed_list}
 use Rattle.imap_data.specs.DatumValues.{DatumValue, Flags, Listed, Status, MetadataSolicited, MetadataUnsolicited, GmailLabels, changed_datum}
 
 abbrev pub owned_code : CodeValue → CodeValue
@@ -15,13 +15,13 @@ HoldsNoTexts (Capabilities capabilities) = ⊥
 HoldsNoTexts (PermanentFlags flags) = ⊥
 HoldsNoTexts other = Unit {0}
 
-abbrev pub owned_attribute : NameAttributeValue → NameAttributeValue
-owned_attribute = changed_attribute owned_text
+abbrev pub owned_name_attribute : NameAttributeValue → NameAttributeValue
+owned_name_attribute = changed_name_attribute owned_text
 
 -- it holds no borrowed text
-abbrev pub IsOwnedAttribute : NameAttributeValue → Type 0
-IsOwnedAttribute (Extension t) = IsOwned t
-IsOwnedAttribute other = Unit {0}
+abbrev pub IsOwnedNameAttribute : NameAttributeValue → Type 0
+IsOwnedNameAttribute (Extension t) = IsOwned t
+IsOwnedNameAttribute other = Unit {0}
 
 abbrev pub owned_list : ListValue → ListValue
 owned_list = changed_list owned_text

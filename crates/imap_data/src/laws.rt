@@ -1,63 +1,72 @@
-//! Laws of the rules of this crate, of `imap_items` and of `imap_extensions`, and of the types of this crate, as
+//! Laws of the rules of this crate, of `imap_shared` and of `imap_extensions`, and of the types of this crate, as
 //! contracts of functions that do nothing. Those of the types of the other two are in their own `laws`.
 
 ghost use Rattle.imap_grammar.specs.Stable.{Stable};
 ghost use Rattle.imap_grammar.specs.Equality.{Tells};
 ghost use Rattle.imap_grammar.specs.Copying.{CopiesFreely};
-ghost use Rattle.imap_items.specs.Statuses as statuses;
-ghost use Rattle.imap_items.specs.Flags as flags;
-ghost use Rattle.imap_items.specs.Capabilities as capabilities;
-ghost use Rattle.imap_items.specs.UidSets as uid_sets;
+ghost use Rattle.imap_shared.specs.Statuses as statuses;
+ghost use Rattle.imap_shared.specs.Flags as flags;
+ghost use Rattle.imap_shared.specs.Capabilities as capabilities;
+ghost use Rattle.imap_shared.specs.UidSets as uid_sets;
 ghost use Rattle.imap_data.specs.Codes as codes;
 ghost use Rattle.imap_data.specs.Codes.{CodeValue, code_content, lent_code};
-ghost use Rattle.imap_items.specs.Mailboxes as mailboxes;
+ghost use Rattle.imap_shared.specs.Mailboxes as mailboxes;
 ghost use Rattle.imap_data.specs.Names as names;
 ghost use Rattle.imap_data.specs.Counts as counts;
-ghost use Rattle.imap_items.specs.Gmail as gmail;
+ghost use Rattle.imap_shared.specs.Gmail as gmail;
 ghost use Rattle.imap_data.specs.MailboxData as mailbox_data;
-ghost use Rattle.imap_data.specs.Names.{NameAttributeValue, ListValue, attribute_content, list_content, lent_attribute, lent_list};
+ghost use Rattle.imap_data.specs.Names.{NameAttributeValue, ListValue, name_attribute_content, list_content};
+ghost use Rattle.imap_data.specs.Names.{lent_name_attribute, lent_list};
 ghost use Rattle.imap_data.specs.DatumValues.{DatumValue, datum_content, lent_datum};
-ghost use Rattle.imap_extensions.specs.Annotations as annotations;
+ghost use Rattle.imap_data.specs.Annotations as annotations;
+ghost use Rattle.imap_data.specs.AnnotationValues.{metadata_value};
 ghost use Rattle.imap_extensions.specs.Quotas as quotas;
 ghost use Rattle.imap_extensions.specs.Ids as ids;
 ghost use Rattle.imap_extensions.specs.Vanishings as vanishings;
-ghost use Rattle.imap_items.specs.Rights as rights;
+ghost use Rattle.imap_shared.specs.Rights as rights;
 ghost use Rattle.imap_extensions.specs.Acls as acls;
-ghost use Rattle.imap_data.specs.Annotations as metadata;
 ghost use Rattle.std.specs.Prelude.{◌≡◌, ◌∷◌, [], Some, map, option_map};
 ghost use Rattle.std.specs.Prelude.{codes as bytes};
 ghost use Rattle.std.specs.List.{AllByRecursion};
 ghost use Rattle.imap_grammar.specs.Text.{as_text, lent_text};
 ghost use Rattle.imap_grammar.specs.Ranges.{fresh};
 ghost use Rattle.imap_grammar.specs.ReadBack.{SpellsAndReadsBack, HasOneText, Closes, EndsItem, as_is};
-ghost use Rattle.imap_items.specs.Capabilities.{lent_capability};
-ghost use Rattle.imap_items.specs.StatusTexts.{canonical_status, spells_status};
-ghost use Rattle.imap_items.specs.FlagTexts.{canonical_flag, spells_flag, spells_flag_perm, canonical_flag_list, spells_flag_list};
-ghost use Rattle.imap_items.specs.GmailTexts.{canonical_label_list, spells_label_list, canonical_msgid, spells_msgid, canonical_thrid, spells_thrid};
-ghost use Rattle.imap_items.specs.CapabilityTexts.{canonical_capabilities, spells_capability_data, spells_enabled_data};
-ghost use Rattle.imap_items.specs.UidSetTexts.{canonical_uid_set, spells_uid_set};
-ghost use Rattle.imap_items.specs.MailboxTexts.{canonical_mailbox, spells_mailbox};
-ghost use Rattle.imap_items.specs.RightTexts.{canonical_rights, spells_rights};
+ghost use Rattle.imap_shared.specs.Capabilities.{lent_capability};
+ghost use Rattle.imap_shared.specs.StatusTexts.{canonical_status, spells_status};
+ghost use Rattle.imap_shared.specs.FlagTexts.{canonical_flag, spells_flag, spells_flag_perm, canonical_flag_list};
+ghost use Rattle.imap_shared.specs.FlagTexts.{spells_flag_list};
+ghost use Rattle.imap_shared.specs.GmailTexts.{canonical_label_list, spells_label_list, canonical_msgid, spells_msgid};
+ghost use Rattle.imap_shared.specs.GmailTexts.{canonical_thrid, spells_thrid};
+ghost use Rattle.imap_shared.specs.CapabilityTexts.{canonical_capabilities, spells_capability_data};
+ghost use Rattle.imap_shared.specs.CapabilityTexts.{spells_enabled_data};
+ghost use Rattle.imap_shared.specs.UidSetTexts.{canonical_uid_set, spells_uid_set};
+ghost use Rattle.imap_shared.specs.MailboxTexts.{canonical_mailbox, spells_mailbox};
+ghost use Rattle.imap_shared.specs.RightTexts.{canonical_rights, spells_rights};
 ghost use Rattle.imap_extensions.specs.Quotas.{lent_quota, lent_quota_root};
 ghost use Rattle.imap_extensions.specs.Ids.{lent_id, map_of_pairs};
 ghost use Rattle.imap_extensions.specs.IdTexts.{spells_params};
-ghost use Rattle.imap_items.specs.declared.types.statuses.Status.TheVariants as status;
+ghost use Rattle.imap_shared.specs.declared.types.statuses.Status.TheVariants as status;
 ghost use Rattle.imap_extensions.specs.Acls.{lent_acl, lent_list_rights, lent_my_rights};
-ghost use Rattle.imap_data.specs.Owned.{owned_code, owned_attribute, owned_list, owned_datum};
-ghost use Rattle.imap_data.specs.Constants.{IsReadBy, status_texts, capability_texts, code_texts, attribute_texts, resource_texts};
+ghost use Rattle.imap_data.specs.Owned.{owned_code, owned_name_attribute, owned_list, owned_datum};
+ghost use Rattle.imap_data.specs.Constants.{IsReadBy, status_texts, capability_texts, code_texts, name_attribute_texts};
+ghost use Rattle.imap_data.specs.Constants.{resource_texts};
 ghost use Rattle.imap_data.specs.CodeTexts.{canonical_response_code, spells_response_code};
 ghost use Rattle.imap_data.specs.MailboxDataTexts.{canonical_datum, spells_datum};
-ghost use Rattle.imap_extensions.specs.QuotaTexts.{canonical_quota, spells_quota, canonical_quota_root, spells_quota_root};
+ghost use Rattle.imap_extensions.specs.QuotaTexts.{canonical_quota, spells_quota, canonical_quota_root};
+ghost use Rattle.imap_extensions.specs.QuotaTexts.{spells_quota_root};
 ghost use Rattle.imap_extensions.specs.IdTexts.{canonical_id, spells_id};
 ghost use Rattle.imap_extensions.specs.VanishingTexts.{canonical_vanished, spells_vanished};
-ghost use Rattle.imap_extensions.specs.AnnotationTexts.{canonical_metadata, canonical_annotations, canonical_entries, spells_metadata, spells_annotations, spells_entries};
-ghost use Rattle.imap_extensions.specs.AclTexts.{canonical_acl, spells_acl, canonical_list_rights, spells_list_rights, canonical_my_rights, spells_my_rights};
+ghost use Rattle.imap_data.specs.AnnotationTexts.{canonical_metadata, canonical_annotations, canonical_entries};
+ghost use Rattle.imap_data.specs.AnnotationTexts.{spells_metadata, spells_annotations, spells_entries};
+ghost use Rattle.imap_extensions.specs.AclTexts.{canonical_acl, spells_acl, canonical_list_rights, spells_list_rights};
+ghost use Rattle.imap_extensions.specs.AclTexts.{canonical_my_rights, spells_my_rights};
 
+use crate::types::annotations::Metadata;
 use crate::types::codes::ResponseCode;
 use crate::types::counts::StatusAttribute;
 use crate::types::mailbox_data::MailboxDatum;
 use crate::types::names::{MailboxListData, NameAttribute};
-pub use imap_items::laws::conversions;
+pub use imap_shared::laws::conversions;
 
 /// Each rule has one answer. Bytes that are appended change neither a value nor a denial; and where n bytes are
 /// lacking, k appended ones (k < n) leave n - k lacking.
@@ -98,15 +107,16 @@ pub fn stable()
     ensures metadata_mailbox { Stable annotations.metadata_mailbox }
     ensures annotations { Stable annotations.annotations }
     ensures entries { Stable annotations.entries }
-    ensures metadata_solicited { Stable metadata.metadata_solicited }
-    ensures metadata_unsolicited { Stable metadata.metadata_unsolicited }
+    ensures metadata_solicited { Stable annotations.metadata_solicited }
+    ensures metadata_unsolicited { Stable annotations.metadata_unsolicited }
 {}
 
 /// `==` tells whether two values say the same: texts by their bytes, whichever are borrowed.
 #[tactic(auto, using(crate::proofs::Codes::code_tells))]
 pub fn equality()
+    ensures metadata { Tells ⟦<Metadata as PartialEq>⟧.eq metadata_value }
     ensures response_code { Tells ⟦<ResponseCode<'static> as PartialEq>⟧.eq code_content }
-    ensures name_attribute { Tells ⟦<NameAttribute<'static> as PartialEq>⟧.eq attribute_content }
+    ensures name_attribute { Tells ⟦<NameAttribute<'static> as PartialEq>⟧.eq name_attribute_content }
     ensures list_data { Tells ⟦<MailboxListData<'static> as PartialEq>⟧.eq list_content }
     ensures status_item { Tells ⟦<StatusAttribute as PartialEq>⟧.eq (λ x. x) }
     ensures mailbox_datum { Tells ⟦<MailboxDatum<'static> as PartialEq>⟧.eq datum_content }
@@ -123,7 +133,7 @@ pub fn constants()
     ensures status { AllByRecursion (IsReadBy statuses.status) status_texts }
     ensures capability { AllByRecursion (IsReadBy capabilities.capability) capability_texts }
     ensures response_code { AllByRecursion (IsReadBy codes.response_code) code_texts }
-    ensures name_attribute { AllByRecursion (IsReadBy names.name_attribute) attribute_texts }
+    ensures name_attribute { AllByRecursion (IsReadBy names.name_attribute) name_attribute_texts }
     ensures quota_resource_name { AllByRecursion (IsReadBy quotas.quota_resource_name)
         resource_texts }
 {}
@@ -132,7 +142,7 @@ pub fn constants()
 pub fn owning()
     ensures response_code { (c : CodeValue) → lent_code (owned_code c) ≡ lent_code c }
     ensures name_attribute { (a : NameAttributeValue) →
-        lent_attribute (owned_attribute a) ≡ lent_attribute a }
+        lent_name_attribute (owned_name_attribute a) ≡ lent_name_attribute a }
     ensures list_data { (l : ListValue) → lent_list (owned_list l) ≡ lent_list l }
     ensures mailbox_datum { (d : DatumValue) → lent_datum (owned_datum d) ≡ lent_datum d }
 {}
@@ -141,7 +151,7 @@ pub fn owning()
 pub fn lending()
     ensures response_code { (c : CodeValue) → owned_code (lent_code c) ≡ owned_code c }
     ensures name_attribute { (a : NameAttributeValue) →
-        owned_attribute (lent_attribute a) ≡ owned_attribute a }
+        owned_name_attribute (lent_name_attribute a) ≡ owned_name_attribute a }
     ensures list_data { (l : ListValue) → owned_list (lent_list l) ≡ owned_list l }
     ensures mailbox_datum { (d : DatumValue) → owned_datum (lent_datum d) ≡ owned_datum d }
 {}
@@ -190,9 +200,9 @@ pub fn read_back()
         spells_annotations Closes }
     ensures entries { SpellsAndReadsBack annotations.entries (map lent_text) canonical_entries
         spells_entries Closes }
-    ensures metadata_solicited { SpellsAndReadsBack metadata.metadata_solicited lent_datum
+    ensures metadata_solicited { SpellsAndReadsBack annotations.metadata_solicited lent_datum
         canonical_datum spells_datum Closes }
-    ensures metadata_unsolicited { SpellsAndReadsBack metadata.metadata_unsolicited lent_datum
+    ensures metadata_unsolicited { SpellsAndReadsBack annotations.metadata_unsolicited lent_datum
         canonical_datum spells_datum Closes }
     ensures rights { SpellsAndReadsBack rights.rights as_is canonical_rights spells_rights Closes }
     ensures acl { SpellsAndReadsBack acls.acl lent_acl canonical_acl spells_acl Closes }

@@ -17,14 +17,13 @@ pub mod annotations;
 pub mod codes;
 pub mod counts;
 pub mod mailbox_data;
-pub mod names;
 
 pub use annotations::{metadata_solicited, metadata_unsolicited};
 pub use codes::response_code;
 pub use imap_extensions::readers::{
     acl, acls, id, ids, list_rights, my_rights, quota, quota_root, quotas, vanished, vanishings,
 };
-pub use imap_items::readers::{
+pub use imap_shared::readers::{
     capabilities, capability_data, enabled_data, flag, flag_list, flag_perm, flags, gmail,
     gmail_label_list, gmail_msgid, gmail_thrid, mailbox, mailboxes, rights, status, statuses,
     uid_set, uid_sets,

@@ -1,5 +1,6 @@
 //! The values that the readers give.
 
+pub(crate) mod annotations;
 pub(crate) mod codes;
 pub(crate) mod counts;
 pub(crate) mod mailbox_data;

@@ -13,7 +13,7 @@ use Rattle.imap_grammar.proofs.ReadingLists.{takes-text}
 use Rattle.imap_grammar.proofs.Spelling.{◌⨾ˢ◌, ◌▹ˢ◌, ◌◃ˢ◌, spells-gives, spells-wider, spells-tag, spells-maybe_space, spells-some1}
 use Rattle.imap_bytes.proofs.ReadingTexts.{reads-nstring, reads-nil_or}
 use Rattle.imap_bytes.proofs.SpellingTexts.{spells-nil_or, spells-nstring}
-use Rattle.imap_shapes.specs.Lent.{lent_ntext, lent_address, lent_addresses, lent_envelope}
+use Rattle.imap_body_types.specs.Lent.{lent_ntext, lent_address, lent_addresses, lent_envelope}
 use Rattle.imap_envelopes.specs.Envelopes.{spaced, byte_string, address_of, address, listed_address, some_addresses, addresses, envelope_of, envelope}
 use Rattle.imap_envelopes.specs.EnvelopeTexts.{canonical_address, canonical_addresses, canonical_envelope, behind_space, spells_bytes, spells_address, spells_addresses, spells_envelope}
 

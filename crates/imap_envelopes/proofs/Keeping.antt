@@ -2,7 +2,7 @@
 use Rattle.std.proofs.Common.{ℕ, Option, Some, None, ap}
 use Rattle.std.specs.Option.{option_map}
 use Rattle.imap_grammar.specs.Text.{Bytes}
-use Rattle.imap_shapes.specs.Spans.{Lookup, Rests}
+use Rattle.imap_body_types.specs.Spans.{Lookup, Rests}
 use Rattle.imap_envelopes.specs.Keeping.{IsKeptOf}
 
 pub kept_rests : {A B V : Type 0} (found : Lookup → A → V) (kept : Lookup → B → V) (m : Bytes) (q : ℕ) (x : A) (y : B) → IsKeptOf found kept m x y → Rests found q x → Rests kept q y

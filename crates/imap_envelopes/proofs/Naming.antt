@@ -5,8 +5,8 @@ use Rattle.std.specs.Option.{option_map}
 use Rattle.imap_grammar.specs.Text.{as_text}
 use Rattle.imap_grammar.specs.declared.at.span.Span.{Span}
 use Rattle.imap_grammar.specs.Positions.{Lies, maybe_in, named_in}
-use Rattle.imap_shapes.specs.Spans.{Rests, bytes_in}
-use Rattle.imap_shapes.proofs.Places.{bytes_rest, nothing_rests, something_rests}
+use Rattle.imap_body_types.specs.Spans.{Rests, bytes_in}
+use Rattle.imap_body_types.proofs.Places.{bytes_rest, nothing_rests, something_rests}
 use Rattle.imap_envelopes.specs.Spanned.{maybe_bytes_in}
 
 pub bytes_seen : (m : List ℕ) (x : Option Span) → option_map as_text (maybe_in m x) ≡ maybe_bytes_in (named_in m) x

@@ -4,7 +4,7 @@ use Rattle.imap_grammar.specs.Text.{Text}
 use Rattle.imap_grammar.specs.Pieces.{Pieces, ◌then◌, words, space, ntext, each}
 use Rattle.imap_grammar.specs.ReadBack.{Texts}
 use Rattle.imap_grammar.specs.Spelling.{exactly, ◌and◌, maybe, nil_or, some_each_of, spells_string}
-use Rattle.imap_shapes.specs.EnvelopeValues.{AddressValue, EnvelopeValue}
+use Rattle.imap_body_types.specs.EnvelopeValues.{AddressValue, EnvelopeValue}
 use Rattle.imap_envelopes.specs.Envelopes.{Addresses}
 
 -- ---- canonical text

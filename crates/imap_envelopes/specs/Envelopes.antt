@@ -5,7 +5,7 @@ use Rattle.imap_grammar.specs.Text.{Text, as_text}
 use Rattle.imap_grammar.specs.Rule.{Rule, gives, opt, some1, ◌⨾◌, ◌▹◌, ◌◃◌}
 use Rattle.imap_grammar.specs.Tags.{tag, sp}
 use Rattle.imap_bytes.specs.Strings.{nstring, nil_or}
-use Rattle.imap_shapes.specs.EnvelopeValues.{AddressValue, EnvelopeValue, addresses_seen}
+use Rattle.imap_body_types.specs.EnvelopeValues.{AddressValue, EnvelopeValue, addresses_seen}
 use Rattle.imap_envelopes.specs.declared.at.envelopes.LastFields.{LastFields}
 
 -- SP A

@@ -2,7 +2,7 @@
 use Rattle.std.specs.Prelude.{◌≡◌}
 use Rattle.imap_grammar.specs.Text.{Bytes}
 use Rattle.imap_grammar.specs.Positions.{named_in}
-use Rattle.imap_shapes.specs.Spans.{Lookup}
+use Rattle.imap_body_types.specs.Spans.{Lookup}
 
 -- y is kept of x, which was found in m: in m, y stands for the same value as x (`is`). And where x stands for the same
 -- value by two ways to look spans up, so does y (`rests`): y has no spans but those of x.

@@ -1,7 +1,7 @@
 //! Readers that walk positions in one message.
 //!
-//! Each reads m from p on, and answers the position after what it read. p must be at most m's length; where `keep`
-//! holds a message, that must be m.
+//! Each reads its message, m or that of its input, from p on, and answers the position after what it read. p must be at
+//! most the message's length; where `keep` holds a message, that must be m.
 //!
 //! Each answers `Error` where its rule denies what stands there, whatever follows; `Incomplete` where more bytes are
 //! needed to tell; and `Failure` only where memory ran out.

@@ -2,16 +2,16 @@
 
 ghost use Rattle.std.specs.Prelude.{◌≡◌, ◌≤◌, length, IfOk};
 ghost use Rattle.imap_grammar.specs.Text.{Bytes, Text, text_of};
-ghost use Rattle.imap_shapes.specs.Spans.{Lookup, bytes_of, bytes_in, text_in};
+ghost use Rattle.imap_body_types.specs.Spans.{Lookup, bytes_of, bytes_in, text_in};
 ghost use Rattle.imap_envelopes.specs.Keeping.{IsKeptOf};
 
-use imap_shapes::spans::{Span, SpannedText};
+use imap_body_types::spans::{Span, SpannedText};
 use std::alloc::{AllocError, Global};
 use std::borrow::{CowSlice, CowStr};
 
 /// What a reader keeps of the strings that it finds in a message, so that one reader serves for positions and for
 /// values.
-pub trait Keep {
+pub trait Keep: Drop {
     /// What is kept of a byte string.
     type Bytes: Drop;
     /// What is kept of a text.
@@ -66,14 +66,14 @@ impl Keep for Positions {
 /// Keeps what each string is in the message that is read: byte strings borrowed, and texts borrowed where their bytes
 /// are UTF-8.
 #[derive(Drop)]
-pub struct Named<'a> {
+pub struct Values<'a> {
     /// Where memory is taken for texts whose bytes are not UTF-8.
     pub alloc: Global,
     /// The message that is read.
     pub message: &'a [u8],
 }
 
-impl<'a> Keep for Named<'a> {
+impl<'a> Keep for Values<'a> {
     type Bytes = CowSlice<'a, u8>;
 
     type Text = CowStr<'a>;

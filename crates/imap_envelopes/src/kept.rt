@@ -2,13 +2,14 @@
 
 ghost use Rattle.std.specs.Prelude.{◌≤◌, length, IfOk, IfSome};
 ghost use Rattle.std.specs.Option.{option_map};
-ghost use Rattle.imap_shapes.specs.Spans.{bytes_in, text_in};
-ghost use Rattle.imap_shapes.specs.FieldValues.{pair_seen, encoding_seen};
+ghost use Rattle.imap_body_types.specs.Spans.{bytes_in, text_in};
+ghost use Rattle.imap_body_types.specs.FieldValues.{pair_seen, encoding_seen};
 ghost use Rattle.imap_envelopes.specs.Keeping.{IsKeptOf};
 
+use crate::input::Input;
 use crate::keep::Keep;
-use imap_shapes::shapes::fields::ContentEncoding;
-use imap_shapes::spans::{Span, SpannedText};
+use imap_body_types::shapes::fields::ContentEncoding;
+use imap_body_types::spans::{Span, SpannedText};
 use std::alloc::AllocError;
 
 /// Keeps a byte string, if there is one. No memory.
@@ -27,50 +28,42 @@ pub fn kept_bytes<K: Keep>(keep: &K, m: &[u8], bytes: Option<Span>) -> Option<K:
 /// Keeps a text, if there is one. It may take memory; `Err`: memory ran out.
 #[inline(always)]
 pub fn kept_text<K: Keep>(
-    keep: &K,
-    m: &[u8],
+    input: &Input<K>,
     text: Option<SpannedText>,
 ) -> Result<Option<K::Text>, AllocError>
-    requires { K.serves keep.now m.now }
     ensures { IfOk result
-        (IsKeptOf (λ n. option_map (text_in n)) (λ n. option_map (K.text_said n)) m.now
-        text) }
+        (IsKeptOf (λ n. option_map (text_in n)) (λ n. option_map (K.text_said n)) input.now text) }
 {
     match text {
         None => Ok(None),
-        Some(text) => Ok(Some(keep.text(m, text)?)),
+        Some(text) => Ok(Some(input.text(text)?)),
     }
 }
 
 /// Keeps a parameter: its name and its value. It may take memory; `Err`: memory ran out.
 #[inline(always)]
 pub fn kept_pair<K: Keep>(
-    keep: &K,
-    m: &[u8],
+    input: &Input<K>,
     pair: (SpannedText, SpannedText),
 ) -> Result<(K::Text, K::Text), AllocError>
-    requires { K.serves keep.now m.now }
     ensures { IfOk result
-        (IsKeptOf (λ n. pair_seen (text_in n)) (λ n. pair_seen (K.text_said n)) m.now
-        pair) }
+        (IsKeptOf (λ n. pair_seen (text_in n)) (λ n. pair_seen (K.text_said n)) input.now pair) }
 {
     let (name, value) = pair;
-    let name = keep.text(m, name)?;
-    let value = keep.text(m, value)?;
+    let name = input.text(name)?;
+    let value = input.text(value)?;
     Ok((name, value))
 }
 
 /// Keeps an encoding. It may take memory; `Err`: memory ran out.
 #[inline(always)]
 pub fn kept_encoding<K: Keep>(
-    keep: &K,
-    m: &[u8],
+    input: &Input<K>,
     encoding: ContentEncoding<SpannedText>,
 ) -> Result<ContentEncoding<K::Text>, AllocError>
-    requires { K.serves keep.now m.now }
     ensures { IfOk result
         (IsKeptOf (λ n. encoding_seen (text_in n)) (λ n. encoding_seen (K.text_said n))
-        m.now encoding) }
+        input.now encoding) }
 {
     Ok(match encoding {
         ContentEncoding::SevenBit => ContentEncoding::SevenBit,
@@ -78,6 +71,6 @@ pub fn kept_encoding<K: Keep>(
         ContentEncoding::Binary => ContentEncoding::Binary,
         ContentEncoding::Base64 => ContentEncoding::Base64,
         ContentEncoding::QuotedPrintable => ContentEncoding::QuotedPrintable,
-        ContentEncoding::Other(text) => ContentEncoding::Other(keep.text(m, text)?),
+        ContentEncoding::Other(text) => ContentEncoding::Other(input.text(text)?),
     })
 }

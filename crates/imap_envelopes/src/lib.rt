@@ -2,8 +2,10 @@
 #![tactic(auto)]
 
 pub mod at;
+pub mod input;
 pub mod keep;
 pub mod kept;
 pub mod readers;
 
-pub use keep::{Keep, Named, Positions};
+pub use input::Input;
+pub use keep::{Keep, Positions, Values};

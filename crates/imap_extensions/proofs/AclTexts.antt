@@ -16,8 +16,8 @@ use Rattle.imap_bytes.specs.Texts.{astring_utf8}
 use Rattle.imap_bytes.proofs.ReadingTexts.{reads-astring_utf8}
 use Rattle.imap_bytes.proofs.ReadingCounts.{closes_blanks}
 use Rattle.imap_bytes.proofs.SpellingTexts.{spells-astring_utf8}
-use Rattle.imap_items.proofs.MailboxTexts.{reads_mailbox, mailbox_spells}
-use Rattle.imap_items.proofs.RightTexts.{reads_rights, rights_spell}
+use Rattle.imap_shared.proofs.MailboxTexts.{reads_mailbox, mailbox_spells}
+use Rattle.imap_shared.proofs.RightTexts.{reads_rights, rights_spell}
 use Rattle.imap_extensions.specs.Acls.{lent_acl_entry, lent_acl, lent_my_rights, acl_entry_of, acl_entry, acl_entries, acl_of, acl, my_rights_of, my_rights}
 use Rattle.imap_extensions.specs.AclTexts.{canonical_acl_entry, canonical_acl, canonical_my_rights, spells_acl_entry, spells_acl, spells_my_rights}
 

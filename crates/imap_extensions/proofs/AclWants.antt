@@ -8,7 +8,7 @@ use Rattle.imap_grammar.specs.Text.{Bytes, Text, IsOwned}
 use Rattle.imap_grammar.proofs.Agreement.{reads}
 use Rattle.imap_grammar.proofs.Memory.{stands_behind}
 use Rattle.imap_bytes.specs.Texts.{astring_utf8, YieldsOwned}
-use Rattle.imap_items.specs.Mailboxes.{mailbox}
+use Rattle.imap_shared.specs.Mailboxes.{mailbox}
 use Rattle.imap_extensions.specs.Acls.{AclEntryValue, acl_entry, AclMayWant}
 
 -- a text that has to be owned stands there

@@ -9,14 +9,14 @@ use Rattle.imap_extensions.specs.declared.types.acls.AclEntry.{AclEntry}
 use Rattle.imap_extensions.specs.declared.types.acls.Acl.{Acl}
 use Rattle.imap_extensions.specs.declared.types.acls.ListRights.{ListRights}
 use Rattle.imap_extensions.specs.declared.types.acls.MyRights.{MyRights}
-use Rattle.imap_items.specs.declared.types.rights.AclRight.{AclRight}
+use Rattle.imap_shared.specs.declared.types.rights.AclRight.{AclRight}
 use Rattle.imap_extensions.specs.Acls.{acl_entry_value, lent_acl_entry, acl_entry_content, acl_content, list_rights_content, my_rights_content}
-use Rattle.imap_items.proofs.Rights.{right_tells}
+use Rattle.imap_shared.proofs.Rights.{right_tells}
 use Rattle.imap_extensions.specs.contracts.types.acls.AclEntryPartialEq.TheImpl as entry_eq
 use Rattle.imap_extensions.specs.contracts.types.acls.AclPartialEq.TheImpl as acl_eq
 use Rattle.imap_extensions.specs.contracts.types.acls.ListRightsPartialEq.TheImpl as list_eq
 use Rattle.imap_extensions.specs.contracts.types.acls.MyRightsPartialEq.TheImpl as my_eq
-use Rattle.imap_items.specs.contracts.types.rights.AclRightPartialEq.TheImpl as right_eq
+use Rattle.imap_shared.specs.contracts.types.rights.AclRightPartialEq.TheImpl as right_eq
 use Rattle.imap_grammar.proofs.Seen.{Tells, texts_tell, lists_tell, plain_lists_tell}
 
 rights_tell : Tells (pointwise (right_eq.eq-value).it) (λ (rights : List AclRight). rights)

@@ -2,12 +2,10 @@ pub mod Quotas
 pub mod Ids
 pub mod Acls
 mod AclWants
-pub mod Annotations
 pub mod QuotaTexts
 pub mod IdTexts
 pub mod VanishingTexts
 pub mod AclTexts
-pub mod AnnotationTexts
 pub mod OptionalRights
 pub mod Takes
 pub mod IdPairs

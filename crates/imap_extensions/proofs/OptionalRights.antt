@@ -22,11 +22,11 @@ use Rattle.imap_bytes.proofs.LossyTwice.{all-append}
 use Rattle.imap_bytes.proofs.ReadingTexts.{astring_on, decoded_utf8, reads-astring_utf8, utf8_yields}
 use Rattle.imap_bytes.proofs.ReadingCounts.{closes_blanks}
 use Rattle.imap_bytes.proofs.SpellingTexts.{spells-astring_utf8}
-use Rattle.imap_items.specs.declared.types.rights.AclRight.{AclRight}
-use Rattle.imap_items.specs.Rights.{right_of, letter_of, rights_of, rights_in, rights}
-use Rattle.imap_items.specs.RightTexts.{letters_of}
-use Rattle.imap_items.proofs.MailboxTexts.{reads_mailbox, mailbox_spells}
-use Rattle.imap_items.proofs.RightTexts.{letters_kept, reads_rights, rights_spell}
+use Rattle.imap_shared.specs.declared.types.rights.AclRight.{AclRight}
+use Rattle.imap_shared.specs.Rights.{right_of, letter_of, rights_of, rights_in, rights}
+use Rattle.imap_shared.specs.RightTexts.{letters_of}
+use Rattle.imap_shared.proofs.MailboxTexts.{reads_mailbox, mailbox_spells}
+use Rattle.imap_shared.proofs.RightTexts.{letters_kept, reads_rights, rights_spell}
 use Rattle.imap_extensions.specs.Acls.{lent_list_rights, joined, right_groups, optional_rights, list_rights_of, list_rights}
 use Rattle.imap_extensions.specs.AclTexts.{canonical_optional, canonical_list_rights, spells_optional, spells_list_rights}
 use Rattle.imap_extensions.proofs.AclTexts.{closes_text}

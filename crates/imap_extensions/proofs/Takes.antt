@@ -1,10 +1,9 @@
 -- That a rule takes at least a byte wherever it yields: of the items of lists.
 use Rattle.std.proofs.Common.{◌≡◌, true, refl}
 use Rattle.imap_grammar.proofs.Consumption.{consumes}
-use Rattle.imap_bytes.proofs.Takes.{astring_takes, astring_utf8_takes}
+use Rattle.imap_bytes.proofs.Takes.{astring_utf8_takes}
 use Rattle.imap_extensions.specs.Quotas.{quota_resource_name, quota_resource, quota_root_name}
 use Rattle.imap_extensions.specs.Acls.{acl_entry}
-use Rattle.imap_extensions.specs.Annotations.{entry, entry_utf8, annotation}
 
 pub quota_resource_name_takes : consumes quota_resource_name ≡ true
 unfolding quota_resource_name
@@ -21,11 +20,3 @@ quota_root_name_takes = refl
 pub acl_entry_takes : consumes acl_entry ≡ true
 unfolding acl_entry
 acl_entry_takes = rw astring_utf8_takes refl
-
-pub entry_utf8_takes : consumes entry_utf8 ≡ true
-unfolding entry_utf8 entry
-entry_utf8_takes = astring_takes
-
-pub annotation_takes : consumes annotation ≡ true
-unfolding annotation
-annotation_takes = rw entry_utf8_takes refl

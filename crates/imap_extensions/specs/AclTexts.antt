@@ -3,9 +3,9 @@ use Rattle.std.specs.Prelude.{◌≡◌, List, [], ◌∷◌}
 use Rattle.imap_grammar.specs.Pieces.{Pieces, ◌then◌, words, space, literal_text, each}
 use Rattle.imap_grammar.specs.ReadBack.{Texts}
 use Rattle.imap_grammar.specs.Spelling.{in_any_case, ◌and◌, blanks, some_blanks, with_between, spells_astring_text}
-use Rattle.imap_items.specs.declared.types.rights.AclRight.{AclRight}
-use Rattle.imap_items.specs.MailboxTexts.{canonical_mailbox, spells_mailbox}
-use Rattle.imap_items.specs.RightTexts.{canonical_rights, spells_rights}
+use Rattle.imap_shared.specs.declared.types.rights.AclRight.{AclRight}
+use Rattle.imap_shared.specs.MailboxTexts.{canonical_mailbox, spells_mailbox}
+use Rattle.imap_shared.specs.RightTexts.{canonical_rights, spells_rights}
 use Rattle.imap_extensions.specs.Acls.{AclEntryValue, AclValue, ListRightsValue, MyRightsValue, joined}
 
 abbrev pub canonical_acl_entry : AclEntryValue → Pieces

@@ -9,9 +9,9 @@ use Rattle.imap_grammar.specs.Rule.{Rule, gives, list0, ◌⨾◌, ◌▹◌}
 use Rattle.imap_grammar.specs.Tags.{word, blanks0, blanks1}
 use Rattle.imap_grammar.specs.Lists.{separator}
 use Rattle.imap_bytes.specs.Texts.{astring_utf8, YieldsOwned}
-use Rattle.imap_items.specs.Mailboxes.{mailbox}
-use Rattle.imap_items.specs.Rights.{rights}
-use Rattle.imap_items.specs.declared.types.rights.AclRight.{AclRight}
+use Rattle.imap_shared.specs.Mailboxes.{mailbox}
+use Rattle.imap_shared.specs.Rights.{rights}
+use Rattle.imap_shared.specs.declared.types.rights.AclRight.{AclRight}
 use Rattle.imap_extensions.specs.declared.types.acls.AclEntry.{AclEntry}
 use Rattle.imap_extensions.specs.declared.types.acls.Acl.{Acl}
 use Rattle.imap_extensions.specs.declared.types.acls.ListRights.{ListRights}

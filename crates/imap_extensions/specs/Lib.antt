@@ -2,10 +2,8 @@ pub mod Quotas
 pub mod Ids
 pub mod Vanishings
 pub mod Acls
-pub mod Annotations
 pub mod QuotaTexts
 pub mod IdTexts
 pub mod VanishingTexts
 pub mod AclTexts
-pub mod AnnotationTexts
 pub mod Owned

@@ -6,7 +6,7 @@ use Rattle.imap_grammar.specs.Rule.{Rule, many, gives, list0, ◌⨾◌, ◌▹�
 use Rattle.imap_grammar.specs.Tags.{tag, word, names, blanks1}
 use Rattle.imap_bytes.specs.Numbers.{number_64}
 use Rattle.imap_bytes.specs.Texts.{astring_utf8}
-use Rattle.imap_items.specs.Copies.{IsLent}
+use Rattle.imap_shared.specs.Copies.{IsLent}
 use Rattle.imap_extensions.specs.declared.types.quotas.QuotaResourceName.{QuotaResourceName}
 use Rattle.imap_extensions.specs.declared.types.quotas.QuotaResourceName.TheVariants as name
 use Rattle.imap_extensions.specs.declared.types.quotas.QuotaResource.{QuotaResource}

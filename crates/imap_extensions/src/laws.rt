@@ -2,14 +2,19 @@
 
 ghost use Rattle.std.specs.Prelude.{◌≡◌};
 ghost use Rattle.imap_grammar.specs.Equality.{Tells, HashesAlike};
-ghost use Rattle.imap_extensions.specs.Quotas.{QuotaResourceNameValue, QuotaResourceValue, QuotaValue, QuotaRootValue, quota_content, quota_resource_content, quota_resource_name_content, quota_root_content, lent_quota_resource_name, lent_quota_resource, lent_quota, lent_quota_root};
+ghost use Rattle.imap_extensions.specs.Quotas.{QuotaResourceNameValue, QuotaResourceValue, QuotaValue, QuotaRootValue};
+ghost use Rattle.imap_extensions.specs.Quotas.{quota_content, quota_resource_content, quota_resource_name_content};
+ghost use Rattle.imap_extensions.specs.Quotas.{quota_root_content, lent_quota_resource_name, lent_quota_resource};
+ghost use Rattle.imap_extensions.specs.Quotas.{lent_quota, lent_quota_root};
 ghost use Rattle.imap_extensions.specs.Ids.{IdValue, id_content, lent_id};
-ghost use Rattle.imap_extensions.specs.Acls.{AclEntryValue, AclValue, ListRightsValue, MyRightsValue, acl_entry_content, acl_content, list_rights_content, my_rights_content, lent_acl_entry, lent_acl, lent_list_rights, lent_my_rights};
-ghost use Rattle.imap_extensions.specs.Annotations.{metadata_value};
-ghost use Rattle.imap_extensions.specs.Owned.{owned_quota_resource_name, owned_quota_resource, owned_quota, owned_quota_root, owned_id, owned_acl_entry, owned_acl, owned_list_rights, owned_my_rights};
+ghost use Rattle.imap_extensions.specs.Acls.{AclEntryValue, AclValue, ListRightsValue, MyRightsValue};
+ghost use Rattle.imap_extensions.specs.Acls.{acl_entry_content, acl_content, list_rights_content, my_rights_content};
+ghost use Rattle.imap_extensions.specs.Acls.{lent_acl_entry, lent_acl, lent_list_rights, lent_my_rights};
+ghost use Rattle.imap_extensions.specs.Owned.{owned_quota_resource_name, owned_quota_resource, owned_quota};
+ghost use Rattle.imap_extensions.specs.Owned.{owned_quota_root, owned_id, owned_acl_entry, owned_acl};
+ghost use Rattle.imap_extensions.specs.Owned.{owned_list_rights, owned_my_rights};
 
 use crate::types::acls::{Acl, AclEntry, ListRights, MyRights};
-use crate::types::annotations::Metadata;
 use crate::types::ids::IdMap;
 use crate::types::quotas::{Quota, QuotaResource, QuotaResourceName, QuotaRoot};
 use std::hash::Hash;
@@ -27,7 +32,6 @@ pub fn equality()
     ensures acl { Tells ⟦<Acl<'static> as PartialEq>⟧.eq acl_content }
     ensures list_rights { Tells ⟦<ListRights<'static> as PartialEq>⟧.eq list_rights_content }
     ensures my_rights { Tells ⟦<MyRights<'static> as PartialEq>⟧.eq my_rights_content }
-    ensures metadata { Tells ⟦<Metadata as PartialEq>⟧.eq metadata_value }
 {}
 
 /// Values that say the same hash alike.

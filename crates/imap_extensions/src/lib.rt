@@ -1,5 +1,4 @@
-//! The lines of extensions: QUOTA and QUOTAROOT, ID, ACL with LISTRIGHTS and MYRIGHTS, and VANISHED; and the parts of
-//! METADATA.
+//! The lines of extensions: QUOTA and QUOTAROOT, ID, ACL with LISTRIGHTS and MYRIGHTS, and VANISHED.
 #![tactic(auto)]
 
 pub mod laws;
@@ -7,6 +6,5 @@ pub mod readers;
 mod types;
 
 pub use types::acls::{Acl, AclEntry, ListRights, MyRights};
-pub use types::annotations::{Metadata, copied_annotations};
 pub use types::ids::{IdMap, owned_id_map};
 pub use types::quotas::{Quota, QuotaResource, QuotaResourceName, QuotaRoot};

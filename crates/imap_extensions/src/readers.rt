@@ -4,7 +4,6 @@
 //! needed to tell; and `Failure` only where memory ran out.
 
 pub mod acls;
-pub mod annotations;
 pub mod ids;
 pub mod quotas;
 pub mod vanishings;

@@ -1,6 +1,5 @@
 //! The values that the readers give.
 
 pub(crate) mod acls;
-pub(crate) mod annotations;
 pub(crate) mod ids;
 pub(crate) mod quotas;

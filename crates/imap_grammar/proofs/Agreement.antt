@@ -84,8 +84,8 @@ pub exactly_gives : {A V : Type 0} (view : A → V) (result : Returned A) (s : S
 exactly_gives view (Ok x) s h = h
 exactly_gives view (Err e) s h = stops e s h
 
-pub exact_answered : {A V : Type 0} (r : Rule V) (view : A → V) (m : List ℕ) (result : Returned A) → Exactly view result (step r m) → Answers r view m result
-exact_answered r view m result h = answered r view m result (exactly_gives view result (step r m) h)
+pub exact_answer : {A V : Type 0} (r : Rule V) (view : A → V) (m : List ℕ) (result : Returned A) → Exactly view result (step r m) → Answers r view m result
+exact_answer r view m result h = answered r view m result (exactly_gives view result (step r m) h)
 
 -- ---- readers of positions
 
@@ -106,8 +106,8 @@ pub exactly_gives_at : {A V : Type 0} (view : A → V) (m : List ℕ) (result : 
 exactly_gives_at view m (Ok x) s h = h
 exactly_gives_at view m (Err e) s h = stops e s h
 
-pub exact_answered_at : {A V : Type 0} (r : Rule V) (view : A → V) (m : List ℕ) (p : ℕ) (result : Reached A) → ExactlyAt view m result (step r (drop p m)) → AnswersAt r view m p result
-exact_answered_at r view m p result h = answered_at r view m p result (exactly_gives_at view m result (step r (drop p m)) h)
+pub exact_answer_at : {A V : Type 0} (r : Rule V) (view : A → V) (m : List ℕ) (p : ℕ) (result : Reached A) → ExactlyAt view m result (step r (drop p m)) → AnswersAt r view m p result
+exact_answer_at r view m p result h = answered_at r view m p result (exactly_gives_at view m result (step r (drop p m)) h)
 
 -- what the step says of the meaning
 pub reads : {V : Type 0} (r : Rule V) (m rest : List ℕ) (v : V) → step r m ≡ Ok (rest, v) → (meaning r).yields m v rest

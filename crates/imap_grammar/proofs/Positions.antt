@@ -66,6 +66,9 @@ zip_cut [] m = refl
 zip_cut (x ∷ word) [] = refl
 zip_cut (x ∷ word) (b ∷ m) = ap (λ ps. (x, b) ∷ ps) (zip_cut word m)
 
+-- a word is compared with as many bytes as it has, and the rest stands behind these
+pub ruleset word_cut = (stepped, zip_cut)
+
 pub first_is : (p : ℕ → Bool) (m : List ℕ) (b : ℕ) → Some b ≡ slice_get m 0 → begins p m ≡ p b
 first_is p [] b e = absurd cc
 first_is p (c ∷ m) b e = let same : b ≡ c = cc in ap p (sym same)

@@ -61,6 +61,14 @@ abbrev pub Ahead : {A : Type 0} → List ℕ → ℕ → Reached A → Type 0
 Ahead m p (Ok x) = (p ≤ x.0) × (x.0 ≤ length m)
 Ahead m p (Err e) = Unit {0}
 
+-- What was read in m from p on is what the rule says of it, and the reader stops in m, not before p.
+abbrev pub ReadsAt : {A V : Type 0} → Rule V → (A → V) → List ℕ → ℕ → Reached A → Type 0
+ReadsAt r view m p result = StepsAt r view m p result × Ahead m p result
+
+-- It is, by a reader that takes no memory.
+abbrev pub ReadsExactlyAt : {A V : Type 0} → Rule V → (A → V) → List ℕ → ℕ → Reached A → Type 0
+ReadsExactlyAt r view m p result = StepsExactlyAt r view m p result × Ahead m p result
+
 -- the span lies between two positions
 abbrev pub Lies : ℕ → Span → ℕ → Type 0
 Lies p s q = (p ≤ s.start) × (s.start ≤ s.end) × (s.end ≤ q)

@@ -9,7 +9,9 @@ ghost use Rattle.imap_grammar.specs.Rule.{meaning};
 ghost use Rattle.imap_grammar.specs.Meaning.{many_means};
 ghost use Rattle.imap_grammar.specs.Positions.{Ahead};
 ghost use Rattle.imap_grammar.specs.PositionLists.{CalledAt};
-ghost use Rattle.imap_grammar.specs.Lists.{Shortens, Ends, Follows, or_memory_behind, separator as separator_rule, list1_means, list0_means, opened_means, list_means, nonempty_list_means, delimited_means, opt_opt_means, tried_of};
+ghost use Rattle.imap_grammar.specs.Lists.{Shortens, Ends, Follows, or_memory_behind, separator as separator_rule};
+ghost use Rattle.imap_grammar.specs.Lists.{list1_means, list0_means, opened_means, list_means, nonempty_list_means};
+ghost use Rattle.imap_grammar.specs.Lists.{delimited_means, opt_opt_means, tried_of};
 
 use crate::answer::{Err, IResult};
 use crate::at::span::rest;

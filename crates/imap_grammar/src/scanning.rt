@@ -1,7 +1,8 @@
 //! Where a run of bytes of one class ends (RFC 3501, section 9: each `1*` of a class), and where a quoted string of
 //! quoted-chars alone does.
 
-ghost use Rattle.std.specs.Prelude.{◌≡◌, ◌<◌, ◌≤◌, ◌==◌, if◌then◌else◌, ℕ, Bool, true, Some, length, take, drop, position, IfSome};
+ghost use Rattle.std.specs.Prelude.{◌≡◌, ◌<◌, ◌≤◌, ◌==◌, if◌then◌else◌, ℕ, Bool, true, Some, length, take, drop};
+ghost use Rattle.std.specs.Prelude.{position, IfSome};
 ghost use Rattle.std.specs.Int.{w64, trailing_zeros};
 ghost use Rattle.std.specs.List.{position_or_len};
 ghost use Rattle.imap_grammar.specs.Ascii.{quote};

@@ -16,13 +16,17 @@ use crate::answer::IResult;
 use crate::at;
 use crate::at::span::sliced;
 
-/// Returns `$value` from the function where the word stands in front, ASCII letters in either case.
+/// Returns `$value` from the function where the word stands in front, ASCII letters in either case; in a message, with
+/// the position behind it, where it stands at `$p`.
 ///
 /// Where `word` denies, the function goes on; its `Incomplete` is returned. It takes no memory of its own.
 #[macro_export]
-macro_rules! named {
+macro_rules! on_word {
     ($text:expr, $i:expr, $value:expr) => {
         $crate::first!($crate::tags::word($text, $i), _ => $value)
+    };
+    ($text:expr, $m:expr, $p:expr, $value:expr) => {
+        $crate::first!($crate::at::tags::word($text, $m, $p), _ => $value)
     };
 }
 
@@ -69,7 +73,7 @@ pub fn second(i: &[u8]) -> Option<&u8>
 }
 
 /// Exactly these bytes; others are `Error`. No memory.
-#[tactic(auto, using(crate::proofs::Agreement::exact_answered))]
+#[tactic(auto, using(crate::proofs::Agreement::exact_answer))]
 pub fn tag<'a>(text: &[u8], i: &'a [u8]) -> IResult<&'a [u8], &'a [u8]>
     ensures steps { StepsExactly (tag_by ◌==◌ text.now) (λ x. x.now) i.now result }
     ensures answer { Answers (tag_by ◌==◌ text.now) (λ x. x.now) i.now result }
@@ -79,7 +83,7 @@ pub fn tag<'a>(text: &[u8], i: &'a [u8]) -> IResult<&'a [u8], &'a [u8]>
 }
 
 /// These bytes, ASCII letters in either case; others are `Error`. No memory.
-#[tactic(auto, using(crate::proofs::Agreement::exact_answered))]
+#[tactic(auto, using(crate::proofs::Agreement::exact_answer))]
 pub fn word<'a>(text: &[u8], i: &'a [u8]) -> IResult<&'a [u8], &'a [u8]>
     ensures steps { StepsExactly (tag_by same_letter text.now) (λ x. x.now) i.now result }
     ensures answer { Answers (tag_by same_letter text.now) (λ x. x.now) i.now result }

@@ -3,12 +3,12 @@ use Rattle.std.proofs.Common.{◌≡◌, ℕ, [], ◌∷◌, refl, sym, ap, code
 use Rattle.std.specs.Option.{option_map}
 use Rattle.serde_json.specs.Data.{Data, array, item}
 use Rattle.imap_grammar.proofs.Seen.{unequal}
-use Rattle.imap_shapes.specs.declared.shapes.fields.ContentEncoding.TheVariants as encoding
-use Rattle.imap_shapes.specs.EnvelopeValues.{AddressValue}
-use Rattle.imap_shapes.specs.FieldValues.{EncodingValue}
-use Rattle.imap_shapes.specs.ExtensionValues.{ExtensionValue, Num, Str, Listed, Extensions, no_extensions, one_extension}
-use Rattle.imap_shapes.specs.BodyValues.{BodyValue, Basic, TextBody, Message, Multipart, Bodies, no_bodies, one_body}
-use Rattle.imap_shapes.specs.Lent.{lent_ntext, lent_address, lent_addresses, lent_envelope, lent_params, lent_encoding, lent_disposition, lent_languages, lent_extension, lent_extensions, lent_last, lent_type, lent_common, lent_single, lent_body, lent_bodies}
+use Rattle.imap_body_types.specs.declared.shapes.fields.ContentEncoding.TheVariants as encoding
+use Rattle.imap_body_types.specs.EnvelopeValues.{AddressValue}
+use Rattle.imap_body_types.specs.FieldValues.{EncodingValue}
+use Rattle.imap_body_types.specs.ExtensionValues.{ExtensionValue, Num, Str, Listed, Extensions, no_extensions, one_extension}
+use Rattle.imap_body_types.specs.BodyValues.{BodyValue, Basic, TextBody, Message, Multipart, Bodies, no_bodies, one_body}
+use Rattle.imap_body_types.specs.Lent.{lent_ntext, lent_address, lent_addresses, lent_envelope, lent_params, lent_encoding, lent_disposition, lent_languages, lent_extension, lent_extensions, lent_last, lent_type, lent_common, lent_single, lent_body, lent_bodies}
 use Rattle.imap_json.specs.Forms.{option_json, number_json, object_json, variant_json}
 use Rattle.imap_json.specs.Texts.{text_json}
 use Rattle.imap_json.specs.Envelopes.{nbytes_json, address_json, addresses_json, envelope_json}

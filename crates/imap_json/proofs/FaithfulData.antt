@@ -4,7 +4,7 @@ use Rattle.std.specs.Option.{option_map}
 use Rattle.imap_grammar.specs.Text.{lent_text}
 use Rattle.imap_data.specs.Codes.{CodeValue, lent_code}
 use Rattle.imap_data.specs.Codes as code
-use Rattle.imap_data.specs.Names.{NameAttributeValue, ListValue, lent_attribute, lent_list}
+use Rattle.imap_data.specs.Names.{NameAttributeValue, lent_name_attribute, lent_list}
 use Rattle.imap_data.specs.Names as name
 use Rattle.imap_data.specs.DatumValues.{DatumValue, lent_datum}
 use Rattle.imap_data.specs.DatumValues as datum
@@ -78,7 +78,7 @@ response_codes = options (record { apart = codes_apart; alike = codes_alike }) c
 
 -- ---- the data of LIST
 
-attributes_apart : (a b : NameAttributeValue) → name_attribute_json a ≡ name_attribute_json b → lent_attribute a ≡ lent_attribute b
+attributes_apart : (a b : NameAttributeValue) → name_attribute_json a ≡ name_attribute_json b → lent_name_attribute a ≡ lent_name_attribute b
 attributes_apart name.NoInferiors name.NoInferiors h = refl
 attributes_apart name.NoSelect name.NoSelect h = refl
 attributes_apart name.Marked name.Marked h = refl
@@ -93,11 +93,11 @@ attributes_apart name.Trash name.Trash h = refl
 attributes_apart (name.Extension s) (name.Extension t) h = ap name.Extension (texts.apart s t (ap inner h))
 attributes_apart a b h = absurd (names_apart _ _ refl h)
 
-attributes_alike : (a : NameAttributeValue) → name_attribute_json (lent_attribute a) ≡ name_attribute_json a
+attributes_alike : (a : NameAttributeValue) → name_attribute_json (lent_name_attribute a) ≡ name_attribute_json a
 attributes_alike (name.Extension t) = refl
 attributes_alike other = refl
 
-attributes : IsFaithful name_attribute_json lent_attribute
+attributes : IsFaithful name_attribute_json lent_name_attribute
 attributes = record { apart = attributes_apart; alike = attributes_alike }
 
 list_data : IsFaithful list_data_json lent_list

@@ -1,11 +1,11 @@
 -- Statuses, capabilities, sets of UIDs, rights and sections.
 use Rattle.std.proofs.Common.{◌≡◌, refl, ap}
-use Rattle.imap_items.specs.declared.types.statuses.Status.{Status}
-use Rattle.imap_items.specs.declared.types.statuses.Status.TheVariants as status
-use Rattle.imap_items.specs.declared.types.rights.AclRight.{AclRight}
-use Rattle.imap_items.specs.declared.types.rights.AclRight.TheVariants as right
-use Rattle.imap_items.specs.Capabilities.{CapabilityValue, Imap4rev1, Auth, Atom, lent_capability}
-use Rattle.imap_items.specs.UidSets.{MemberValue, UidRange, Uid}
+use Rattle.imap_shared.specs.declared.types.statuses.Status.{Status}
+use Rattle.imap_shared.specs.declared.types.statuses.Status.TheVariants as status
+use Rattle.imap_shared.specs.declared.types.rights.AclRight.{AclRight}
+use Rattle.imap_shared.specs.declared.types.rights.AclRight.TheVariants as right
+use Rattle.imap_shared.specs.Capabilities.{CapabilityValue, Imap4rev1, Auth, Atom, lent_capability}
+use Rattle.imap_shared.specs.UidSets.{MemberValue, UidRange, Uid}
 use Rattle.imap_sections.specs.SectionValues.{PathValue, Full, Part}
 use Rattle.imap_sections.specs.declared.types.sections.MessageSection.{MessageSection}
 use Rattle.imap_sections.specs.declared.types.sections.MessageSection.TheVariants as section

@@ -1,9 +1,9 @@
 -- Attributes of a message, responses, and skipped lines.
 use Rattle.std.proofs.Common.{◌≡◌, [], ◌∷◌, refl, ap, codes}
 use Rattle.imap_grammar.specs.Text.{Bytes, as_text}
-use Rattle.imap_attributes.specs.AttributeValues.{AttributeValue}
-use Rattle.imap_attributes.specs.AttributeValues as attribute
-use Rattle.imap_attributes.specs.Changed.{lent_attribute}
+use Rattle.imap_body.specs.AttributeValues.{AttributeValue}
+use Rattle.imap_body.specs.AttributeValues as attribute
+use Rattle.imap_body.specs.Changed.{lent_attribute}
 use Rattle.imap_proto.specs.Responses.{ResponseValue, lent_outcome, lent_response}
 use Rattle.imap_proto.specs.Responses as response
 use Rattle.imap_json.specs.Forms.{string_json, number_json, option_json, object_json, variant_json}

@@ -9,18 +9,18 @@ use Rattle.serde_json.specs.Data.{Data, array, item}
 use Rattle.serde_json.specs.View.{items_of}
 use Rattle.serde_json.specs.Written.{outline, items_outline}
 use Rattle.imap_grammar.specs.Text.{text_of}
-use Rattle.imap_shapes.specs.Spans.{bytes_of}
-use Rattle.imap_shapes.specs.EnvelopeValues.{envelope_seen}
-use Rattle.imap_shapes.specs.ExtensionValues.{ExtensionValue, extensions_of, extension_seen}
-use Rattle.imap_shapes.specs.BodyValues.{BodyValue, bodies_of, common_seen, single_seen, body_seen}
-use Rattle.imap_shapes.specs.declared.shapes.envelopes.Envelope.{Envelope}
-use Rattle.imap_shapes.specs.declared.shapes.extensions.BodyExtension.{BodyExtension}
-use Rattle.imap_shapes.specs.declared.shapes.extensions.BodyExtension.TheVariants as extension
-use Rattle.imap_shapes.specs.declared.shapes.bodies.BodyContentCommon.{BodyContentCommon}
-use Rattle.imap_shapes.specs.declared.shapes.bodies.BodyContentSinglePart.{BodyContentSinglePart}
-use Rattle.imap_shapes.specs.declared.shapes.bodies.BodyStructure.{BodyStructure}
-use Rattle.imap_shapes.specs.declared.shapes.bodies.BodyStructure.TheVariants as body
-use Rattle.imap_shapes.proofs.Trees.{extension_list_seen, message_seen, multipart_seen}
+use Rattle.imap_body_types.specs.Spans.{bytes_of}
+use Rattle.imap_body_types.specs.EnvelopeValues.{envelope_seen}
+use Rattle.imap_body_types.specs.ExtensionValues.{ExtensionValue, extensions_of, extension_seen}
+use Rattle.imap_body_types.specs.BodyValues.{BodyValue, bodies_of, common_seen, single_seen, body_seen}
+use Rattle.imap_body_types.specs.declared.shapes.envelopes.Envelope.{Envelope}
+use Rattle.imap_body_types.specs.declared.shapes.extensions.BodyExtension.{BodyExtension}
+use Rattle.imap_body_types.specs.declared.shapes.extensions.BodyExtension.TheVariants as extension
+use Rattle.imap_body_types.specs.declared.shapes.bodies.BodyContentCommon.{BodyContentCommon}
+use Rattle.imap_body_types.specs.declared.shapes.bodies.BodyContentSinglePart.{BodyContentSinglePart}
+use Rattle.imap_body_types.specs.declared.shapes.bodies.BodyStructure.{BodyStructure}
+use Rattle.imap_body_types.specs.declared.shapes.bodies.BodyStructure.TheVariants as body
+use Rattle.imap_body_types.proofs.Trees.{extension_list_seen, message_seen, multipart_seen}
 use Rattle.imap_json.specs.Forms.{Appends, Tells, items_front, field_tokens, number_json, variant_json}
 use Rattle.imap_json.specs.Extensions.{extension_json, extension_items, last_json}
 use Rattle.imap_json.specs.Envelopes.{envelope_json}

@@ -1,7 +1,7 @@
 -- Annotations of mailboxes.
 use Rattle.std.specs.Prelude.{[], ◌∷◌, codes}
 use Rattle.serde_json.specs.Data.{Data}
-use Rattle.imap_extensions.specs.Annotations.{MetadataValue}
+use Rattle.imap_data.specs.AnnotationValues.{MetadataValue}
 use Rattle.imap_json.specs.Forms.{string_json, option_json, object_json}
 
 abbrev pub metadata_json : MetadataValue → Data

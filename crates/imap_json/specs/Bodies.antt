@@ -2,9 +2,9 @@
 use Rattle.std.specs.Prelude.{ℕ, List, [], ◌∷◌, ◌++◌, Option, codes}
 use Rattle.json.specs.Token.{Token, begin_object, end_object, begin_array, end_array, key}
 use Rattle.serde_json.specs.Data.{Data, array, Items, no_items, item}
-use Rattle.imap_shapes.specs.EnvelopeValues.{EnvelopeValue}
-use Rattle.imap_shapes.specs.ExtensionValues.{ExtensionValue}
-use Rattle.imap_shapes.specs.BodyValues.{TypeValue, CommonValue, SingleValue, BodyValue, Basic, TextBody, Message, Multipart, Bodies, no_bodies, one_body}
+use Rattle.imap_body_types.specs.EnvelopeValues.{EnvelopeValue}
+use Rattle.imap_body_types.specs.ExtensionValues.{ExtensionValue}
+use Rattle.imap_body_types.specs.BodyValues.{TypeValue, CommonValue, SingleValue, BodyValue, Basic, TextBody, Message, Multipart, Bodies, no_bodies, one_body}
 use Rattle.imap_json.specs.Forms.{number_json, option_json, object_json, variant_json, field_tokens}
 use Rattle.imap_json.specs.Texts.{text_json}
 use Rattle.imap_json.specs.Envelopes.{envelope_json}

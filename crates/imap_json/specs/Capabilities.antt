@@ -1,7 +1,7 @@
 -- Capabilities.
 use Rattle.std.specs.Prelude.{codes}
 use Rattle.serde_json.specs.Data.{Data}
-use Rattle.imap_items.specs.Capabilities.{CapabilityValue, Imap4rev1, Auth, Atom}
+use Rattle.imap_shared.specs.Capabilities.{CapabilityValue, Imap4rev1, Auth, Atom}
 use Rattle.imap_json.specs.Forms.{string_json, variant_json}
 use Rattle.imap_json.specs.Texts.{text_json}
 

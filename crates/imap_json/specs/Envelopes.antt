@@ -2,7 +2,7 @@
 use Rattle.std.specs.Prelude.{[], ◌∷◌, List, Option, codes}
 use Rattle.serde_json.specs.Data.{Data}
 use Rattle.imap_grammar.specs.Text.{Text}
-use Rattle.imap_shapes.specs.EnvelopeValues.{AddressValue, EnvelopeValue}
+use Rattle.imap_body_types.specs.EnvelopeValues.{AddressValue, EnvelopeValue}
 use Rattle.imap_json.specs.Forms.{option_json, list_json, object_json}
 use Rattle.imap_json.specs.Texts.{bytes_json}
 

@@ -2,7 +2,7 @@
 use Rattle.std.specs.Prelude.{[], ◌∷◌, List, Option, codes}
 use Rattle.serde_json.specs.Data.{Data, array, Items, no_items, item}
 use Rattle.imap_grammar.specs.Text.{Text}
-use Rattle.imap_shapes.specs.ExtensionValues.{DispositionValue, ExtensionValue, Num, Str, Listed, Extensions, no_extensions, one_extension}
+use Rattle.imap_body_types.specs.ExtensionValues.{DispositionValue, ExtensionValue, Num, Str, Listed, Extensions, no_extensions, one_extension}
 use Rattle.imap_json.specs.Forms.{number_json, option_json, list_json, object_json, variant_json}
 use Rattle.imap_json.specs.Texts.{text_json}
 use Rattle.imap_json.specs.Fields.{ntext_json, params_json}

@@ -2,8 +2,8 @@
 use Rattle.std.specs.Prelude.{Option, codes}
 use Rattle.serde_json.specs.Data.{Data}
 use Rattle.imap_grammar.specs.Text.{Text}
-use Rattle.imap_shapes.specs.FieldValues.{ParamsValue, EncodingValue}
-use Rattle.imap_shapes.specs.declared.shapes.fields.ContentEncoding.TheVariants.{SevenBit, EightBit, Binary, Base64, QuotedPrintable, Other}
+use Rattle.imap_body_types.specs.FieldValues.{ParamsValue, EncodingValue}
+use Rattle.imap_body_types.specs.declared.shapes.fields.ContentEncoding.TheVariants.{SevenBit, EightBit, Binary, Base64, QuotedPrintable, Other}
 use Rattle.imap_json.specs.Forms.{string_json, option_json, list_json, pair_json, variant_json}
 use Rattle.imap_json.specs.Texts.{text_json}
 

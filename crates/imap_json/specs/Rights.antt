@@ -1,8 +1,8 @@
 -- Rights.
 use Rattle.std.specs.Prelude.{codes}
 use Rattle.serde_json.specs.Data.{Data}
-use Rattle.imap_items.specs.declared.types.rights.AclRight.{AclRight}
-use Rattle.imap_items.specs.declared.types.rights.AclRight.TheVariants.{Lookup, Read, Seen, Write, Insert, Post, CreateMailbox, DeleteMailbox, DeleteMessage, Expunge, Administer, Annotation, OldCreate, OldDelete, Custom}
+use Rattle.imap_shared.specs.declared.types.rights.AclRight.{AclRight}
+use Rattle.imap_shared.specs.declared.types.rights.AclRight.TheVariants.{Lookup, Read, Seen, Write, Insert, Post, CreateMailbox, DeleteMailbox, DeleteMessage, Expunge, Administer, Annotation, OldCreate, OldDelete, Custom}
 use Rattle.imap_json.specs.Forms.{string_json, variant_json}
 use Rattle.imap_json.specs.Texts.{char_json}
 

@@ -1,7 +1,7 @@
 -- Sets of UIDs.
 use Rattle.std.specs.Prelude.{codes}
 use Rattle.serde_json.specs.Data.{Data}
-use Rattle.imap_items.specs.UidSets.{MemberValue, UidRange, Uid}
+use Rattle.imap_shared.specs.UidSets.{MemberValue, UidRange, Uid}
 use Rattle.imap_json.specs.Forms.{number_json, variant_json}
 use Rattle.imap_json.specs.Ranges.{range_json}
 

@@ -1,6 +1,7 @@
 //! Access control lists, and rights on a mailbox.
 
-ghost use Rattle.imap_extensions.specs.Acls.{AclEntryValue, acl_entry_value, AclValue, acl_value, ListRightsValue, list_rights_value, MyRightsValue, my_rights_value};
+ghost use Rattle.imap_extensions.specs.Acls.{AclEntryValue, acl_entry_value, AclValue, acl_value, ListRightsValue};
+ghost use Rattle.imap_extensions.specs.Acls.{list_rights_value, MyRightsValue, my_rights_value};
 ghost use Rattle.imap_json.specs.Acls.{acl_entry_json, acl_json, list_rights_json, my_rights_json};
 
 use crate::forms::{ToJson, field};

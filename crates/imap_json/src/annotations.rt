@@ -1,11 +1,11 @@
 //! Annotations of mailboxes.
 
-ghost use Rattle.imap_extensions.specs.Annotations.{MetadataValue, metadata_value};
+ghost use Rattle.imap_data.specs.AnnotationValues.{MetadataValue, metadata_value};
 ghost use Rattle.imap_json.specs.Annotations.{metadata_json};
 
 use crate::forms::{ToJson, field};
 use crate::output::Output;
-use imap_extensions::Metadata;
+use imap_data::Metadata;
 use std::alloc::AllocError;
 
 impl ToJson for Metadata {

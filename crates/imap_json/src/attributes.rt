@@ -2,16 +2,16 @@
 
 ghost use Rattle.std.specs.Prelude.{option_map, OnOk};
 ghost use Rattle.imap_sections.specs.SectionValues.{path_value};
-ghost use Rattle.imap_shapes.specs.Spans.{bytes_of};
-ghost use Rattle.imap_attributes.specs.AttributeValues.{AttributeValue as AttributeSeen, BodySection, attribute_value};
+ghost use Rattle.imap_body_types.specs.Spans.{bytes_of};
+ghost use Rattle.imap_body.specs.AttributeValues.{AttributeValue as AttributeSeen, BodySection, attribute_value};
 ghost use Rattle.imap_json.specs.Forms.{Tells};
 ghost use Rattle.imap_json.specs.Attributes.{attribute_json};
 
 use crate::forms::{ToJson, field, variant};
 use crate::output::Output;
-use imap_attributes::AttributeValue;
+use imap_body::AttributeValue;
+use imap_body_types::Envelope;
 use imap_sections::SectionPath;
-use imap_shapes::Envelope;
 use std::alloc::AllocError;
 use std::borrow::CowSlice;
 

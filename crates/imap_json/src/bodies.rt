@@ -2,16 +2,18 @@
 
 ghost use Rattle.std.specs.Prelude.{map, option_map, OnOk};
 ghost use Rattle.imap_grammar.specs.Text.{text_of};
-ghost use Rattle.imap_shapes.specs.Spans.{bytes_of};
-ghost use Rattle.imap_shapes.specs.BodyValues.{TypeValue, type_seen, CommonValue, common_seen, SingleValue, single_seen, BodyValue, Basic, TextBody, body_seen};
-ghost use Rattle.imap_shapes.specs.EnvelopeValues.{envelope_seen};
-ghost use Rattle.imap_shapes.specs.ExtensionValues.{extension_seen};
+ghost use Rattle.imap_body_types.specs.Spans.{bytes_of};
+ghost use Rattle.imap_body_types.specs.BodyValues.{TypeValue, type_seen, CommonValue, common_seen, SingleValue};
+ghost use Rattle.imap_body_types.specs.BodyValues.{single_seen, BodyValue, Basic, TextBody, body_seen};
+ghost use Rattle.imap_body_types.specs.EnvelopeValues.{envelope_seen};
+ghost use Rattle.imap_body_types.specs.ExtensionValues.{extension_seen};
 ghost use Rattle.imap_json.specs.Forms.{Appends, Tells, items_front};
-ghost use Rattle.imap_json.specs.Bodies.{type_json, common_json, single_json, body_json, message_begun, message_ended, multipart_begun, multipart_ended};
+ghost use Rattle.imap_json.specs.Bodies.{type_json, common_json, single_json, body_json, message_begun, message_ended};
+ghost use Rattle.imap_json.specs.Bodies.{multipart_begun, multipart_ended};
 
 use crate::forms::{ToJson, field};
 use crate::output::Output;
-use imap_shapes::{
+use imap_body_types::{
     BodyContentCommon, BodyContentSinglePart, BodyExtension, BodyStructure, ContentType, Envelope,
 };
 use std::alloc::AllocError;

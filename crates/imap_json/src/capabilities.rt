@@ -1,11 +1,11 @@
 //! Capabilities.
 
-ghost use Rattle.imap_items.specs.Capabilities.{CapabilityValue, capability_value};
+ghost use Rattle.imap_shared.specs.Capabilities.{CapabilityValue, capability_value};
 ghost use Rattle.imap_json.specs.Capabilities.{capability_json};
 
 use crate::forms::{ToJson, variant};
 use crate::output::Output;
-use imap_items::Capability;
+use imap_shared::Capability;
 use std::alloc::AllocError;
 
 impl<'a> ToJson for Capability<'a> {

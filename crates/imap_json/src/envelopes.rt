@@ -1,12 +1,12 @@
 //! Envelopes and addresses.
 
-ghost use Rattle.imap_shapes.specs.Spans.{bytes_of};
-ghost use Rattle.imap_shapes.specs.EnvelopeValues.{AddressValue, address_seen, EnvelopeValue, envelope_seen};
+ghost use Rattle.imap_body_types.specs.Spans.{bytes_of};
+ghost use Rattle.imap_body_types.specs.EnvelopeValues.{AddressValue, address_seen, EnvelopeValue, envelope_seen};
 ghost use Rattle.imap_json.specs.Envelopes.{address_json, envelope_json};
 
 use crate::forms::{ToJson, field};
 use crate::output::Output;
-use imap_shapes::{Address, Envelope};
+use imap_body_types::{Address, Envelope};
 use std::alloc::AllocError;
 
 impl<'a> ToJson for Address<'a> {

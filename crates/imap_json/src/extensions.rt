@@ -3,13 +3,14 @@
 ghost use Rattle.std.specs.Prelude.{[], ◌∷◌, codes, map, OnOk};
 ghost use Rattle.json.specs.Token.{begin_object, end_object, begin_array, end_array, key};
 ghost use Rattle.imap_grammar.specs.Text.{text_of};
-ghost use Rattle.imap_shapes.specs.ExtensionValues.{DispositionValue, disposition_seen, ExtensionValue, extension_seen};
+ghost use Rattle.imap_body_types.specs.ExtensionValues.{DispositionValue, disposition_seen, ExtensionValue};
+ghost use Rattle.imap_body_types.specs.ExtensionValues.{extension_seen};
 ghost use Rattle.imap_json.specs.Forms.{Appends, Tells, items_front};
 ghost use Rattle.imap_json.specs.Extensions.{disposition_json, extension_json};
 
 use crate::forms::{ToJson, field, variant};
 use crate::output::Output;
-use imap_shapes::{BodyExtension, ContentDisposition};
+use imap_body_types::{BodyExtension, ContentDisposition};
 use std::alloc::AllocError;
 
 impl<'a> ToJson for ContentDisposition<'a> {

@@ -1,12 +1,12 @@
 //! Encodings of bodies.
 
 ghost use Rattle.imap_grammar.specs.Text.{text_of};
-ghost use Rattle.imap_shapes.specs.FieldValues.{EncodingValue, encoding_seen};
+ghost use Rattle.imap_body_types.specs.FieldValues.{EncodingValue, encoding_seen};
 ghost use Rattle.imap_json.specs.Fields.{encoding_json};
 
 use crate::forms::{ToJson, variant};
 use crate::output::Output;
-use imap_shapes::ContentEncoding;
+use imap_body_types::ContentEncoding;
 use std::alloc::AllocError;
 
 impl<'a> ToJson for ContentEncoding<'a> {

@@ -2,7 +2,8 @@
 
 ghost use Rattle.std.specs.Prelude.{List, Option, map, option_map, OnOk};
 ghost use Rattle.serde_json.specs.Data.{Data};
-ghost use Rattle.imap_json.specs.Forms.{option_json, list_json, pair_json, triple_json, variant_json, Appends, Tells, field_tokens, items_front};
+ghost use Rattle.imap_json.specs.Forms.{option_json, list_json, pair_json, triple_json, variant_json, Appends, Tells};
+ghost use Rattle.imap_json.specs.Forms.{field_tokens, items_front};
 
 use crate::output::Output;
 use std::alloc::AllocError;

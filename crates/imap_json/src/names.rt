@@ -1,6 +1,6 @@
 //! Attributes of mailbox names, and the data of LIST.
 
-ghost use Rattle.imap_data.specs.Names.{NameAttributeValue, attribute_value, ListValue, list_value};
+ghost use Rattle.imap_data.specs.Names.{NameAttributeValue, name_attribute_value, ListValue, list_value};
 ghost use Rattle.imap_json.specs.Names.{name_attribute_json, list_data_json};
 
 use crate::forms::{ToJson, field, variant};
@@ -11,7 +11,7 @@ use std::alloc::AllocError;
 impl<'a> ToJson for NameAttribute<'a> {
     ghost meaning = { NameAttributeValue };
 
-    ghost said = { attribute_value };
+    ghost said = { name_attribute_value };
 
     ghost json = { name_attribute_json };
 

@@ -1,7 +1,8 @@
 //! What is written to: a text of JSON that grows.
 
 ghost use Rattle.std.specs.Prelude.{◌≡◌, [], ◌∷◌, OnOk, decimal, string_bytes};
-ghost use Rattle.json.specs.Token.{begin_object, end_object, begin_array, end_array, key, string, number, boolean, null};
+ghost use Rattle.json.specs.Token.{begin_object, end_object, begin_array, end_array, key, string, number, boolean};
+ghost use Rattle.json.specs.Token.{null};
 ghost use Rattle.json.specs.Print.{print};
 
 use json::Writer;

@@ -1,6 +1,8 @@
 //! Quotas.
 
-ghost use Rattle.imap_extensions.specs.Quotas.{QuotaResourceNameValue, quota_resource_name_value, QuotaResourceValue, quota_resource_value, QuotaValue, quota_value, QuotaRootValue, quota_root_value};
+ghost use Rattle.imap_extensions.specs.Quotas.{QuotaResourceNameValue, quota_resource_name_value, QuotaResourceValue};
+ghost use Rattle.imap_extensions.specs.Quotas.{quota_resource_value, QuotaValue, quota_value, QuotaRootValue};
+ghost use Rattle.imap_extensions.specs.Quotas.{quota_root_value};
 ghost use Rattle.imap_json.specs.Quotas.{resource_name_json, resource_json, quota_json, quota_root_json};
 
 use crate::forms::{ToJson, field, variant};

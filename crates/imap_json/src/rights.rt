@@ -1,11 +1,11 @@
 //! Rights.
 
-ghost use Rattle.imap_items.specs.declared.types.rights.AclRight.{AclRight as RightSeen};
+ghost use Rattle.imap_shared.specs.declared.types.rights.AclRight.{AclRight as RightSeen};
 ghost use Rattle.imap_json.specs.Rights.{right_json};
 
 use crate::forms::{ToJson, variant};
 use crate::output::Output;
-use imap_items::AclRight;
+use imap_shared::AclRight;
 use std::alloc::AllocError;
 
 impl ToJson for AclRight {

@@ -1,12 +1,12 @@
 //! Statuses.
 
 ghost use Rattle.std.specs.Prelude.{◌≡◌};
-ghost use Rattle.imap_items.specs.declared.types.statuses.Status.{Status as StatusSeen};
+ghost use Rattle.imap_shared.specs.declared.types.statuses.Status.{Status as StatusSeen};
 ghost use Rattle.imap_json.specs.Statuses.{status_name, status_json};
 
 use crate::forms::ToJson;
 use crate::output::Output;
-use imap_items::Status;
+use imap_shared::Status;
 use std::alloc::AllocError;
 
 fn name(status: &Status) -> &'static str

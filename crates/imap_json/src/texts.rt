@@ -4,7 +4,7 @@ ghost use Rattle.std.specs.Prelude.{◌≡◌, ℕ, string_bytes, IfOk, OnOk};
 ghost use Rattle.base64.specs.Engines.{standard};
 ghost use Rattle.base64.specs.GeneralPurpose.{encode_of};
 ghost use Rattle.imap_grammar.specs.Text.{Bytes, Text, text_of};
-ghost use Rattle.imap_shapes.specs.Spans.{bytes_of};
+ghost use Rattle.imap_body_types.specs.Spans.{bytes_of};
 ghost use Rattle.imap_json.specs.Forms.{string_json, Tells};
 ghost use Rattle.imap_json.specs.Texts.{text_json, base64_json, raw_json, bytes_json, char_json};
 

@@ -1,11 +1,11 @@
 //! Sets of UIDs.
 
-ghost use Rattle.imap_items.specs.UidSets.{MemberValue, member_value};
+ghost use Rattle.imap_shared.specs.UidSets.{MemberValue, member_value};
 ghost use Rattle.imap_json.specs.UidSets.{member_json};
 
 use crate::forms::{ToJson, variant};
 use crate::output::Output;
-use imap_items::UidSetMember;
+use imap_shared::UidSetMember;
 use std::alloc::AllocError;
 
 impl ToJson for UidSetMember {

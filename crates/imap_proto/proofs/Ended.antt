@@ -1,10 +1,11 @@
 -- The end of a line may be read with the second of two parts as well as behind both.
+use Rattle.std.specs.Prelude.{⊤}
 use Rattle.std.proofs.Common.{◌≡◌, Ok, Err, refl}
 use Rattle.imap_grammar.specs.Rule.{Rule, gives, ◌⨾◌}
 use Rattle.imap_grammar.specs.Step.{Step, step, ◌>>=◌, and_then, beside}
 use Rattle.imap_grammar.specs.Tags.{crlf}
 use Rattle.imap_grammar.specs.Text.{Bytes}
-use Rattle.imap_proto.specs.Lines.{ended, spaces}
+use Rattle.imap_proto.specs.Lines.{ended, spaces, fetch, fetch_line}
 
 pub ended_later : {A B C : Type 0} (f : A × B → C) (a : Rule A) (b : Rule B) (m : Bytes) → step (ended (gives f (a ⨾ b))) m ≡ step (gives f (a ⨾ ended b)) m
 ended_later {A} {B} {C} f a b m = first (step a m)
@@ -35,3 +36,8 @@ ended_later {A} {B} {C} f a b m = first (step a m)
     first : (s : Step A) → front (and_then (mapped (and_then s (step b))) end) ≡ mapped (and_then s (λ r. front (and_then (step b r) end)))
     first (Ok x) = second x.1 (step b x.0)
     first (Err e) = refl
+
+-- a line that tells of a message, down to its parts
+unfoldable pub fetch_rules : ⊤
+unfolding fetch_line fetch
+fetch_rules = tt

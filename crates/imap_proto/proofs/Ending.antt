@@ -8,7 +8,7 @@ use Rattle.imap_grammar.specs.Step.{step}
 use Rattle.imap_grammar.specs.Answer.{Returned, Gives}
 use Rattle.imap_grammar.specs.Tags.{tag, sp, maybe_space, crlf}
 use Rattle.imap_grammar.proofs.Agreement.{agrees, shrinks}
-use Rattle.imap_items.specs.Statuses.{status}
+use Rattle.imap_shared.specs.Statuses.{status}
 use Rattle.imap_proto.specs.Responses.{ResponseValue, EndsLine}
 use Rattle.imap_proto.specs.Outcomes.{outcome, spaced_outcome}
 use Rattle.imap_proto.specs.Lines.{continuation, datum, spaces, ended_datum, data_line, request_tag, tagged, response}

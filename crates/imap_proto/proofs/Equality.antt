@@ -13,24 +13,25 @@ use Rattle.std.proofs.lemmas.Bool.{and_parts, and_from}
 use Rattle.imap_grammar.specs.Text.{text_of, lent_text}
 use Rattle.imap_grammar.specs.Equality.{Tells}
 use Rattle.imap_grammar.proofs.Seen.{unequal, kinds_apart, numbers_tell, text_tells, texts_tell, items_tell, lists_tell, options_tell}
-use Rattle.imap_items.specs.Capabilities.{capability_value, lent_capability}
-use Rattle.imap_items.proofs.Capabilities.{capability_tells}
-use Rattle.imap_items.specs.contracts.types.statuses.StatusPartialEq.TheImpl as status_eq
-use Rattle.imap_items.specs.contracts.types.capabilities.CapabilityPartialEq.TheImpl as capability_eq
+use Rattle.imap_shared.specs.Capabilities.{capability_value, lent_capability}
+use Rattle.imap_shared.proofs.Capabilities.{capability_tells}
+use Rattle.imap_shared.specs.contracts.types.statuses.StatusPartialEq.TheImpl as status_eq
+use Rattle.imap_shared.specs.contracts.types.capabilities.CapabilityPartialEq.TheImpl as capability_eq
 use Rattle.imap_extensions.specs.Ids.{id_value, lent_id}
 use Rattle.imap_extensions.proofs.Ids.{tables_tell}
 use Rattle.imap_extensions.proofs.Quotas.{quotas_tell, roots_tell}
 use Rattle.imap_extensions.proofs.Acls.{acl_tells, list_rights_tell, my_rights_tell}
-use Rattle.imap_attributes.specs.AttributeValues.{attribute_value}
-use Rattle.imap_attributes.specs.Changed.{lent_attribute}
+use Rattle.imap_body.specs.AttributeValues.{attribute_value}
+use Rattle.imap_body.specs.Changed.{lent_attribute}
 use Rattle.imap_data.specs.Codes.{code_value, lent_code}
 use Rattle.imap_data.proofs.Codes.{code_tells}
 use Rattle.imap_data.specs.contracts.types.codes.ResponseCodePartialEq.TheImpl as code_eq
 use Rattle.imap_data.proofs.MailboxData.{data_tell}
-use Rattle.imap_shapes.proofs.Equality.{both_tell, named_tell, field}
-use Rattle.imap_shapes.specs.declared.shapes.bodies.BodyStructure.{BodyStructure}
-use Rattle.imap_attributes.specs.declared.attributes.AttributeParts.{AttributeParts}
-use Rattle.imap_proto.specs.Responses.{ResponseValue, Capabilities, Continue, Done, Data, Expunge, Vanished, Fetch, MailboxData, Quota, QuotaRoot, Id, Acl, ListRights, MyRights, outcome_value, response_value, lent_outcome, lent_response}
+use Rattle.imap_body_types.proofs.Equality.{both_tell, named_tell, field}
+use Rattle.imap_body_types.specs.declared.shapes.bodies.BodyStructure.{BodyStructure}
+use Rattle.imap_body.specs.declared.attributes.AttributeParts.{AttributeParts}
+use Rattle.imap_proto.specs.Responses.{ResponseValue, outcome_value, response_value, lent_outcome, lent_response}
+use Rattle.imap_proto.specs.Responses as said
 use Rattle.imap_proto.specs.Feeds.{lent_whole}
 use Rattle.imap_proto.specs.declared.response.Response.{Response}
 use Rattle.imap_proto.specs.declared.response.Response.TheVariants as variant
@@ -81,7 +82,7 @@ FetchesTold = Tells (λ p q. (response_eq.eq-value).it (fetch p) (fetch q)) (λ 
 pub fetches_tell : (eq : Attribute → Attribute → Bool) → Tells eq (λ x. lent_attribute (attribute_value x))
     → Tells (λ (p q : ℕ × Vec Attribute Global). nat_eq p.0 q.0 && pointwise eq p.1.items q.1.items) (λ p. lent_response (response_value (fetch p)))
 fetches_tell eq t = record {
-  same = λ p q h. let parts = and_parts _ _ h in (λ i. Fetch (numbers_tell.same p.0 q.0 parts.0 i) ((lists_tell eq attribute_value lent_attribute t).same p.1.items q.1.items parts.1 i));
+  same = λ p q h. let parts = and_parts _ _ h in (λ i. said.Fetch (numbers_tell.same p.0 q.0 parts.0 i) ((lists_tell eq attribute_value lent_attribute t).same p.1.items q.1.items parts.1 i));
   equal = λ p q h. and_from _ _ (numbers_tell.equal p.0 q.0 cc) ((lists_tell eq attribute_value lent_attribute t).equal p.1.items q.1.items cc);
 }
 
@@ -90,41 +91,41 @@ ends_tell = search rules
 
 -- the number of its kind
 abbrev kind_of : ResponseValue → ℕ
-kind_of (Capabilities _) = 0
-kind_of (Continue _) = 1
-kind_of (Done _ _ _) = 2
-kind_of (Data _ _) = 3
-kind_of (Expunge _) = 4
-kind_of (Vanished _ _) = 5
-kind_of (Fetch _ _) = 6
-kind_of (MailboxData _) = 7
-kind_of (Quota _) = 8
-kind_of (QuotaRoot _) = 9
-kind_of (Id _) = 10
-kind_of (Acl _) = 11
-kind_of (ListRights _) = 12
-kind_of (MyRights _) = 13
+kind_of (said.Capabilities _) = 0
+kind_of (said.Continue _) = 1
+kind_of (said.Done _ _ _) = 2
+kind_of (said.Data _ _) = 3
+kind_of (said.Expunge _) = 4
+kind_of (said.Vanished _ _) = 5
+kind_of (said.Fetch _ _) = 6
+kind_of (said.MailboxData _) = 7
+kind_of (said.Quota _) = 8
+kind_of (said.QuotaRoot _) = 9
+kind_of (said.Id _) = 10
+kind_of (said.Acl _) = 11
+kind_of (said.ListRights _) = 12
+kind_of (said.MyRights _) = 13
 
 module _ (fetches : FetchesTold) where
   response_same : (x y : Response) → (response_eq.eq-value).it x y ≡ true → lent_response (response_value x) ≡ lent_response (response_value y)
-  response_same (variant.Capabilities x) (variant.Capabilities y) h = ap Capabilities (capabilities_tell.same x.items y.items h)
-  response_same (variant.Continue x) (variant.Continue y) h = ap Continue (outcome_tells.same x y h)
+  response_same (variant.Capabilities x) (variant.Capabilities y) h = ap said.Capabilities (capabilities_tell.same x.items y.items h)
+  response_same (variant.Continue x) (variant.Continue y) h = ap said.Continue (outcome_tells.same x y h)
   response_same (variant.Done tag status x) (variant.Done other kind y) h =
       let parts = and_parts _ _ h in
       let more = and_parts _ _ parts.1 in
-      (λ i. Done (tags_tell.same tag other parts.0 i) (statuses_tell.same status kind more.0 i) (outcome_tells.same x y more.1 i))
-  response_same (variant.«Data» status x) (variant.«Data» kind y) h = let parts = and_parts _ _ h in (λ i. Data (statuses_tell.same status kind parts.0 i) (outcome_tells.same x y parts.1 i))
-  response_same (variant.Expunge x) (variant.Expunge y) h = ap Expunge (numbers_tell.same x y h)
+      (λ i. said.Done (tags_tell.same tag other parts.0 i) (statuses_tell.same status kind more.0 i) (outcome_tells.same x y more.1 i))
+  response_same (variant.«Data» status x) (variant.«Data» kind y) h = let parts = and_parts _ _ h in (λ i. said.Data (statuses_tell.same status kind parts.0 i) (outcome_tells.same x y parts.1 i))
+  response_same (variant.Expunge x) (variant.Expunge y) h = ap said.Expunge (numbers_tell.same x y h)
   response_same (variant.Vanished e x) (variant.Vanished f y) h =
-      let parts = and_parts _ _ h in (λ i. Vanished (flags_tell.same e f parts.0 i) ((items_tell _ range_of ranges_tell).same x.items y.items parts.1 i))
+      let parts = and_parts _ _ h in (λ i. said.Vanished (flags_tell.same e f parts.0 i) ((items_tell _ range_of ranges_tell).same x.items y.items parts.1 i))
   response_same (variant.Fetch m x) (variant.Fetch n y) h = fetches.same (m, x) (n, y) h
-  response_same (variant.MailboxData x) (variant.MailboxData y) h = ap MailboxData (data_tell.same x y h)
-  response_same (variant.Quota x) (variant.Quota y) h = ap Quota (quotas_tell.same x y h)
-  response_same (variant.QuotaRoot x) (variant.QuotaRoot y) h = ap QuotaRoot (roots_tell.same x y h)
-  response_same (variant.Id x) (variant.Id y) h = ap Id ((options_tell _ id_value lent_id tables_tell).same x y h)
-  response_same (variant.Acl x) (variant.Acl y) h = ap Acl (acl_tells.same x y h)
-  response_same (variant.ListRights x) (variant.ListRights y) h = ap ListRights (list_rights_tell.same x y h)
-  response_same (variant.MyRights x) (variant.MyRights y) h = ap MyRights (my_rights_tell.same x y h)
+  response_same (variant.MailboxData x) (variant.MailboxData y) h = ap said.MailboxData (data_tell.same x y h)
+  response_same (variant.Quota x) (variant.Quota y) h = ap said.Quota (quotas_tell.same x y h)
+  response_same (variant.QuotaRoot x) (variant.QuotaRoot y) h = ap said.QuotaRoot (roots_tell.same x y h)
+  response_same (variant.Id x) (variant.Id y) h = ap said.Id ((options_tell _ id_value lent_id tables_tell).same x y h)
+  response_same (variant.Acl x) (variant.Acl y) h = ap said.Acl (acl_tells.same x y h)
+  response_same (variant.ListRights x) (variant.ListRights y) h = ap said.ListRights (list_rights_tell.same x y h)
+  response_same (variant.MyRights x) (variant.MyRights y) h = ap said.MyRights (my_rights_tell.same x y h)
   response_same x y h = absurd (unequal h)
 
   response_equal : (x y : Response) → lent_response (response_value x) ≡ lent_response (response_value y) → (response_eq.eq-value).it x y ≡ true

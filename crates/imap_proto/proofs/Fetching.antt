@@ -21,13 +21,13 @@ use Rattle.imap_grammar.proofs.Starts.{denied, waited}
 use Rattle.imap_grammar.proofs.Yields.{Yields, either_yields, made_yields}
 use Rattle.imap_bytes.specs.Numbers.{number, digits}
 use Rattle.imap_grammar.specs.declared.at.span.Span.{Span}
-use Rattle.imap_shapes.specs.declared.spans.SpannedText.{SpannedText}
+use Rattle.imap_body_types.specs.declared.spans.SpannedText.{SpannedText}
 use Rattle.imap_body.specs.declared.spanned_attribute.SpannedAttribute.{SpannedAttribute}
 use Rattle.imap_body.specs.SpannedAttributes.{Stands}
 use Rattle.imap_data.specs.MailboxData.{exists, recent}
 use Rattle.imap_data.specs.Annotations.{metadata_solicited, metadata_unsolicited}
-use Rattle.imap_items.specs.Capabilities.{capability_data, enabled_data}
-use Rattle.imap_items.specs.Statuses.{status}
+use Rattle.imap_shared.specs.Capabilities.{capability_data, enabled_data}
+use Rattle.imap_shared.specs.Statuses.{status}
 use Rattle.imap_proto.specs.Responses.{ResponseValue, Capabilities, Fetch, MailboxData, IsFetch, fetch_in, response_value}
 use Rattle.imap_proto.specs.declared.response.Response.{Response}
 use Rattle.imap_proto.specs.declared.kept.KeptFetch.{KeptFetch}

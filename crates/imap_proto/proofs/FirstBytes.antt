@@ -7,12 +7,12 @@ use Rattle.imap_grammar.specs.Rule.{never}
 use Rattle.imap_grammar.specs.Step.{step}
 use Rattle.imap_grammar.proofs.Starts.{AtNone, AtAny, AtDigit, AtOther, AtOtherThanDigits, by_none, waits_without, by_any, by_digit, by_other, by_other_than_digits}
 use Rattle.imap_bytes.specs.Numbers.{number, digits}
-use Rattle.imap_items.specs.Statuses.{status}
+use Rattle.imap_shared.specs.Statuses.{status}
 use Rattle.imap_data.specs.MailboxData.{flags, exists, list, lsub, status as mailbox_status, recent, search, labels, msgid, thrid, sort, mailbox_datum, list_or_lsub}
-use Rattle.imap_items.specs.Gmail.{gmail_label_list, gmail_msgid, gmail_thrid}
-use Rattle.imap_items.specs.Capabilities.{capability_data, enabled_data}
+use Rattle.imap_shared.specs.Gmail.{gmail_label_list, gmail_msgid, gmail_thrid}
+use Rattle.imap_shared.specs.Capabilities.{capability_data, enabled_data}
 use Rattle.imap_data.specs.Annotations.{metadata_solicited, metadata_unsolicited}
-use Rattle.imap_extensions.specs.Annotations.{metadata_mailbox}
+use Rattle.imap_data.specs.Annotations.{metadata_mailbox}
 use Rattle.imap_extensions.specs.Vanishings.{vanished}
 use Rattle.imap_extensions.specs.Quotas.{quota, quota_root}
 use Rattle.imap_extensions.specs.Ids.{id}

@@ -15,7 +15,7 @@ use Rattle.imap_grammar.specs.Text.{Bytes}
 use Rattle.imap_grammar.proofs.Agreement.{agrees, reads}
 use Rattle.imap_grammar.proofs.ReadingWords.{exact}
 use Rattle.imap_grammar.specs.declared.at.span.Span.{Span}
-use Rattle.imap_shapes.specs.declared.spans.SpannedText.{SpannedText}
+use Rattle.imap_body_types.specs.declared.spans.SpannedText.{SpannedText}
 use Rattle.imap_body.specs.declared.spanned_attribute.SpannedAttribute.{SpannedAttribute}
 use Rattle.imap_body.specs.SpannedAttributes.{Stands}
 use Rattle.imap_grammar.proofs.Starts.{denied, waited}

@@ -26,18 +26,18 @@ use Rattle.imap_bytes.specs.Numbers.{digits, number}
 use Rattle.imap_bytes.proofs.ReadingTexts.{not_digit, number_first, reads-number}
 use Rattle.imap_bytes.proofs.ReadingCounts.{number_starts, numbers_yield, reads-counted}
 use Rattle.imap_bytes.proofs.SpellingTexts.{spells-number}
-use Rattle.imap_items.specs.Statuses.{status}
-use Rattle.imap_items.specs.Capabilities.{capability_data, enabled_data}
-use Rattle.imap_items.specs.CapabilityTexts.{canonical_each}
-use Rattle.imap_items.specs.Gmail.{gmail_label_list, gmail_msgid, gmail_thrid}
-use Rattle.imap_items.proofs.StatusTexts.{reads_status, status_spells}
-use Rattle.imap_items.proofs.CapabilityTexts.{offered_yields, enabled_yields, keeps_capability_data, keeps_enabled_data}
+use Rattle.imap_shared.specs.Statuses.{status}
+use Rattle.imap_shared.specs.Capabilities.{capability_data, enabled_data}
+use Rattle.imap_shared.specs.CapabilityTexts.{canonical_each}
+use Rattle.imap_shared.specs.Gmail.{gmail_label_list, gmail_msgid, gmail_thrid}
+use Rattle.imap_shared.proofs.StatusTexts.{reads_status, status_spells}
+use Rattle.imap_shared.proofs.CapabilityTexts.{offered_yields, enabled_yields, keeps_capability_data, keeps_enabled_data}
 use Rattle.imap_data.specs.DatumValues.{Exists, Flags, Listed, Search, Sort, Recent, GmailLabels, GmailMsgId, GmailThrId}
 use Rattle.imap_data.specs.MailboxData.{flags, exists, list, lsub, status_of, status as mailbox_status, recent, search as search_rule, labels, msgid, thrid, sort, mailbox_datum}
 use Rattle.imap_data.specs.MailboxDataTexts.{canonical_datum}
-use Rattle.imap_extensions.specs.Annotations.{metadata_mailbox, annotations}
-use Rattle.imap_extensions.specs.AnnotationTexts.{canonical_metadata}
-use Rattle.imap_extensions.proofs.AnnotationTexts.{reads_metadata}
+use Rattle.imap_data.specs.Annotations.{metadata_mailbox, annotations}
+use Rattle.imap_data.specs.AnnotationTexts.{canonical_metadata}
+use Rattle.imap_data.proofs.AnnotationTexts.{reads_metadata}
 use Rattle.imap_data.specs.Annotations.{solicited_of, unsolicited_of, metadata_solicited, metadata_unsolicited}
 use Rattle.imap_data.proofs.MailboxDataTexts.{reads_mailbox_datum, mailbox_datum_spells}
 use Rattle.imap_data.proofs.AnnotationTexts.{keeps_solicited, keeps_unsolicited}
@@ -54,7 +54,7 @@ use Rattle.imap_body.proofs.AttributeTexts.{reads_attribute_list, attribute_list
 use Rattle.imap_body.specs.AttributeTexts.{canonical_attributes}
 use Rattle.imap_proto.specs.Responses.{ResponseValue, Capabilities, Continue, Expunge, MailboxData, Quota, QuotaRoot, Id, Acl, ListRights, MyRights, lent_response}
 use Rattle.imap_proto.specs.Lines.{continuation, data_of, status_data, expunge, fetch_of, fetched, fetch, vanished_of, vanished_data, state_datum, extension_datum, datum, is_space, spaces, ended_datum, data_line, is_tag_char, request_tag, done_of, tagged, response}
-use Rattle.imap_items.specs.StatusTexts.{canonical_status}
+use Rattle.imap_shared.specs.StatusTexts.{canonical_status}
 use Rattle.imap_proto.specs.OutcomeTexts.{canonical_spaced, Ends}
 use Rattle.imap_proto.specs.LineTexts.{line_end, canonical_data, canonical_response, spells_data, ends_line, spells_response, Spelled, has_bracket, is_too_long, CanonicalReadsBack}
 use Rattle.imap_proto.proofs.OutcomeTexts.{reads_outcome, reads_spaced, outcome_spells, spaced_spells}

@@ -40,8 +40,8 @@ use Rattle.imap_data.specs.declared.types.mailbox_data.MailboxDatum.{MailboxDatu
 use Rattle.imap_data.proofs.NumberData.{list_or_lsub_other, solicited_other, unsolicited_other}
 use Rattle.imap_extensions.specs.Acls.{list_rights}
 use Rattle.imap_extensions.specs.Ids.{IdTable, IsNil, id}
-use Rattle.imap_items.specs.declared.types.statuses.Status.{Status}
-use Rattle.imap_items.specs.Statuses.{status}
+use Rattle.imap_shared.specs.declared.types.statuses.Status.{Status}
+use Rattle.imap_shared.specs.Statuses.{status}
 use Rattle.imap_proto.specs.declared.outcome.Outcome.{Outcome}
 use Rattle.imap_data.proofs.ListCodes.{list_code_yielded}
 use Rattle.imap_proto.specs.Outcomes.{outcome_of, outcome, plain_outcome, no_outcome, spaced_outcome}

@@ -7,12 +7,13 @@ use Rattle.imap_grammar.specs.Rule.{meaning}
 use Rattle.imap_grammar.specs.Text.{lent_text}
 use Rattle.imap_grammar.specs.Pieces.{Pieces, ◌then◌, words, raw, space, number_text, plain, written}
 use Rattle.imap_grammar.proofs.OneText.{Keeps, one_text}
-use Rattle.imap_items.specs.StatusTexts.{canonical_status}
+use Rattle.imap_shared.specs.StatusTexts.{canonical_status}
 use Rattle.imap_data.specs.Codes.{lent_code}
 use Rattle.imap_data.proofs.OneText.{response_code, capabilities, datum, quota, quota_root, id, acl}
 use Rattle.imap_body.proofs.OneText.{attributes}
 use Rattle.imap_proto.specs.Lines.{response as rule}
-use Rattle.imap_proto.specs.Responses.{OutcomeValue, ResponseValue, Capabilities, Continue, Done, Data, Expunge, Vanished, Fetch, MailboxData, Quota, QuotaRoot, Id, Acl, ListRights, MyRights, lent_outcome, lent_response}
+use Rattle.imap_proto.specs.Responses.{OutcomeValue, ResponseValue, lent_outcome, lent_response}
+use Rattle.imap_proto.specs.Responses as said
 use Rattle.imap_proto.specs.OutcomeTexts.{canonical_parts, canonical_outcome, canonical_spaced_parts, canonical_spaced, is_like_code, is_bracketed}
 use Rattle.imap_proto.specs.LineTexts.{line_end, canonical_response, canonical_bytes, has_bracket, is_too_long, SaidAlike, SameReadsBack}
 use Rattle.imap_proto.proofs.LineTexts.{canonical_reads_back}
@@ -53,36 +54,36 @@ in_line x = words "* " then x then line_end
 
 response : Keeps lent_response canonical_response
 unfolding in_line
-response (Continue o) = ap (λ x. words "+" then space then x then line_end) (outcome o)
-response (Done tag status o) = ap (λ x. raw tag then space then canonical_status status then x then line_end) (spaced o)
-response (Data status o) = ap (λ x. in_line (canonical_status status then x)) (spaced o)
-response (MailboxData d) = ap in_line (datum d)
-response (Expunge n) = refl
-response (Fetch n vs) = ap (λ x. in_line (number_text n then words " FETCH " then x)) (attributes vs)
-response (Capabilities cs) = ap in_line (capabilities cs)
-response (Vanished earlier uids) = refl
-response (Quota q) = ap in_line (quota q)
-response (QuotaRoot q) = ap in_line (quota_root q)
-response (Id ps) = ap in_line (id ps)
-response (Acl a) = ap in_line (acl a)
-response (ListRights r) = refl
-response (MyRights r) = refl
+response (said.Continue o) = ap (λ x. words "+" then space then x then line_end) (outcome o)
+response (said.Done tag status o) = ap (λ x. raw tag then space then canonical_status status then x then line_end) (spaced o)
+response (said.Data status o) = ap (λ x. in_line (canonical_status status then x)) (spaced o)
+response (said.MailboxData d) = ap in_line (datum d)
+response (said.Expunge n) = refl
+response (said.Fetch n vs) = ap (λ x. in_line (number_text n then words " FETCH " then x)) (attributes vs)
+response (said.Capabilities cs) = ap in_line (capabilities cs)
+response (said.Vanished earlier uids) = refl
+response (said.Quota q) = ap in_line (quota q)
+response (said.QuotaRoot q) = ap in_line (quota_root q)
+response (said.Id ps) = ap in_line (id ps)
+response (said.Acl a) = ap in_line (acl a)
+response (said.ListRights r) = refl
+response (said.MyRights r) = refl
 
 brackets : (r : ResponseValue) → has_bracket (lent_response r) ≡ has_bracket r
-brackets (Continue o) = bracket o
-brackets (Done tag status o) = bracket o
-brackets (Data status o) = bracket o
-brackets (MailboxData d) = refl
-brackets (Expunge n) = refl
-brackets (Fetch n vs) = refl
-brackets (Capabilities cs) = refl
-brackets (Vanished earlier uids) = refl
-brackets (Quota q) = refl
-brackets (QuotaRoot q) = refl
-brackets (Id ps) = refl
-brackets (Acl a) = refl
-brackets (ListRights r) = refl
-brackets (MyRights r) = refl
+brackets (said.Continue o) = bracket o
+brackets (said.Done tag status o) = bracket o
+brackets (said.Data status o) = bracket o
+brackets (said.MailboxData d) = refl
+brackets (said.Expunge n) = refl
+brackets (said.Fetch n vs) = refl
+brackets (said.Capabilities cs) = refl
+brackets (said.Vanished earlier uids) = refl
+brackets (said.Quota q) = refl
+brackets (said.QuotaRoot q) = refl
+brackets (said.Id ps) = refl
+brackets (said.Acl a) = refl
+brackets (said.ListRights r) = refl
+brackets (said.MyRights r) = refl
 
 pub said_alike : SaidAlike
 said_alike r s same =

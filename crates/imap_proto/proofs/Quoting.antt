@@ -14,8 +14,8 @@ use Rattle.imap_grammar.proofs.ReadingWords.{exact}
 use Rattle.imap_bytes.specs.Strings.{quoted_part, quoted_content, quoted}
 use Rattle.imap_command.specs.Arguments.{escaped_byte}
 use Rattle.imap_command.specs.OneLine.{StaysInLine}
-use Rattle.imap_attributes.specs.Unescaped.{unescaped}
-use Rattle.imap_attributes.proofs.Escapes.{first_unescaped}
+use Rattle.imap_body.specs.Unescaped.{unescaped}
+use Rattle.imap_body.proofs.Escapes.{first_unescaped}
 use Rattle.imap_proto.specs.Quoting.{QuotedIsRead, QuotedIsUnescaped}
 
 abbrev NotPlain : Bytes → Type 0

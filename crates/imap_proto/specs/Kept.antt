@@ -8,9 +8,9 @@ use Rattle.imap_grammar.specs.Text.{Bytes}
 use Rattle.imap_grammar.specs.Rule.{meaning}
 use Rattle.imap_grammar.specs.Answer.{Refuses, Returned}
 use Rattle.imap_grammar.specs.Positions.{named_in}
-use Rattle.imap_shapes.specs.declared.shapes.bodies.BodyStructure.{BodyStructure as Structure}
-use Rattle.imap_attributes.specs.declared.attributes.AttributeParts.{AttributeParts as Attribute}
-use Rattle.imap_attributes.specs.AttributeValues.{AttributeValue, attribute_value}
+use Rattle.imap_body_types.specs.declared.shapes.bodies.BodyStructure.{BodyStructure as Structure}
+use Rattle.imap_body.specs.declared.attributes.AttributeParts.{AttributeParts as Attribute}
+use Rattle.imap_body.specs.AttributeValues.{AttributeValue, attribute_value}
 use Rattle.imap_body.specs.SpannedAttributes.{span_of, attribute_in, unescaped_attribute_in}
 use Rattle.imap_proto.specs.declared.kept.Attributes.{Attributes}
 use Rattle.imap_proto.specs.declared.kept.KeptFetch.{KeptFetch}

@@ -7,15 +7,16 @@ use Rattle.imap_grammar.specs.Rule.{meaning}
 use Rattle.imap_grammar.specs.Pieces.{Piece, Raw, Lit, Pieces, ◌then◌, words, raw, space, number_text, written}
 use Rattle.imap_grammar.specs.ReadBack.{Texts}
 use Rattle.imap_grammar.specs.Spelling.{this, exactly, in_any_case, ◌and◌, all_of, utf8_of, as_it_is, maybe, spells_number}
-use Rattle.imap_items.specs.StatusTexts.{canonical_status, spells_status}
-use Rattle.imap_items.specs.CapabilityTexts.{canonical_capabilities, spells_capability_data, spells_enabled_data}
+use Rattle.imap_shared.specs.StatusTexts.{canonical_status, spells_status}
+use Rattle.imap_shared.specs.CapabilityTexts.{canonical_capabilities, spells_capability_data, spells_enabled_data}
 use Rattle.imap_data.specs.MailboxDataTexts.{canonical_datum, spells_datum}
 use Rattle.imap_extensions.specs.VanishingTexts.{canonical_vanished, spells_vanished}
 use Rattle.imap_extensions.specs.QuotaTexts.{canonical_quota, spells_quota, canonical_quota_root, spells_quota_root}
 use Rattle.imap_extensions.specs.IdTexts.{canonical_id, spells_id}
 use Rattle.imap_extensions.specs.AclTexts.{canonical_acl, spells_acl, canonical_list_rights, spells_list_rights, canonical_my_rights, spells_my_rights}
 use Rattle.imap_body.specs.AttributeTexts.{canonical_attributes, spells_attributes}
-use Rattle.imap_proto.specs.Responses.{OutcomeValue, ResponseValue, Capabilities, Continue, Done, Data, Expunge, Vanished, Fetch, MailboxData, Quota, QuotaRoot, Id, Acl, ListRights, MyRights, lent_response}
+use Rattle.imap_proto.specs.Responses.{OutcomeValue, ResponseValue, lent_response}
+use Rattle.imap_proto.specs.Responses as said
 use Rattle.imap_proto.specs.OutcomeTexts.{canonical_outcome, canonical_spaced, is_bracketed, spells_outcome, spells_spaced}
 use Rattle.imap_proto.specs.Lines.{is_space, is_tag_char, response}
 
@@ -27,25 +28,25 @@ line_end = raw (carriage_return ∷ line_feed ∷ [])
 
 -- what stands between `* ` and the end of the line; empty for a continuation and a tagged line
 abbrev pub canonical_data : ResponseValue → Pieces
-canonical_data (Data status o) = canonical_status status then canonical_spaced o
-canonical_data (MailboxData datum) = canonical_datum datum
-canonical_data (Expunge n) = number_text n then words " EXPUNGE"
-canonical_data (Fetch n attributes) =
+canonical_data (said.Data status o) = canonical_status status then canonical_spaced o
+canonical_data (said.MailboxData datum) = canonical_datum datum
+canonical_data (said.Expunge n) = number_text n then words " EXPUNGE"
+canonical_data (said.Fetch n attributes) =
     number_text n then words " FETCH " then canonical_attributes attributes
-canonical_data (Capabilities capabilities) = canonical_capabilities capabilities
-canonical_data (Vanished earlier uids) = canonical_vanished (earlier, uids)
-canonical_data (Quota quota) = canonical_quota quota
-canonical_data (QuotaRoot root) = canonical_quota_root root
-canonical_data (Id params) = canonical_id params
-canonical_data (Acl acl) = canonical_acl acl
-canonical_data (ListRights rights) = canonical_list_rights rights
-canonical_data (MyRights rights) = canonical_my_rights rights
-canonical_data (Continue o) = []
-canonical_data (Done tag status o) = []
+canonical_data (said.Capabilities capabilities) = canonical_capabilities capabilities
+canonical_data (said.Vanished earlier uids) = canonical_vanished (earlier, uids)
+canonical_data (said.Quota quota) = canonical_quota quota
+canonical_data (said.QuotaRoot root) = canonical_quota_root root
+canonical_data (said.Id params) = canonical_id params
+canonical_data (said.Acl acl) = canonical_acl acl
+canonical_data (said.ListRights rights) = canonical_list_rights rights
+canonical_data (said.MyRights rights) = canonical_my_rights rights
+canonical_data (said.Continue o) = []
+canonical_data (said.Done tag status o) = []
 
 abbrev pub canonical_response : ResponseValue → Pieces
-canonical_response (Continue o) = words "+" then space then canonical_outcome o then line_end
-canonical_response (Done tag status o) =
+canonical_response (said.Continue o) = words "+" then space then canonical_outcome o then line_end
+canonical_response (said.Done tag status o) =
     raw tag then space then canonical_status status then canonical_spaced o then line_end
 canonical_response r = words "* " then canonical_data r then line_end
 
@@ -55,31 +56,31 @@ canonical_bytes r = written (canonical_response r)
 -- ---- spelling
 
 abbrev pub spells_data : ResponseValue → Texts
-spells_data (Data status o) = spells_status status and spells_spaced o
-spells_data (MailboxData datum) = spells_datum datum
-spells_data (Expunge n) = spells_number n and in_any_case " EXPUNGE"
-spells_data (Fetch n attributes) =
+spells_data (said.Data status o) = spells_status status and spells_spaced o
+spells_data (said.MailboxData datum) = spells_datum datum
+spells_data (said.Expunge n) = spells_number n and in_any_case " EXPUNGE"
+spells_data (said.Fetch n attributes) =
     spells_number n and in_any_case " FETCH " and spells_attributes attributes
-spells_data (Capabilities capabilities) =
+spells_data (said.Capabilities capabilities) =
     λ c. spells_capability_data capabilities c ⊎ spells_enabled_data capabilities c
-spells_data (Vanished earlier uids) = spells_vanished (earlier, uids)
-spells_data (Quota quota) = spells_quota quota
-spells_data (QuotaRoot root) = spells_quota_root root
-spells_data (Id params) = spells_id params
-spells_data (Acl acl) = spells_acl acl
-spells_data (ListRights rights) = spells_list_rights rights
-spells_data (MyRights rights) = spells_my_rights rights
-spells_data (Continue o) = λ c. ⊥
-spells_data (Done tag status o) = λ c. ⊥
+spells_data (said.Vanished earlier uids) = spells_vanished (earlier, uids)
+spells_data (said.Quota quota) = spells_quota quota
+spells_data (said.QuotaRoot root) = spells_quota_root root
+spells_data (said.Id params) = spells_id params
+spells_data (said.Acl acl) = spells_acl acl
+spells_data (said.ListRights rights) = spells_list_rights rights
+spells_data (said.MyRights rights) = spells_my_rights rights
+spells_data (said.Continue o) = λ c. ⊥
+spells_data (said.Done tag status o) = λ c. ⊥
 
 abbrev pub ends_line : Texts
 ends_line = this (carriage_return ∷ line_feed ∷ [])
 
 -- spaces may stand before the end of a data line
 abbrev pub spells_response : ResponseValue → Texts
-spells_response (Continue o) =
+spells_response (said.Continue o) =
     exactly "+" and maybe (exactly " ") and spells_outcome o and ends_line
-spells_response (Done tag status o) =
+spells_response (said.Done tag status o) =
     as_it_is (utf8_of is_tag_char) tag
     and exactly " "
     and spells_status status
@@ -95,9 +96,9 @@ Spelled m rest r = (c : Bytes) × (m ≡ c ++ rest) × spells_response r c
 
 -- Without a code, its information begins with `[`, as a code does.
 abbrev pub has_bracket : ResponseValue → Bool
-has_bracket (Continue o) = is_bracketed o
-has_bracket (Done tag status o) = is_bracketed o
-has_bracket (Data status o) = is_bracketed o
+has_bracket (said.Continue o) = is_bracketed o
+has_bracket (said.Done tag status o) = is_bracketed o
+has_bracket (said.Data status o) = is_bracketed o
 has_bracket r = false
 
 -- a literal of more than 4,294,967,295 bytes, whose length no number tells
@@ -112,9 +113,9 @@ has_too_long_text r = list_any is_too_long (canonical_response r)
 
 -- a continuation, a tagged line or an untagged status, with this outcome
 abbrev pub SaysOutcome : ResponseValue → OutcomeValue → Type 0
-SaysOutcome (Continue said) o = said ≡ o
-SaysOutcome (Done tag status said) o = said ≡ o
-SaysOutcome (Data status said) o = said ≡ o
+SaysOutcome (said.Continue outcome) o = outcome ≡ o
+SaysOutcome (said.Done tag status outcome) o = outcome ≡ o
+SaysOutcome (said.Data status outcome) o = outcome ≡ o
 SaysOutcome r o = ⊥
 
 -- the first: one of these lines, without a code, whose information begins with `[`

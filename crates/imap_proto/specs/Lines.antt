@@ -8,9 +8,9 @@ use Rattle.imap_grammar.specs.Ranges.{Range}
 use Rattle.imap_grammar.specs.Tags.{tag, word, sp, maybe_space, crlf}
 use Rattle.imap_bytes.specs.Numbers.{number}
 use Rattle.imap_bytes.specs.Strings.{in_utf8}
-use Rattle.imap_items.specs.declared.types.statuses.Status.{Status}
-use Rattle.imap_items.specs.Statuses.{status}
-use Rattle.imap_items.specs.Capabilities.{capability_data, enabled_data}
+use Rattle.imap_shared.specs.declared.types.statuses.Status.{Status}
+use Rattle.imap_shared.specs.Statuses.{status}
+use Rattle.imap_shared.specs.Capabilities.{capability_data, enabled_data}
 use Rattle.imap_data.specs.DatumValues.{Exists, Recent}
 use Rattle.imap_data.specs.MailboxData.{mailbox_datum, list_or_lsub, exists, recent}
 use Rattle.imap_data.specs.Annotations.{metadata_solicited, metadata_unsolicited}
@@ -18,7 +18,7 @@ use Rattle.imap_extensions.specs.Vanishings.{vanished}
 use Rattle.imap_extensions.specs.Quotas.{quota, quota_root}
 use Rattle.imap_extensions.specs.Ids.{id}
 use Rattle.imap_extensions.specs.Acls.{acl, list_rights, my_rights}
-use Rattle.imap_attributes.specs.AttributeValues.{AttributeValue}
+use Rattle.imap_body.specs.AttributeValues.{AttributeValue}
 use Rattle.imap_body.specs.Attributes.{attribute_list}
 use Rattle.imap_proto.specs.Responses.{OutcomeValue, ResponseValue, Capabilities, Continue, Done, Data, Expunge, Vanished, Fetch, MailboxData, Quota, QuotaRoot, Id, Acl, ListRights, MyRights}
 use Rattle.imap_proto.specs.Outcomes.{outcome, spaced_outcome}

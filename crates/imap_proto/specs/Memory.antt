@@ -6,15 +6,16 @@ use Rattle.imap_grammar.specs.Tags.{tag, word, sp, maybe_space}
 use Rattle.imap_grammar.specs.Text.{Bytes, Text, IsOwned}
 use Rattle.imap_bytes.specs.Numbers.{number}
 use Rattle.imap_bytes.specs.Texts.{text, YieldsOwned}
-use Rattle.imap_items.specs.Copies.{IsLent}
-use Rattle.imap_items.specs.Statuses.{status}
+use Rattle.imap_shared.specs.Copies.{IsLent}
+use Rattle.imap_shared.specs.Statuses.{status}
 use Rattle.imap_extensions.specs.Acls.{AclMayWant}
 use Rattle.imap_extensions.specs.Ids.{IsNil}
 use Rattle.imap_data.specs.Codes.{CodeValue, HoldsNoList, BeginsListCode, response_code}
 use Rattle.imap_data.specs.DatumValues.{IsNumber}
 use Rattle.imap_data.specs.MailboxData.{MailboxMayWant}
 use Rattle.imap_proto.specs.Lines.{request_tag, tagged}
-use Rattle.imap_proto.specs.Responses.{OutcomeValue, ResponseValue, Continue, Data, Expunge, MailboxData, Id}
+use Rattle.imap_proto.specs.Responses.{OutcomeValue, ResponseValue}
+use Rattle.imap_proto.specs.Responses as said
 
 -- A code without a list, and a borrowed text behind it. A text by itself also doesn't begin as a code that may hold a
 -- list: what stands so is tried as a code before, and its list may want memory.
@@ -30,11 +31,11 @@ OutcomeTakesNone o = ReadsWithoutMemory o.code o.information
 -- One number, `ID NIL`, or an untagged status or a continuation with such an outcome: no list, no map, no copied tag
 -- and no owned text.
 abbrev pub TakesNone : ResponseValue → Type 0
-TakesNone (Continue o) = OutcomeTakesNone o
-TakesNone (Data _ o) = OutcomeTakesNone o
-TakesNone (Expunge n) = Unit {0}
-TakesNone (MailboxData datum) = IsNumber datum
-TakesNone (Id fields) = IsNil fields
+TakesNone (said.Continue o) = OutcomeTakesNone o
+TakesNone (said.Data _ o) = OutcomeTakesNone o
+TakesNone (said.Expunge n) = Unit {0}
+TakesNone (said.MailboxData datum) = IsNumber datum
+TakesNone (said.Id fields) = IsNil fields
 TakesNone other = ⊥
 
 -- ---- behind what memory may be wanted

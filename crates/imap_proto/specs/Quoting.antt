@@ -4,7 +4,7 @@ use Rattle.std.specs.List.{flat_map}
 use Rattle.imap_grammar.specs.Rule.{meaning}
 use Rattle.imap_grammar.specs.Text.{Bytes}
 use Rattle.imap_bytes.specs.Strings.{quoted}
-use Rattle.imap_attributes.specs.Unescaped.{unescaped}
+use Rattle.imap_body.specs.Unescaped.{unescaped}
 use Rattle.imap_command.specs.Arguments.{escaped_byte, quoted as quoted_argument}
 use Rattle.imap_command.specs.OneLine.{StaysInLine}
 

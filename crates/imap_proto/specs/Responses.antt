@@ -6,19 +6,19 @@ use Rattle.std.specs.declared.vec.Vec.{Vec}
 use Rattle.imap_grammar.specs.Ascii.{line_feed, carriage_return}
 use Rattle.imap_grammar.specs.Text.{Bytes, Text, text_of, lent_text}
 use Rattle.imap_grammar.specs.Ranges.{Range, range_of}
-use Rattle.imap_items.specs.declared.types.statuses.Status.{Status}
+use Rattle.imap_shared.specs.declared.types.statuses.Status.{Status}
 use Rattle.imap_data.specs.Codes.{CodeValue, code_value, changed_code}
-use Rattle.imap_items.specs.Capabilities.{CapabilityValue, capability_value, changed_capability}
+use Rattle.imap_shared.specs.Capabilities.{CapabilityValue, capability_value, changed_capability}
 use Rattle.imap_data.specs.DatumValues.{DatumValue, datum_value, changed_datum}
 use Rattle.imap_extensions.specs.Quotas.{QuotaValue, QuotaRootValue, quota_value, quota_root_value, changed_quota, changed_quota_root}
 use Rattle.imap_extensions.specs.Ids.{IdValue, id_value, changed_id}
 use Rattle.imap_extensions.specs.Acls.{AclValue, ListRightsValue, MyRightsValue, acl_value, list_rights_value, my_rights_value, changed_acl, changed_list_rights, changed_my_rights}
 use Rattle.imap_grammar.specs.declared.at.span.Span.{Span}
-use Rattle.imap_shapes.specs.declared.spans.SpannedText.{SpannedText}
+use Rattle.imap_body_types.specs.declared.spans.SpannedText.{SpannedText}
 use Rattle.imap_body.specs.declared.spanned_attribute.SpannedAttribute.{SpannedAttribute}
 use Rattle.imap_body.specs.SpannedAttributes.{attribute_in}
-use Rattle.imap_attributes.specs.AttributeValues.{AttributeValue, attribute_value}
-use Rattle.imap_attributes.specs.Changed.{changed_attribute}
+use Rattle.imap_body.specs.AttributeValues.{AttributeValue, attribute_value}
+use Rattle.imap_body.specs.Changed.{changed_attribute}
 use Rattle.imap_proto.specs.declared.outcome.Outcome.{Outcome}
 use Rattle.imap_proto.specs.declared.response.Response.{Response}
 use Rattle.imap_proto.specs.declared.response.Response.TheVariants as variant

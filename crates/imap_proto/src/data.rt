@@ -54,7 +54,7 @@ macro_rules! whole_line {
             Ok((rest, $found)) => match line_end(rest) {
                 Ok((rest, _)) => return Ok((rest, $response)),
                 Err(e) => {
-                    drop($found); // By a call, for the reason that `made!` gives.
+                    drop($found); // By a call, for the reason that `or_drop!` gives.
                     return Err(e);
                 }
             },

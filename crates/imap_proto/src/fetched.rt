@@ -4,7 +4,7 @@ ghost use Rattle.std.specs.Prelude.{◌≤◌, List, length, map, drop, IfOk};
 ghost use Rattle.imap_grammar.specs.Memory.{BeginsWord, NeverFails, FailsOnlyIf};
 ghost use Rattle.imap_grammar.specs.Positions.{Ahead, Inside, named_in, StepsAt, StepsExactlyAt};
 ghost use Rattle.imap_grammar.specs.Text.{Bytes};
-ghost use Rattle.imap_attributes.specs.AttributeValues.{AttributeValue as Said, attribute_value};
+ghost use Rattle.imap_body.specs.AttributeValues.{AttributeValue as Said, attribute_value};
 ghost use Rattle.imap_body.specs.Attributes as rules;
 ghost use Rattle.imap_body.specs.SpannedAttributes.{InFront, attribute_in};
 ghost use Rattle.imap_proto.specs.Lines as rule;
@@ -13,11 +13,11 @@ ghost use Rattle.imap_proto.specs.Lines.{ended};
 use imap_body::AttributeValue;
 use imap_body::readers::attribute_values_at;
 use imap_body::spanned::{SpannedAttribute, attribute_list_at};
+use imap_body_types::or_drop;
 use imap_bytes::at::Reached;
 use imap_bytes::at::span::Span;
 use imap_bytes::at::tags::{cut0, tag, word};
 use imap_grammar::scanning::{Class, run_end};
-use imap_shapes::made;
 use std::alloc::Global;
 
 // A space.
@@ -83,7 +83,7 @@ pub(crate) fn fetched<'m, A: Attributes<'m>>(alloc: Global, m: &'m [u8], p: usiz
 {
     let (p, _) = word(b" FETCH ", m, p)?;
     let (p, attributes) = A::listed(alloc, m, p)?;
-    let (p, _) = made!(spaces(m, p), attributes);
-    let (p, _) = made!(tag(b"\r\n", m, p), attributes);
+    let (p, _) = or_drop!(spaces(m, p), attributes);
+    let (p, _) = or_drop!(tag(b"\r\n", m, p), attributes);
     Ok((p, attributes))
 }

@@ -1,11 +1,13 @@
 //! Fetches that are kept: the bytes of one `FETCH` once, and its attributes as positions in them.
 
-ghost use Rattle.std.specs.Prelude.{◌≡◌, ◌≤◌, ◌<◌, Some, Ok as Found, Err as Refused, length, slice_get, IfOk, MatchResult};
+ghost use Rattle.std.specs.Prelude.{◌≡◌, ◌≤◌, ◌<◌, Some, Ok as Found, Err as Refused, length, slice_get, IfOk};
+ghost use Rattle.std.specs.Prelude.{MatchResult};
 ghost use Rattle.imap_grammar.specs.Memory.{FailsOnlyIf};
 ghost use Rattle.imap_grammar.specs.Positions.{StepsAt};
-ghost use Rattle.imap_attributes.specs.AttributeValues.{attribute_value};
+ghost use Rattle.imap_body.specs.AttributeValues.{attribute_value};
 ghost use Rattle.imap_body.specs.SpannedAttributes.{InFront};
-ghost use Rattle.imap_proto.specs.Kept.{Keeps, message_number, consumed_bytes, attributes_of, unescaped_attributes_of, attributes_left, spans_of, without_value};
+ghost use Rattle.imap_proto.specs.Kept.{Keeps, message_number, consumed_bytes, attributes_of, unescaped_attributes_of};
+ghost use Rattle.imap_proto.specs.Kept.{attributes_left, spans_of, without_value};
 ghost use Rattle.imap_proto.specs.Feeds.{FeedMayWant};
 ghost use Rattle.imap_proto.specs.Fronts.{BeginsFetch, IsKeptFront};
 ghost use Rattle.imap_proto.specs.declared.kept.Front.TheVariants as front;
@@ -26,7 +28,7 @@ use imap_bytes::{Err, IResult};
 use std::alloc::{AllocError, Global};
 
 // A line that tells of a message: its number, and its attributes as positions in the line.
-#[tactic(auto, using(crate::proofs::Ended::ended_later), unfolding(crate::specs::Lines::fetch_line, crate::specs::Lines::fetch))]
+#[tactic(auto, using(crate::proofs::Ended::ended_later), unfolding(crate::proofs::Ended::fetch_rules))]
 fn fetch_line(alloc: Global, m: &[u8]) -> Reached<(u32, Vec<SpannedAttribute>)>
     ensures steps { StepsAt rule.fetch_line (fetch_in m.now) m.now 0 result }
     ensures within { IfOk result (λ x. x.0 ≤ length m.now) }

@@ -10,15 +10,18 @@ ghost use Rattle.imap_grammar.specs.Copying.{CopiesFreely};
 ghost use Rattle.imap_proto.specs.Outcomes as outcomes;
 ghost use Rattle.imap_proto.specs.Lines as rule;
 ghost use Rattle.imap_proto.specs.LogicalLines.{logical_line, NoLineIsDenied, LinesEnd};
-ghost use Rattle.imap_proto.specs.Skipping.{item, SomePast, OnePast, PastGoesOn, PastBeginsSo, FedIsPassed, FeedsPast, PastCuttingsAlike};
+ghost use Rattle.imap_proto.specs.Skipping.{item, SomePast, OnePast, PastGoesOn, PastBeginsSo, FedIsPassed, FeedsPast};
+ghost use Rattle.imap_proto.specs.Skipping.{PastCuttingsAlike};
 ghost use Rattle.imap_proto.specs.Streams.{SomeSplit, OneSplit, BeginningsWait, SplitsGoOn, FeedsSplit, CuttingsAlike};
 ghost use Rattle.imap_proto.specs.Feeds.{OneWhole, lent_whole};
 ghost use Rattle.imap_grammar.specs.ReadBack.{Spells};
 ghost use Rattle.imap_proto.specs.Owned.{owned_outcome, owned_response};
 ghost use Rattle.imap_proto.specs.CountLines.{CountIsRead, exists_of, recent_of};
 ghost use Rattle.imap_proto.specs.Quoting.{QuotedIsRead, QuotedIsUnescaped};
-ghost use Rattle.imap_proto.specs.LineTexts.{spells_response, BracketIsSaid, LiteralIsTooLong, CanonicalReadsBack, Same, SaidAlike, SameReadsBack};
-ghost use Rattle.imap_proto.specs.Responses.{OutcomeValue, ResponseValue, Expunge, outcome_value, response_value, lent_outcome, lent_response};
+ghost use Rattle.imap_proto.specs.LineTexts.{spells_response, BracketIsSaid, LiteralIsTooLong, CanonicalReadsBack};
+ghost use Rattle.imap_proto.specs.LineTexts.{Same, SaidAlike, SameReadsBack};
+ghost use Rattle.imap_proto.specs.Responses.{OutcomeValue, ResponseValue, Expunge, outcome_value, response_value};
+ghost use Rattle.imap_proto.specs.Responses.{lent_outcome, lent_response};
 
 use crate::outcome::Outcome;
 use crate::response::{RequestId, Response};
@@ -84,8 +87,8 @@ pub fn skipping()
 /// that response again, with all texts borrowed, and what follows the text is left whole, whatever it is. Two kinds are
 /// excepted: `has_bracket`, a status or a continuation without a code whose information begins with `[`, and
 /// `has_too_long_text`, with a text too long to be written as a literal. A response with its texts borrowed is the same
-/// response. Responses that say the same have one canonical text, and are of these kinds alike: so the canonical text of
-/// an owned response, as a feed gives it, reads back as it.
+/// response. Responses that say the same have one canonical text, and are of these kinds alike: so the canonical text
+/// of an owned response, as a feed gives it, reads back as it.
 #[tactic(auto, using(crate::proofs::Grounds::texts))]
 pub fn read_back()
     ensures spells { Spells rule.response spells_response }

@@ -13,12 +13,12 @@ use crate::data::{
 };
 use crate::outcomes::{outcome, spaced_outcome};
 use crate::response::{RequestId, Response};
+use imap_body_types::or_drop;
 use imap_bytes::strings::as_utf8;
 use imap_bytes::tags::{cut1, maybe_space, second, tag};
 use imap_bytes::{Err, IResult, Needed, is_astring_char, number};
 use imap_data::readers::status;
 use imap_grammar::scanning::{Class, run_end};
-use imap_shapes::made;
 use std::alloc::Global;
 
 #[tactic(auto, unfolding(crate::specs::Lines::continuation))]
@@ -31,7 +31,7 @@ fn continuation(alloc: Global, i: &[u8]) -> IResult<&[u8], Response<'_>>
     let (rest, _) = tag(b"+", i)?;
     let (rest, _) = maybe_space(rest)?;
     let (rest, outcome) = outcome(alloc, rest)?;
-    let (rest, _) = made!(tag(b"\r\n", rest), outcome);
+    let (rest, _) = or_drop!(tag(b"\r\n", rest), outcome);
     Ok((rest, Response::Continue(outcome)))
 }
 
@@ -72,8 +72,8 @@ fn tagged(alloc: Global, i: &[u8]) -> IResult<&[u8], Response<'_>>
     let (rest, tag_text) = request_tag(i)?;
     let (rest, _) = tag(b" ", rest)?;
     let (rest, status) = status(rest)?;
-    let (rest, outcome) = made!(spaced_outcome(alloc, rest));
-    let (rest, _) = made!(tag(b"\r\n", rest), outcome);
+    let (rest, outcome) = or_drop!(spaced_outcome(alloc, rest));
+    let (rest, _) = or_drop!(tag(b"\r\n", rest), outcome);
     match String::from_str(alloc, tag_text) {
         Ok(text) => {
             let tag = RequestId(text);
@@ -87,7 +87,7 @@ fn tagged(alloc: Global, i: &[u8]) -> IResult<&[u8], Response<'_>>
             ))
         }
         Err(error) => {
-            drop(outcome); // By a call, for the reason that `made!` gives.
+            drop(outcome); // By a call, for the reason that `or_drop!` gives.
             Err(error.into())
         }
     }

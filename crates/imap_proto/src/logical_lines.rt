@@ -132,7 +132,7 @@ fn line_at(m: &[u8], p: usize) -> Reached<Span>
 ///
 /// A `{` that begins no literal, and a CR that no LF follows, are bytes like any other. It is never `Error` nor
 /// `Failure`. `Incomplete`: the line isn't whole; `Needed::Size` is how many bytes its last literal lacks.
-#[tactic(auto, using(imap_grammar::proofs::Agreement::exact_answered))]
+#[tactic(auto, using(imap_grammar::proofs::Agreement::exact_answer))]
 pub fn logical_line(bytes: &[u8]) -> IResult<&[u8], &[u8]>
     ensures steps { StepsExactly rule.logical_line (λ x. x.now) bytes.now result }
     ensures answer { Answers rule.logical_line (λ x. x.now) bytes.now result }

@@ -7,7 +7,7 @@ ghost use Rattle.imap_proto.specs.Responses.{outcome_value};
 ghost use Rattle.imap_proto.specs.Owned.{owned_outcome, OutcomeIsMovedWhole};
 
 use imap_data::ResponseCode;
-use imap_items::owned::owned_optional_text;
+use imap_shared::owned::owned_optional_text;
 use std::alloc::{AllocError, Global};
 use std::borrow::CowStr;
 

@@ -5,8 +5,8 @@ ghost use Rattle.imap_grammar.specs.Answer.{Answers, Steps};
 ghost use Rattle.imap_grammar.specs.Memory.{FailsOnlyIf, SucceedsFor};
 ghost use Rattle.imap_extensions.specs.Ids.{id_value, IsNil};
 ghost use Rattle.imap_extensions.specs.Owned.{owned_id as owned_map};
-ghost use Rattle.imap_attributes.specs.AttributeValues.{attribute_value};
-ghost use Rattle.imap_attributes.specs.Changed.{owned_attribute};
+ghost use Rattle.imap_body.specs.AttributeValues.{attribute_value};
+ghost use Rattle.imap_body.specs.Changed.{owned_attribute};
 ghost use Rattle.imap_proto.specs.Responses.{response_value, EndsLine};
 ghost use Rattle.imap_proto.specs.Owned.{owned_response, IsMovedWhole};
 ghost use Rattle.imap_proto.specs.LineTexts.{Spelled};
@@ -16,11 +16,11 @@ ghost use Rattle.imap_proto.specs.Lines as rule;
 use crate::lines;
 use crate::outcome::Outcome;
 use imap_body::AttributeValue;
+use imap_body_types::or_drop;
 use imap_bytes::IResult;
 use imap_data::{Acl, Capability, ListRights, MailboxDatum, MyRights, Quota, QuotaRoot, Status};
 use imap_extensions::{IdMap, owned_id_map};
-use imap_items::owned::owned_capabilities;
-use imap_shapes::made;
+use imap_shared::owned::owned_capabilities;
 use std::alloc::{AllocError, Global};
 use std::borrow::CowStr;
 use std::collections::HashMap;
@@ -105,7 +105,6 @@ pub enum Response<'a> {
 /// What `Response::parse` answers.
 pub type ParseResult<'a> = IResult<&'a [u8], Response<'a>>;
 
-#[tactic(auto, using(imap_attributes::proofs::Changed::attributes_are_owned))]
 fn owned_attributes(
     alloc: Global,
     attributes: Vec<AttributeValue<'_>>,
@@ -115,7 +114,7 @@ fn owned_attributes(
         ≡ map owned_attribute (map attribute_value attributes.entry.items)) }
 {
     let owned = imap_body::owned_attributes(alloc, &attributes);
-    drop(attributes); // By a call, for the reason that `made!` gives.
+    drop(attributes); // By a call, for the reason that `or_drop!` gives.
     owned
 }
 
@@ -134,8 +133,8 @@ impl<'a> Response<'a> {
     /// The same response with all texts owned, so that the bytes which it was read from need not be kept.
     ///
     /// It takes memory for lists, for the map of an ID and for borrowed texts, in a `Fetch` also for texts that are
-    /// owned already; lists without texts are moved. So it takes none for numbers, for `VANISHED`, for `ID NIL`, nor for
-    /// a status whose code has no list of texts and whose information is owned or missing. `Err`: memory ran out.
+    /// owned already; lists without texts are moved. So it takes none for numbers, for `VANISHED`, for `ID NIL`, nor
+    /// for a status whose code has no list of texts and whose information is owned or missing. `Err`: memory ran out.
     pub fn into_owned(self, alloc: Global) -> Result<Response<'static>, AllocError>
         ensures same { IfOk result (λ r.
             response_value r ≡ owned_response (response_value self.entry)) }
@@ -143,34 +142,38 @@ impl<'a> Response<'a> {
     {
         Ok(match self {
             Response::Capabilities(capabilities) => {
-                Response::Capabilities(made!(owned_capabilities(alloc, capabilities)))
+                Response::Capabilities(or_drop!(owned_capabilities(alloc, capabilities)))
             }
-            Response::Continue(outcome) => Response::Continue(made!(outcome.into_owned(alloc))),
+            Response::Continue(outcome) => Response::Continue(or_drop!(outcome.into_owned(alloc))),
             Response::Done {
                 tag,
                 status,
                 outcome,
             } => Response::Done {
-                outcome: made!(outcome.into_owned(alloc), tag),
+                outcome: or_drop!(outcome.into_owned(alloc), tag),
                 tag,
                 status,
             },
             Response::Data { status, outcome } => Response::Data {
                 status,
-                outcome: made!(outcome.into_owned(alloc)),
+                outcome: or_drop!(outcome.into_owned(alloc)),
             },
             Response::Expunge(number) => Response::Expunge(number),
             Response::Vanished { earlier, uids } => Response::Vanished { earlier, uids },
             Response::Fetch(number, attributes) => {
-                Response::Fetch(number, made!(owned_attributes(alloc, attributes)))
+                Response::Fetch(number, or_drop!(owned_attributes(alloc, attributes)))
             }
-            Response::MailboxData(datum) => Response::MailboxData(made!(datum.into_owned(alloc))),
-            Response::Quota(quota) => Response::Quota(made!(quota.into_owned(alloc))),
-            Response::QuotaRoot(root) => Response::QuotaRoot(made!(root.into_owned(alloc))),
-            Response::Id(id) => Response::Id(made!(owned_id(alloc, id))),
-            Response::Acl(acl) => Response::Acl(made!(acl.into_owned(alloc))),
-            Response::ListRights(rights) => Response::ListRights(made!(rights.into_owned(alloc))),
-            Response::MyRights(rights) => Response::MyRights(made!(rights.into_owned(alloc))),
+            Response::MailboxData(datum) => Response::MailboxData(or_drop!(datum.into_owned(
+                alloc
+            ))),
+            Response::Quota(quota) => Response::Quota(or_drop!(quota.into_owned(alloc))),
+            Response::QuotaRoot(root) => Response::QuotaRoot(or_drop!(root.into_owned(alloc))),
+            Response::Id(id) => Response::Id(or_drop!(owned_id(alloc, id))),
+            Response::Acl(acl) => Response::Acl(or_drop!(acl.into_owned(alloc))),
+            Response::ListRights(rights) => Response::ListRights(or_drop!(rights.into_owned(
+                alloc
+            ))),
+            Response::MyRights(rights) => Response::MyRights(or_drop!(rights.into_owned(alloc))),
         })
     }
 
@@ -185,12 +188,13 @@ impl<'a> Response<'a> {
     ///
     /// It takes memory for lists, envelopes and body structures, for the map of an ID, for the tag of a tagged line,
     /// for the entry and the value of a `Metadata`, and for texts that are not UTF-8. So `Failure` is answered only for
-    /// the tag of a tagged line that is there whole; in an outcome, where the word of a code that may hold a list stands
-    /// or the text is not UTF-8; behind `* ` and a number and ` FETCH `, or one of some words; and behind FLAGS, LIST,
-    /// LSUB, STATUS, SEARCH, SORT and ACL only where a first item of their list or a text that is not UTF-8 stands. It is
-    /// not answered where the response is one number (`EXPUNGE`, `EXISTS`, `RECENT`, Gmail's), `ID NIL`, or an untagged status or a
-    /// continuation with no list in its code and a borrowed text. One kind is excepted: a text without a code that
-    /// begins as a code with a list does, as `[CAPABILITY`, since it is tried as that code first.
+    /// the tag of a tagged line that is there whole; in an outcome, where the word of a code that may hold a list
+    /// stands or the text is not UTF-8; behind `* ` and a number and ` FETCH `, or one of some words; and behind FLAGS,
+    /// LIST, LSUB, STATUS, SEARCH, SORT and ACL only where a first item of their list or a text that is not UTF-8
+    /// stands. It is not answered where the response is one number (`EXPUNGE`, `EXISTS`, `RECENT`, Gmail's), `ID NIL`,
+    /// or an untagged status or a continuation with no list in its code and a borrowed text. One kind is excepted: a
+    /// text without a code that begins as a code with a list does, as `[CAPABILITY`, since it is tried as that code
+    /// first.
     #[inline(always)]
     pub fn parse(alloc: Global, msg: &'a [u8]) -> ParseResult<'a>
         ensures steps { Steps rule.response response_value msg.now result }

@@ -2,7 +2,8 @@
 //!
 //! However the bytes are cut into pieces, the same responses come of them: `laws::streams`.
 
-ghost use Rattle.std.specs.Prelude.{◌≡◌, ◌≤◌, ◌<◌, ◌+◌, ◌++◌, [], List, ℕ, length, map, drop, IfOk, IfErr, IfSome, IsOk, OnOk, OnErr, MatchResult, Ok as Found, Err as Refused};
+ghost use Rattle.std.specs.Prelude.{◌≡◌, ◌≤◌, ◌<◌, ◌+◌, ◌++◌, [], List, ℕ, length, map, drop, IfOk, IfErr, IfSome};
+ghost use Rattle.std.specs.Prelude.{IsOk, OnOk, OnErr, MatchResult, Ok as Found, Err as Refused};
 ghost use Rattle.imap_grammar.specs.declared.answer.Err.TheVariants.{Failure};
 ghost use Rattle.imap_grammar.specs.Memory.{FailsOnlyIf};
 ghost use Rattle.imap_proto.specs.declared.stream.FeedError.TheVariants.{OutOfMemory};
@@ -12,7 +13,8 @@ ghost use Rattle.imap_grammar.specs.Rule.{meaning};
 ghost use Rattle.imap_proto.specs.Lines as rule;
 ghost use Rattle.imap_proto.specs.Fronts.{GaveFront, HasGivenFront, PassesFront};
 ghost use Rattle.imap_proto.specs.Skipping.{Passed, PassesPiece, PassesResponse, PassesLine, Dropped};
-ghost use Rattle.imap_proto.specs.Feeds.{Gave, HasGivenMore, IsFedMore, IsOwnedFront, IsFront, Settles, Puts, WaitsFor, RefusesAs, FeedMayWant, TakesAll, IsWhole};
+ghost use Rattle.imap_proto.specs.Feeds.{Gave, HasGivenMore, IsFedMore, IsOwnedFront, IsFront, Settles, Puts, WaitsFor};
+ghost use Rattle.imap_proto.specs.Feeds.{RefusesAs, FeedMayWant, TakesAll, IsWhole};
 
 use crate::kept::{Front, kept_front};
 pub use crate::logical_lines::logical_line;
@@ -103,8 +105,8 @@ fn compacted(bytes: &mut Vec<u8>, start: usize) -> usize
 
 // How many bytes are behind what is owned, and this.
 //
-// It is generic in what it hands on, as `settle` and `put` are: what is proved over a type parameter is proved once, and
-// each step over a response is dear.
+// It is generic in what it hands on, as `settle` and `put` are: what is proved over a type parameter is proved once,
+// and each step over a response is dear.
 #[inline(always)]
 fn reached<R: Drop>(left: usize, owned: Result<R, AllocError>) -> Reached<R>
     ensures { MatchResult owned (λ r. result ≡ Found (left, r)) (λ _. result ≡ Refused Failure) }

@@ -1,7 +1,7 @@
 //! What stands in the pieces of a stream, over any responses.
 //!
-//! It is generic in these, since what is derived over a type parameter is proved in a tenth of the time. Callers have it
-//! at responses with owned texts alone: `stream::Whole`.
+//! It is generic in these, since what is derived over a type parameter is proved in a tenth of the time. Callers have
+//! it at responses with owned texts alone: `stream::Whole`.
 
 use crate::stream::End;
 

@@ -7,24 +7,25 @@ use Rattle.std.specs.declared.alloc.Global.{Global}
 use Rattle.std.specs.declared.string.String.{String}
 use Rattle.imap_grammar.specs.Text.{Bytes}
 use Rattle.imap_proto.specs.Owned.{owned_response}
-use Rattle.imap_proto.specs.Responses.{ResponseValue, Capabilities, Continue, Done, Data, Expunge, Vanished, Fetch, MailboxData, Quota, QuotaRoot, Id, Acl, ListRights, MyRights}
+use Rattle.imap_proto.specs.Responses.{ResponseValue}
+use Rattle.imap_proto.specs.Responses as said
 use Rattle.imap_report.specs.Plain.{name_of, counted}
 
 name_owned : (v : ResponseValue) → name_of (owned_response v) ≡ name_of v
-name_owned (Capabilities capabilities) = refl
-name_owned (Continue o) = refl
-name_owned (Done tag status o) = refl
-name_owned (Data status o) = refl
-name_owned (Expunge n) = refl
-name_owned (Vanished earlier uids) = refl
-name_owned (Fetch n attributes) = refl
-name_owned (MailboxData datum) = refl
-name_owned (Quota quota) = refl
-name_owned (QuotaRoot root) = refl
-name_owned (Id map) = refl
-name_owned (Acl acl) = refl
-name_owned (ListRights rights) = refl
-name_owned (MyRights rights) = refl
+name_owned (said.Capabilities capabilities) = refl
+name_owned (said.Continue o) = refl
+name_owned (said.Done tag status o) = refl
+name_owned (said.Data status o) = refl
+name_owned (said.Expunge n) = refl
+name_owned (said.Vanished earlier uids) = refl
+name_owned (said.Fetch n attributes) = refl
+name_owned (said.MailboxData datum) = refl
+name_owned (said.Quota quota) = refl
+name_owned (said.QuotaRoot root) = refl
+name_owned (said.Id map) = refl
+name_owned (said.Acl acl) = refl
+name_owned (said.ListRights rights) = refl
+name_owned (said.MyRights rights) = refl
 
 -- so its line is that of the response that it was made from
 pub counted_alike : (owned : ResponseValue) (name : Bytes) (n : ℕ) (r : Result (String Global) AllocError) → name ≡ name_of owned → IfOk r (λ text. string_bytes text ≡ counted name n)

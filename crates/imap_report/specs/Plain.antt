@@ -3,7 +3,8 @@ use Rattle.std.specs.Prelude.{ℕ, List, ◌∷◌, ◌++◌, length, codes}
 use Rattle.std.specs.Fmt.{decimal}
 use Rattle.imap_grammar.specs.Ascii.{space}
 use Rattle.imap_grammar.specs.Text.{Bytes}
-use Rattle.imap_proto.specs.Responses.{ResponseValue, Capabilities, Continue, Done, Data, Expunge, Vanished, Fetch, MailboxData, Quota, QuotaRoot, Id, Acl, ListRights, MyRights}
+use Rattle.imap_proto.specs.Responses.{ResponseValue}
+use Rattle.imap_proto.specs.Responses as said
 use Rattle.imap_proto.specs.Skipping.{Item, Taken, Skipped}
 use Rattle.imap_report.specs.declared.outcome.Finish.{Finish}
 use Rattle.imap_report.specs.declared.outcome.Finish.TheVariants.{End, Waiting, Denied}
@@ -12,20 +13,20 @@ use Rattle.imap_report.specs.Report.{Words}
 
 -- the name of a response's kind, in lower case
 abbrev pub name_of : ResponseValue → Bytes
-name_of (Capabilities capabilities) = codes "capabilities"
-name_of (Continue o) = codes "continue"
-name_of (Done tag status o) = codes "done"
-name_of (Data status o) = codes "data"
-name_of (Expunge n) = codes "expunge"
-name_of (Vanished earlier uids) = codes "vanished"
-name_of (Fetch n attributes) = codes "fetch"
-name_of (MailboxData datum) = codes "mailboxdata"
-name_of (Quota quota) = codes "quota"
-name_of (QuotaRoot root) = codes "quotaroot"
-name_of (Id map) = codes "id"
-name_of (Acl acl) = codes "acl"
-name_of (ListRights rights) = codes "listrights"
-name_of (MyRights rights) = codes "myrights"
+name_of (said.Capabilities capabilities) = codes "capabilities"
+name_of (said.Continue o) = codes "continue"
+name_of (said.Done tag status o) = codes "done"
+name_of (said.Data status o) = codes "data"
+name_of (said.Expunge n) = codes "expunge"
+name_of (said.Vanished earlier uids) = codes "vanished"
+name_of (said.Fetch n attributes) = codes "fetch"
+name_of (said.MailboxData datum) = codes "mailboxdata"
+name_of (said.Quota quota) = codes "quota"
+name_of (said.QuotaRoot root) = codes "quotaroot"
+name_of (said.Id map) = codes "id"
+name_of (said.Acl acl) = codes "acl"
+name_of (said.ListRights rights) = codes "listrights"
+name_of (said.MyRights rights) = codes "myrights"
 
 -- a name, SP and a number
 abbrev pub counted : Bytes → ℕ → Bytes

@@ -1,6 +1,7 @@
 //! Runs: input is read piece by piece, and its report is written as its bytes come.
 
-ghost use Rattle.std.specs.Prelude.{◌≡◌, ◌↔◌, ℕ, ◌+◌, ◌-◌, ◌^◌, ◌≤◌, ◌⊎◌, ◌++◌, List, length, true, false, IfOk, OnOk, OnErr, IfErr};
+ghost use Rattle.std.specs.Prelude.{◌≡◌, ◌↔◌, ℕ, ◌+◌, ◌-◌, ◌^◌, ◌≤◌, ◌⊎◌, ◌++◌, List, length, true, false, IfOk, OnOk};
+ghost use Rattle.std.specs.Prelude.{OnErr, IfErr};
 ghost use Rattle.imap_proto.specs.declared.stream.End.TheVariants.{Denied};
 ghost use Rattle.imap_report.specs.declared.wording.OnDenied.TheVariants.{Stop};
 ghost use Rattle.std.specs.Io.KnownBytes.{Consumes, IsAtEnd};

@@ -6,7 +6,7 @@ use Rattle.std.proofs.lemmas.Bool.{false≢true, cases_lt, or_cases, or_left, or
 use Rattle.std.proofs.lemmas.Option.{none-some, same_Some}
 use Rattle.std.proofs.lemmas.List.{append-nil, get_or_append_left, get_or-append_right, length-append}
 use Rattle.std.proofs.lemmas.List.Elements.{Contains-append_left, Contains-append_right, Contains-append_cases, Contains-get_or}
-use Rattle.imap_shapes.specs.BodyValues.{BodyValue, Basic, TextBody, Message, Multipart, Bodies, no_bodies, one_body}
+use Rattle.imap_body_types.specs.BodyValues.{BodyValue, Basic, TextBody, Message, Multipart, Bodies, no_bodies, one_body}
 use Rattle.imap_sections.specs.Search.{visited, visited_from, count, is_crowded, too_many, too_many_in}
 use Rattle.imap_sections.specs.PartNumbers.{body_list, body_parts, body_at, IsBefore, HasTooManyParts, SomeHasTooMany}
 

@@ -6,17 +6,17 @@ use Rattle.std.proofs.lemmas.List.Elements.{All-push}
 use Rattle.std.specs.declared.borrow.CowStr.{CowStr}
 use Rattle.std.specs.declared.borrow.CowSlice.{CowSlice}
 use Rattle.imap_grammar.specs.Text.{text_of}
-use Rattle.imap_shapes.specs.Spans.{bytes_of}
-use Rattle.imap_shapes.specs.BodyValues.{BodyValue, no_bodies, one_body, bodies_of, body_seen}
+use Rattle.imap_body_types.specs.Spans.{bytes_of}
+use Rattle.imap_body_types.specs.BodyValues.{BodyValue, no_bodies, one_body, bodies_of, body_seen}
 use Rattle.imap_sections.specs.Search.{visited, visited_from, count, is_crowded, too_many, too_many_in, FindsFirst}
-use Rattle.imap_shapes.specs.declared.shapes.extensions.BodyExtension.{BodyExtension}
-use Rattle.imap_shapes.specs.declared.shapes.bodies.BodyContentCommon.{BodyContentCommon}
-use Rattle.imap_shapes.specs.declared.shapes.bodies.BodyStructure.{BodyStructure}
-use Rattle.imap_shapes.specs.declared.shapes.bodies.BodyStructure.TheVariants as body
-use Rattle.imap_shapes.specs.declared.shapes.bodies.BodyStructure.TheOpen as layer
-use Rattle.imap_shapes.specs.declared.shapes.bodies.BodyStructure.TheOpen.{BodyStructure-F}
-use Rattle.imap_shapes.specs.declared.shapes.bodies.BodyStructure.TheViews.{roll-BodyStructure, out-BodyStructure, roll-out-BodyStructure}
-use Rattle.imap_shapes.proofs.Trees.{basic_seen, text_seen, message_seen, multipart_seen}
+use Rattle.imap_body_types.specs.declared.shapes.extensions.BodyExtension.{BodyExtension}
+use Rattle.imap_body_types.specs.declared.shapes.bodies.BodyContentCommon.{BodyContentCommon}
+use Rattle.imap_body_types.specs.declared.shapes.bodies.BodyStructure.{BodyStructure}
+use Rattle.imap_body_types.specs.declared.shapes.bodies.BodyStructure.TheVariants as body
+use Rattle.imap_body_types.specs.declared.shapes.bodies.BodyStructure.TheOpen as layer
+use Rattle.imap_body_types.specs.declared.shapes.bodies.BodyStructure.TheOpen.{BodyStructure-F}
+use Rattle.imap_body_types.specs.declared.shapes.bodies.BodyStructure.TheViews.{roll-BodyStructure, out-BodyStructure, roll-out-BodyStructure}
+use Rattle.imap_body_types.proofs.Trees.{basic_seen, text_seen, message_seen, multipart_seen}
 
 abbrev Body : Type 0
 Body = BodyStructure (CowStr Global) (CowSlice ℕ Global)

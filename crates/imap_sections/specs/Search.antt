@@ -1,8 +1,8 @@
 -- Part search: the bodies inside a body, by their paths (RFC 3501, section 6.4.5: part numbers).
 use Rattle.std.specs.Prelude.{◌≡◌, ℕ, suc, ◌+◌, List, [], ◌∷◌, ◌++◌, All, Option, None, Some, Bool, true, false, ◌||◌, nat_lt}
 use Rattle.imap_grammar.specs.Text.{text_of}
-use Rattle.imap_shapes.specs.Spans.{bytes_of}
-use Rattle.imap_shapes.specs.BodyValues.{BodyValue, Basic, TextBody, Message, Multipart, Bodies, no_bodies, one_body, body_seen}
+use Rattle.imap_body_types.specs.Spans.{bytes_of}
+use Rattle.imap_body_types.specs.BodyValues.{BodyValue, Basic, TextBody, Message, Multipart, Bodies, no_bodies, one_body, body_seen}
 use Rattle.imap_sections.specs.declared.search.Part.{Part}
 use Rattle.imap_sections.specs.declared.search.BodyStructParser.{BodyStructParser}
 

@@ -4,7 +4,7 @@ ghost use Rattle.std.specs.Prelude.{ℕ, ◌≡◌, ◌↔◌, List, [], Some, t
 ghost use Rattle.std.specs.List.{Contains, AllPairs};
 ghost use Rattle.imap_grammar.specs.Equality.{Tells};
 ghost use Rattle.imap_grammar.specs.Copying.{CopiesFreely};
-ghost use Rattle.imap_shapes.specs.BodyValues.{BodyValue};
+ghost use Rattle.imap_body_types.specs.BodyValues.{BodyValue};
 ghost use Rattle.imap_sections.specs.Search.{visited, is_crowded, too_many};
 ghost use Rattle.imap_sections.specs.PartNumbers.{body_at, IsBefore, HasTooManyParts, SomeHasTooMany};
 

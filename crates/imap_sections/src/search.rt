@@ -1,15 +1,16 @@
 //! Part search: the path of the first body at which a predicate holds.
 
-ghost use Rattle.std.specs.Prelude.{◌≡◌, ◌++◌, ◌∷◌, ℕ, List, [], true, false, Some, Err, map, slice_get, IfOk, OnOk, IfErr};
+ghost use Rattle.std.specs.Prelude.{◌≡◌, ◌++◌, ◌∷◌, ℕ, List, [], true, false, Some, Err, map, slice_get, IfOk, OnOk};
+ghost use Rattle.std.specs.Prelude.{IfErr};
 ghost use Rattle.std.specs.Option.{option_map};
 ghost use Rattle.std.specs.Fn.{FnReturnsAt};
 ghost use Rattle.imap_grammar.specs.Text.{text_of};
-ghost use Rattle.imap_shapes.specs.Spans.{bytes_of};
-ghost use Rattle.imap_shapes.specs.BodyValues.{body_seen};
+ghost use Rattle.imap_body_types.specs.Spans.{bytes_of};
+ghost use Rattle.imap_body_types.specs.BodyValues.{body_seen};
 ghost use Rattle.imap_sections.specs.Search.{visited, too_many, is_crowded, part_seen, parts_of, FindsFirst};
 ghost use Rattle.imap_sections.specs.declared.search.PartsError.TheVariants.{TooManyParts, OutOfMemory};
 
-use imap_shapes::BodyStructure;
+use imap_body_types::BodyStructure;
 use std::alloc::{AllocError, AllocFailed, Global};
 use thiserror::Error;
 

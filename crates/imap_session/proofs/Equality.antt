@@ -3,7 +3,7 @@ use Rattle.std.proofs.Common.{◌≡◌, true, ap, rules}
 use Rattle.std.proofs.lemmas.Bool.{and_parts, and_from}
 use Rattle.imap_grammar.specs.Equality.{Tells}
 use Rattle.imap_grammar.proofs.Seen.{unequal}
-use Rattle.imap_items.specs.contracts.types.statuses.StatusPartialEq.TheImpl as status_eq
+use Rattle.imap_shared.specs.contracts.types.statuses.StatusPartialEq.TheImpl as status_eq
 use Rattle.imap_proto.specs.Responses.{outcome_value, response_value, lent_outcome, lent_response}
 use Rattle.imap_proto.specs.contracts.outcome.OutcomePartialEq.TheImpl as outcome_eq
 use Rattle.imap_proto.specs.contracts.response.ResponsePartialEq.TheImpl as response_eq

@@ -13,7 +13,7 @@ use Rattle.imap_grammar.specs.Rule.{meaning}
 use Rattle.imap_grammar.specs.Step.{step}
 use Rattle.imap_grammar.specs.Text.{Bytes}
 use Rattle.imap_grammar.proofs.Agreement.{agrees}
-use Rattle.imap_items.specs.declared.types.statuses.Status.{Status}
+use Rattle.imap_shared.specs.declared.types.statuses.Status.{Status}
 use Rattle.imap_proto.specs.Lines.{is_tag_char, response}
 use Rattle.imap_proto.specs.Responses.{OutcomeValue, ResponseValue, Capabilities, Continue, Done, Data, Expunge, Vanished, Fetch, MailboxData, Quota, QuotaRoot, Id, Acl, ListRights, MyRights}
 use Rattle.imap_proto.proofs.LineTexts.{response_spells}

@@ -7,7 +7,7 @@ use Rattle.imap_grammar.specs.Stable.{Stable}
 use Rattle.imap_grammar.specs.Text.{Bytes}
 use Rattle.imap_grammar.proofs.Stability.{is_stable}
 use Rattle.imap_command.specs.declared.command.State.{State}
-use Rattle.imap_items.specs.declared.types.statuses.Status.{Status}
+use Rattle.imap_shared.specs.declared.types.statuses.Status.{Status}
 use Rattle.imap_proto.specs.Lines.{response}
 use Rattle.imap_proto.specs.LogicalLines.{logical_line}
 use Rattle.imap_proto.specs.Responses.{ResponseValue, OutcomeValue, Capabilities, Continue, Done, Data, Expunge, Vanished, Fetch, MailboxData, Quota, QuotaRoot, Id, Acl, ListRights, MyRights}

@@ -2,7 +2,7 @@
 use Rattle.std.specs.Prelude.{◌≡◌, ◌≢◌, ℕ, Bool, true, false, not, ◌==◌, ◌||◌, List, length, Option, None, Some, Result, Ok, Err}
 use Rattle.std.specs.declared.alloc.Global.{Global}
 use Rattle.std.specs.declared.vec.Vec.{Vec}
-use Rattle.imap_items.specs.declared.types.statuses.Status.{Status}
+use Rattle.imap_shared.specs.declared.types.statuses.Status.{Status}
 use Rattle.imap_command.specs.declared.command.Command.{Command}
 use Rattle.imap_grammar.specs.Ascii.{asterisk, plus}
 use Rattle.imap_grammar.specs.Rule.{meaning}

@@ -4,8 +4,8 @@ use Rattle.std.specs.Prelude.{Bool, true, false, List, [], ◌∷◌, reverse, O
 use Rattle.imap_grammar.specs.Text.{Bytes}
 use Rattle.imap_command.specs.declared.command.State.{State}
 use Rattle.imap_command.specs.declared.command.State.TheVariants.{NotAuthenticated, Authenticated, Selected, Logout}
-use Rattle.imap_items.specs.declared.types.statuses.Status.{Status}
-use Rattle.imap_items.specs.declared.types.statuses.Status.TheVariants as status
+use Rattle.imap_shared.specs.declared.types.statuses.Status.{Status}
+use Rattle.imap_shared.specs.declared.types.statuses.Status.TheVariants as status
 use Rattle.imap_proto.specs.Responses.{ResponseValue, Done, Data}
 
 -- why no more responses are taken: no response begins so, or a line has a tag that no pending command has

@@ -6,7 +6,8 @@ ghost use Rattle.imap_session.specs.declared.errors.SendError.TheVariants as ref
 ghost use Rattle.imap_session.specs.declared.errors.SessionError.TheVariants as error;
 ghost use Rattle.imap_session.specs.Machine.{new, fed, took, stopped_for};
 ghost use Rattle.imap_session.specs.Seen.{stop_of};
-ghost use Rattle.imap_session.specs.Answers.{AnswersSend, IsReady, AnswersNext, AnswersSkip, NextMayWant, Settles, Stopped};
+ghost use Rattle.imap_session.specs.Answers.{AnswersSend, IsReady, AnswersNext, AnswersSkip, NextMayWant, Settles};
+ghost use Rattle.imap_session.specs.Answers.{Stopped};
 
 use crate::errors::{SendError, SessionError};
 use crate::event::{Event, event_of};

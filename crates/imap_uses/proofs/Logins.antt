@@ -1,8 +1,8 @@
 -- A login is finished by a tagged `OK`, and by nothing else.
 use Rattle.std.proofs.Common.{◌≡◌, Option, None, Some, Ok, refl, sym, ap, subst, ◌∙◌}
 use Rattle.std.specs.Prelude.{◌↔◌}
-use Rattle.imap_items.specs.declared.types.statuses.Status.{Status}
-use Rattle.imap_items.specs.declared.types.statuses.Status.TheVariants as status
+use Rattle.imap_shared.specs.declared.types.statuses.Status.{Status}
+use Rattle.imap_shared.specs.declared.types.statuses.Status.TheVariants as status
 use Rattle.imap_command.specs.declared.command.State.TheVariants.{Authenticated}
 use Rattle.imap_proto.specs.Owned.{owned_response}
 use Rattle.imap_proto.specs.Responses.{ResponseValue, Capabilities, Continue, Done, Data, Expunge, Vanished, Fetch, MailboxData, Quota, QuotaRoot, Id, Acl, ListRights, MyRights}

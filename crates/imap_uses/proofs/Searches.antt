@@ -6,9 +6,9 @@ use Rattle.std.specs.Fn.{Shared, FnReturnsAt}
 use Rattle.std.specs.declared.borrow.CowStr.{CowStr}
 use Rattle.std.specs.declared.borrow.CowSlice.{CowSlice}
 use Rattle.imap_grammar.specs.Text.{text_of}
-use Rattle.imap_shapes.specs.Spans.{bytes_of}
-use Rattle.imap_shapes.specs.BodyValues.{BodyValue, body_seen}
-use Rattle.imap_shapes.specs.declared.shapes.bodies.BodyStructure.{BodyStructure}
+use Rattle.imap_body_types.specs.Spans.{bytes_of}
+use Rattle.imap_body_types.specs.BodyValues.{BodyValue, body_seen}
+use Rattle.imap_body_types.specs.declared.shapes.bodies.BodyStructure.{BodyStructure}
 use Rattle.imap_sections.specs.Search.{FindsFirst, part_seen}
 use Rattle.imap_sections.specs.declared.search.Part.{Part}
 

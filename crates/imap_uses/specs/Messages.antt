@@ -3,7 +3,7 @@ use Rattle.std.specs.Prelude.{◌≡◌, ℕ, List, [], ◌∷◌, Option, None,
 use Rattle.std.specs.Option.{option_or}
 use Rattle.imap_grammar.specs.Rule.{meaning}
 use Rattle.imap_grammar.specs.Text.{Bytes}
-use Rattle.imap_attributes.specs.AttributeValues.{AttributeValue, Uid}
+use Rattle.imap_body.specs.AttributeValues.{AttributeValue, Uid}
 use Rattle.imap_proto.specs.Lines.{response}
 use Rattle.imap_proto.specs.Responses.{ResponseValue, Fetch}
 

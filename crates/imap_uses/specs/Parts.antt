@@ -1,6 +1,6 @@
 -- The first text in a body.
 use Rattle.std.specs.Prelude.{◌≡◌, ℕ, Bool, true, false, List, [], Option}
-use Rattle.imap_shapes.specs.BodyValues.{BodyValue, TextBody}
+use Rattle.imap_body_types.specs.BodyValues.{BodyValue, TextBody}
 use Rattle.imap_sections.specs.Search.{visited, FindsFirst}
 
 abbrev pub is_text : BodyValue → Bool

@@ -4,7 +4,7 @@ ghost use Rattle.std.specs.Prelude.{◌≡◌, IfOk, IfErr, map};
 ghost use Rattle.imap_grammar.specs.Answer.{Refuses};
 ghost use Rattle.imap_grammar.specs.Rule.{meaning};
 ghost use Rattle.imap_proto.specs.Lines as rule;
-ghost use Rattle.imap_attributes.specs.AttributeValues.{attribute_value};
+ghost use Rattle.imap_body.specs.AttributeValues.{attribute_value};
 ghost use Rattle.imap_proto.specs.Responses.{response_value};
 ghost use Rattle.imap_uses.specs.Messages.{uid_told, first_uid, told_uid, BeginsTelling};
 

@@ -3,8 +3,8 @@
 ghost use Rattle.std.specs.Prelude.{◌≡◌, true, IfOk, IfErr};
 ghost use Rattle.std.specs.Option.{option_map};
 ghost use Rattle.imap_grammar.specs.Text.{text_of};
-ghost use Rattle.imap_shapes.specs.Spans.{bytes_of};
-ghost use Rattle.imap_shapes.specs.BodyValues.{body_seen};
+ghost use Rattle.imap_body_types.specs.Spans.{bytes_of};
+ghost use Rattle.imap_body_types.specs.BodyValues.{body_seen};
 ghost use Rattle.imap_sections.specs.Search.{too_many};
 ghost use Rattle.imap_sections.specs.declared.search.PartsError.TheVariants.{TooManyParts};
 ghost use Rattle.imap_uses.specs.Parts.{is_text, IsFirstText};

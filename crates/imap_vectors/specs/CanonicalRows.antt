@@ -3,12 +3,12 @@ use Rattle.std.specs.Prelude.{false, true, List, Option, None, Some, [], ◌∷�
 use Prim.Native.String.{String}
 use Rattle.imap_grammar.specs.Text.{Text, as_text}
 use Rattle.imap_grammar.specs.Ranges.{fresh}
-use Rattle.imap_items.specs.Capabilities.{Atom as AtomCapability}
-use Rattle.imap_items.specs.Capabilities.{Auth, Imap4rev1}
-use Rattle.imap_items.specs.declared.types.statuses.Status.TheVariants.{Ok, No, Bad, PreAuth, Bye}
-use Rattle.imap_items.specs.UidSets as member
-use Rattle.imap_items.specs.declared.types.rights.AclRight.{AclRight}
-use Rattle.imap_items.specs.declared.types.rights.AclRight.TheVariants as right
+use Rattle.imap_shared.specs.Capabilities.{Atom as AtomCapability}
+use Rattle.imap_shared.specs.Capabilities.{Auth, Imap4rev1}
+use Rattle.imap_shared.specs.declared.types.statuses.Status.TheVariants.{Ok, No, Bad, PreAuth, Bye}
+use Rattle.imap_shared.specs.UidSets as member
+use Rattle.imap_shared.specs.declared.types.rights.AclRight.{AclRight}
+use Rattle.imap_shared.specs.declared.types.rights.AclRight.TheVariants as right
 use Rattle.imap_data.specs.Codes as code
 use Rattle.imap_data.specs.Codes.{CodeValue}
 use Rattle.imap_data.specs.DatumValues as datum
@@ -17,13 +17,13 @@ use Rattle.imap_data.specs.Names.{Extension}
 use Rattle.imap_data.specs.DatumValues.{Listed}
 use Rattle.imap_extensions.specs.Quotas.{Atom, Storage}
 use Rattle.imap_extensions.specs.Ids.{map_of_pairs}
-use Rattle.imap_shapes.specs.declared.shapes.fields.ContentEncoding.TheVariants.{SevenBit, EightBit, Other}
-use Rattle.imap_shapes.specs.FieldValues.{EncodingValue}
-use Rattle.imap_shapes.specs.ExtensionValues.{DispositionValue, Num, Str, Listed as ListOf, no_extensions, one_extension}
-use Rattle.imap_shapes.specs.EnvelopeValues.{AddressValue, EnvelopeValue}
-use Rattle.imap_shapes.specs.BodyValues.{BodyValue, CommonValue, SingleValue, Basic, TextBody, Message, Multipart, no_bodies, one_body}
-use Rattle.imap_attributes.specs.AttributeValues as attribute
-use Rattle.imap_attributes.specs.AttributeValues.{Envelope, BodyStructure, GmailLabels, Uid, Unknown}
+use Rattle.imap_body_types.specs.declared.shapes.fields.ContentEncoding.TheVariants.{SevenBit, EightBit, Other}
+use Rattle.imap_body_types.specs.FieldValues.{EncodingValue}
+use Rattle.imap_body_types.specs.ExtensionValues.{DispositionValue, Num, Str, Listed as ListOf, no_extensions, one_extension}
+use Rattle.imap_body_types.specs.EnvelopeValues.{AddressValue, EnvelopeValue}
+use Rattle.imap_body_types.specs.BodyValues.{BodyValue, CommonValue, SingleValue, Basic, TextBody, Message, Multipart, no_bodies, one_body}
+use Rattle.imap_body.specs.AttributeValues as attribute
+use Rattle.imap_body.specs.AttributeValues.{Envelope, BodyStructure, GmailLabels, Uid, Unknown}
 use Rattle.imap_sections.specs.SectionValues.{Part}
 use Rattle.imap_sections.specs.declared.types.sections.MessageSection.TheVariants.{Mime}
 use Rattle.imap_proto.specs.Responses.{OutcomeValue, ResponseValue, Continue, Done, Data, MailboxData, Quota, QuotaRoot, Capabilities, Fetch, Vanished, Id, Acl, ListRights, MyRights}

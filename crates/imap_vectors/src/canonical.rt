@@ -1,7 +1,7 @@
 //! The canonical text of responses is read as the lines are that they came from, whatever follows.
 
 ghost use Rattle.std.specs.Prelude.{◌≡◌, ◌∷◌, [], codes, false, true, None};
-ghost use Rattle.imap_items.specs.Capabilities.{Imap4rev1};
+ghost use Rattle.imap_shared.specs.Capabilities.{Imap4rev1};
 ghost use Rattle.imap_data.specs.Codes as code;
 ghost use Rattle.imap_data.specs.DatumValues as datum;
 ghost use Rattle.imap_proto.specs.Responses.{Capabilities, Expunge, MailboxData};

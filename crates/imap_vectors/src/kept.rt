@@ -4,10 +4,9 @@
 use crate::answers::{NOTHING, Rows, assert_row, parses, says, says_at, shows, told, value_of};
 use crate::owned::response_alone;
 use crate::{codes, extensions, fetches, mailboxes, statuses};
-use imap_attributes::owned_attributes;
-use imap_body::AttributeValue;
 use imap_body::spanned::{SpannedAttribute, attribute_list_at};
 use imap_body::spans::Span;
+use imap_body::{AttributeValue, owned_attributes};
 use imap_bytes::at::Reached;
 use imap_proto::Response;
 use imap_proto::imap_core::Err;

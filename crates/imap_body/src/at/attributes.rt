@@ -1,19 +1,15 @@
 //! The attribute at a position: which it is, by its first byte.
 
-ghost use Rattle.std.specs.Prelude.{◌≡◌, ◌<◌, ◌≤◌, length, drop, slice_get, slice_index_or};
+ghost use Rattle.std.specs.Prelude.{◌≤◌, length};
 ghost use Rattle.imap_body.specs.Attributes as rules;
 ghost use Rattle.imap_body.specs.Reading.{ReadsAttribute};
 
 use crate::at::messages::{body_attribute, message_attribute};
 use crate::at::skipped::msg_att_unknown;
-use crate::at::worded::{
-    msg_att_email_id, msg_att_envelope, msg_att_flags, msg_att_gmail_labels, msg_att_gmail_msgid,
-    msg_att_gmail_thrid, msg_att_internal_date, msg_att_mod_seq, msg_att_save_date,
-    msg_att_thread_id, msg_att_uid,
-};
-use crate::input::Input;
+use crate::at::worded;
 use crate::keep::{Answer, KeepAttribute};
 use imap_bytes::{Err, Needed, first};
+use imap_envelopes::Input;
 
 // One function for each first letter, never inlined: each answer takes room on the stack, and `attribute` would clear
 // the room of all of them at each call.
@@ -34,8 +30,8 @@ fn attribute_of_e<K: KeepAttribute>(input: &Input<K>, p: usize) -> Answer<K>
     requires { p ≤ length input.now }
     ensures { ReadsAttribute K.text_said K.bytes_said rules.attribute_of_e input.now p result }
 {
-    first!(msg_att_envelope(input, p));
-    first!(msg_att_email_id(input, p));
+    first!(worded::msg_att_envelope(input, p));
+    first!(worded::msg_att_email_id(input, p));
     msg_att_unknown(input, p)
 }
 
@@ -45,7 +41,7 @@ fn attribute_of_f<K: KeepAttribute>(input: &Input<K>, p: usize) -> Answer<K>
     requires { p ≤ length input.now }
     ensures { ReadsAttribute K.text_said K.bytes_said rules.attribute_of_f input.now p result }
 {
-    first!(msg_att_flags(input, p));
+    first!(worded::msg_att_flags(input, p));
     msg_att_unknown(input, p)
 }
 
@@ -55,7 +51,7 @@ fn attribute_of_i<K: KeepAttribute>(input: &Input<K>, p: usize) -> Answer<K>
     requires { p ≤ length input.now }
     ensures { ReadsAttribute K.text_said K.bytes_said rules.attribute_of_i input.now p result }
 {
-    first!(msg_att_internal_date(input, p));
+    first!(worded::msg_att_internal_date(input, p));
     msg_att_unknown(input, p)
 }
 
@@ -65,7 +61,7 @@ fn attribute_of_m<K: KeepAttribute>(input: &Input<K>, p: usize) -> Answer<K>
     requires { p ≤ length input.now }
     ensures { ReadsAttribute K.text_said K.bytes_said rules.attribute_of_m input.now p result }
 {
-    first!(msg_att_mod_seq(input, p));
+    first!(worded::msg_att_mod_seq(input, p));
     msg_att_unknown(input, p)
 }
 
@@ -85,7 +81,7 @@ fn attribute_of_s<K: KeepAttribute>(input: &Input<K>, p: usize) -> Answer<K>
     requires { p ≤ length input.now }
     ensures { ReadsAttribute K.text_said K.bytes_said rules.attribute_of_s input.now p result }
 {
-    first!(msg_att_save_date(input, p));
+    first!(worded::msg_att_save_date(input, p));
     msg_att_unknown(input, p)
 }
 
@@ -95,7 +91,7 @@ fn attribute_of_t<K: KeepAttribute>(input: &Input<K>, p: usize) -> Answer<K>
     requires { p ≤ length input.now }
     ensures { ReadsAttribute K.text_said K.bytes_said rules.attribute_of_t input.now p result }
 {
-    first!(msg_att_thread_id(input, p));
+    first!(worded::msg_att_thread_id(input, p));
     msg_att_unknown(input, p)
 }
 
@@ -105,7 +101,7 @@ fn attribute_of_u<K: KeepAttribute>(input: &Input<K>, p: usize) -> Answer<K>
     requires { p ≤ length input.now }
     ensures { ReadsAttribute K.text_said K.bytes_said rules.attribute_of_u input.now p result }
 {
-    first!(msg_att_uid(input, p));
+    first!(worded::msg_att_uid(input, p));
     msg_att_unknown(input, p)
 }
 
@@ -115,24 +111,10 @@ fn attribute_of_x<K: KeepAttribute>(input: &Input<K>, p: usize) -> Answer<K>
     requires { p ≤ length input.now }
     ensures { ReadsAttribute K.text_said K.bytes_said rules.attribute_of_x input.now p result }
 {
-    first!(msg_att_gmail_labels(input, p));
-    first!(msg_att_gmail_msgid(input, p));
-    first!(msg_att_gmail_thrid(input, p));
+    first!(worded::msg_att_gmail_labels(input, p));
+    first!(worded::msg_att_gmail_msgid(input, p));
+    first!(worded::msg_att_gmail_thrid(input, p));
     msg_att_unknown(input, p)
-}
-
-// The byte at p, if there is one. The contract says that it is a byte: a proof isn't told that of what an input holds.
-#[inline(always)]
-fn byte_at(m: &[u8], p: usize) -> Option<u8>
-    requires { p ≤ length m.now }
-    ensures is { result ≡ slice_get (drop p m.now) 0 }
-    ensures fits { slice_index_or (drop p m.now) 0 0 < 256 }
-{
-    let (_, i) = m.split_at(p);
-    match i.first() {
-        None => None,
-        Some(byte) => Some(*byte),
-    }
 }
 
 /// An attribute (RFC 3501, section 9: msg-att): of the alternatives those are tried, in order, that may start with the
@@ -145,7 +127,7 @@ pub(crate) fn attribute<K: KeepAttribute>(input: &Input<K>, p: usize) -> Answer<
     requires { p ≤ length input.now }
     ensures { ReadsAttribute K.text_said K.bytes_said rules.attribute input.now p result }
 {
-    match byte_at(input.message, p) {
+    match input.byte_at(p) {
         None => Err(Err::Incomplete(Needed::Unknown)),
         Some(b'b' | b'B') => attribute_of_b(input, p),
         Some(b'e' | b'E') => attribute_of_e(input, p),

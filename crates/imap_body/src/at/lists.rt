@@ -10,14 +10,14 @@ ghost use Rattle.imap_body.specs.SpannedAttributes.{attribute_said, EndsAt, Keep
 ghost use Rattle.imap_body.specs.Attributes as rules;
 
 use crate::at::attributes::attribute;
-use crate::input::Input;
 use crate::keep::KeepAttribute;
 use crate::spanned_attribute::SpannedAttribute;
+use imap_body_types::or_drop;
+use imap_body_types::spans::Span;
 use imap_bytes::at::Reached;
 use imap_bytes::at::tags::{blanks0, tag};
 use imap_bytes::lists::tried;
-use imap_shapes::made;
-use imap_shapes::spans::Span;
+use imap_envelopes::Input;
 use std::alloc::Global;
 
 // The attribute at p, with its span.
@@ -43,7 +43,7 @@ fn spanned_attribute<K: KeepAttribute>(
         message,
         keep,
     };
-    let (size, parts) = made!(attribute(&input, 0));
+    let (size, parts) = or_drop!(attribute(&input, 0));
     let q = p + size;
     let span = Span { start: p, end: q };
     Ok((q, SpannedAttribute { span, parts }))
@@ -80,7 +80,7 @@ fn some_attributes<K: KeepAttribute>(
 {
     // The list first: an attribute that is read before it is taken apart, and put together to be handed on.
     let mut kept = keep.start(alloc)?;
-    let (mut q, first) = made!(spanned_attribute(keep, alloc, m, p), kept);
+    let (mut q, first) = or_drop!(spanned_attribute(keep, alloc, m, p), kept);
     keep.add(first, &mut kept)?;
     'attributes: while let Some((after, attribute)) = tried(spaced_attribute(keep, alloc, m, q))? {
         keep.add(attribute, &mut kept)?;

@@ -6,17 +6,17 @@ ghost use Rattle.imap_grammar.specs.Rule.{opt};
 ghost use Rattle.imap_body.specs.Attributes as rules;
 ghost use Rattle.imap_body.specs.Reading.{ReadsAttribute, ReadsAttributeExactly};
 
-use crate::input::Input;
+use crate::attributes::AttributeParts;
 use crate::keep::{Answer, KeepAttribute};
-use imap_attributes::AttributeParts;
+use imap_bodystructure::at::bodies::body_structure;
 use imap_bytes::at::Reached;
 use imap_bytes::at::numbers::number;
 use imap_bytes::at::tags::{maybe_space, tag, word};
 use imap_bytes::{first, maybe};
+use imap_envelopes::Input;
 use imap_envelopes::at::texts::{byte_string, spaced_byte_string};
 use imap_envelopes::kept::kept_bytes;
 use imap_sections::at::sections::section;
-use imap_structure::at::bodies::body_structure;
 
 #[tactic(auto, unfolding(crate::specs::Attributes::origin))]
 fn origin(m: &[u8], p: usize) -> Reached<u32>
@@ -74,7 +74,7 @@ fn structure<K: KeepAttribute>(input: &Input<K>, p: usize) -> Answer<K>
     ensures { ReadsAttribute K.text_said K.bytes_said rules.structure input.now p result }
 {
     let (p, _) = word(b"STRUCTURE ", input.message, p)?;
-    let (p, body) = body_structure(&input.keep, input.alloc, input.message, p)?;
+    let (p, body) = body_structure(input, p)?;
     Ok((p, AttributeParts::BodyStructure(body)))
 }
 

@@ -6,34 +6,34 @@ ghost use Rattle.imap_grammar.specs.Rule.{run0, run1};
 ghost use Rattle.imap_body.specs.Attributes as rules;
 ghost use Rattle.imap_body.specs.Reading.{ReadsAttributeExactly};
 
-use crate::input::Input;
+use crate::attributes::AttributeParts;
 use crate::keep::{Answer, KeepAttribute};
-use imap_attributes::AttributeParts;
 use imap_bytes::at::Reached;
 use imap_bytes::at::span::Span;
 use imap_bytes::at::strings::{atom, nstring};
 use imap_bytes::at::tags::{cut0, cut1, tag};
 use imap_bytes::first;
+use imap_envelopes::Input;
 use imap_grammar::scanning::{Class, run_end};
 
 // Any byte but `)`.
-struct InsideChar;
+struct CharWithinBrackets;
 
-impl Class for InsideChar {
-    ghost class = { rules.is_inside };
+impl Class for CharWithinBrackets {
+    ghost class = { rules.is_within_brackets };
 
     fn has(c: u8) -> bool {
         c != b')'
     }
 }
 
-fn inside(m: &[u8], p: usize) -> Reached<Span>
+fn within_brackets(m: &[u8], p: usize) -> Reached<Span>
     requires { p ≤ length m.now }
-    ensures steps { StepsExactlyAt (run0 rules.is_inside) (named_in m.now) m.now p result }
+    ensures steps { StepsExactlyAt (run0 rules.is_within_brackets) (named_in m.now) m.now p result }
     ensures inside { Inside m.now p result }
 {
     let (_, i) = m.split_at(p);
-    cut0(run_end::<InsideChar>(i), m, p)
+    cut0(run_end::<CharWithinBrackets>(i), m, p)
 }
 
 // Any byte but a space and `)`.
@@ -63,7 +63,7 @@ fn skipped_brackets(m: &[u8], p: usize) -> Reached<()>
     ensures ahead { Ahead m.now p result }
 {
     let (p, _) = tag(b"(", m, p)?;
-    let (p, _) = inside(m, p)?;
+    let (p, _) = within_brackets(m, p)?;
     let (p, _) = tag(b")", m, p)?;
     Ok((p, ()))
 }

@@ -2,13 +2,14 @@
 
 ghost use Rattle.std.specs.Prelude.{◌≤◌, length};
 ghost use Rattle.imap_grammar.specs.Positions.{Ahead, Inside, named_in, StepsExactlyAt};
-ghost use Rattle.imap_shapes.specs.Spans.{RestsOn, text_in};
+ghost use Rattle.imap_body_types.specs.Spans.{RestsOn, text_in};
 ghost use Rattle.imap_body.specs.Attributes as rules;
 ghost use Rattle.imap_body.specs.Reading.{ReadsAttribute, ReadsAttributeExactly};
 
-use crate::input::Input;
+use crate::attributes::AttributeParts;
 use crate::keep::{Answer, KeepAttribute};
-use imap_attributes::AttributeParts;
+use imap_body_types::or_drop;
+use imap_body_types::spans::SpannedText;
 use imap_bytes::at::Reached;
 use imap_bytes::at::numbers::{number, number_64};
 use imap_bytes::at::span::Span;
@@ -16,12 +17,11 @@ use imap_bytes::at::strings::{astring_chars, nil};
 use imap_bytes::at::tags::{tag, word};
 use imap_bytes::strings::as_utf8;
 use imap_bytes::{Err, first};
+use imap_envelopes::Input;
 use imap_envelopes::at::envelopes::envelope;
 use imap_envelopes::at::texts::{nstring_text, string_text};
 use imap_envelopes::kept::kept_text;
-use imap_items::at::{gmail_msgid, gmail_thrid};
-use imap_shapes::made;
-use imap_shapes::spans::SpannedText;
+use imap_shared::at::{gmail_msgid, gmail_thrid};
 
 #[tactic(auto, using(crate::proofs::Resting::envelope_rests), unfolding(crate::specs::Attributes::msg_att_envelope))]
 #[inline(never)] // Its stack frame is large, and a caller that inlined it would clear it at each call.
@@ -30,7 +30,7 @@ pub(crate) fn msg_att_envelope<K: KeepAttribute>(input: &Input<K>, p: usize) -> 
     ensures { ReadsAttribute K.text_said K.bytes_said rules.msg_att_envelope input.now p result }
 {
     let (p, _) = word(b"ENVELOPE ", input.message, p)?;
-    let (p, envelope) = made!(envelope(&input.keep, input.alloc, input.message, p));
+    let (p, envelope) = or_drop!(envelope(input, p));
     Ok((
         p,
         AttributeParts::Envelope(Box::new(input.alloc, envelope)?),
@@ -54,7 +54,7 @@ pub(crate) fn msg_att_internal_date<K: KeepAttribute>(input: &Input<K>, p: usize
 {
     let (p, _) = word(b"INTERNALDATE ", input.message, p)?;
     let (p, date) = date(input.message, p)?;
-    let date = input.keep.text(input.message, date)?;
+    let date = input.text(date)?;
     Ok((p, AttributeParts::InternalDate(date)))
 }
 
@@ -159,7 +159,7 @@ pub(crate) fn msg_att_email_id<K: KeepAttribute>(input: &Input<K>, p: usize) -> 
 {
     let (p, _) = word(b"EMAILID ", input.message, p)?;
     let (p, id) = bracketed_id(input.message, p)?;
-    let id = input.keep.text(input.message, id)?;
+    let id = input.text(id)?;
     Ok((p, AttributeParts::EmailId(id)))
 }
 
@@ -171,7 +171,7 @@ pub(crate) fn msg_att_thread_id<K: KeepAttribute>(input: &Input<K>, p: usize) ->
     let (p, _) = word(b"THREADID ", input.message, p)?;
     first!(nil(input.message, p), _ => AttributeParts::ThreadId(None));
     let (p, id) = bracketed_id(input.message, p)?;
-    let id = input.keep.text(input.message, id)?;
+    let id = input.text(id)?;
     Ok((p, AttributeParts::ThreadId(Some(id))))
 }
 
@@ -182,6 +182,6 @@ pub(crate) fn msg_att_save_date<K: KeepAttribute>(input: &Input<K>, p: usize) ->
 {
     let (p, _) = word(b"SAVEDATE ", input.message, p)?;
     let (p, date) = nstring_text(input.message, p)?;
-    let date = kept_text(&input.keep, input.message, date)?;
+    let date = kept_text(input, date)?;
     Ok((p, AttributeParts::SaveDate(date)))
 }

@@ -5,19 +5,18 @@ ghost use Rattle.imap_grammar.specs.Answer.{Answers, Steps};
 ghost use Rattle.imap_grammar.specs.Memory.{BeginsWord, FailsOnlyIf};
 ghost use Rattle.imap_grammar.specs.Positions.{Ahead, named_in, StepsAt};
 ghost use Rattle.imap_grammar.specs.declared.answer.Err.TheVariants.{Failure};
-ghost use Rattle.imap_attributes.specs.AttributeValues.{attribute_value, parts_in};
+ghost use Rattle.imap_body.specs.AttributeValues.{attribute_value, parts_in};
 ghost use Rattle.imap_body.specs.SpannedAttributes.{IsSliced, IsMadeAt};
 ghost use Rattle.imap_body.specs.Attributes as rules;
 
 use crate::at;
 use crate::at::lists::kept_list;
-use crate::input::Input;
-use imap_attributes::{AttributeSpans, AttributeValue};
+use crate::attributes::{AttributeSpans, AttributeValue};
+use imap_body_types::or_drop;
 use imap_bytes::IResult;
 use imap_bytes::at::Reached;
 use imap_bytes::at::span::rest;
-use imap_envelopes::{Named, Positions};
-use imap_shapes::made;
+use imap_envelopes::{Input, Positions, Values};
 use std::alloc::{AllocError, Global};
 
 // What was reached in i from its start, with the rest as a slice. Over any type: a proof over attributes, which borrow,
@@ -44,7 +43,7 @@ fn made_at<T: Drop>(i: &[u8], q: usize, made: Result<T, AllocError>) -> IResult<
 }
 
 // The attribute that these positions in i name, and what follows q.
-fn named<'a>(
+fn value_at<'a>(
     alloc: Global,
     i: &'a [u8],
     q: usize,
@@ -75,8 +74,8 @@ pub fn msg_att_body_section(alloc: Global, i: &[u8]) -> IResult<&[u8], Attribute
         message: i,
         keep: Positions,
     };
-    let (q, spans) = made!(at::messages::msg_att_body_section(&input, 0));
-    named(alloc, i, q, spans)
+    let (q, spans) = or_drop!(at::messages::msg_att_body_section(&input, 0));
+    value_at(alloc, i, q, spans)
 }
 
 /// An attribute of a message (RFC 3501, section 9: msg-att; RFC 7162, section 7; RFC 8474, section 7; Gmail's
@@ -94,8 +93,8 @@ pub fn attribute(alloc: Global, i: &[u8]) -> IResult<&[u8], AttributeValue<'_>>
         message: i,
         keep: Positions,
     };
-    let (q, spans) = made!(at::attributes::attribute(&input, 0));
-    named(alloc, i, q, spans)
+    let (q, spans) = or_drop!(at::attributes::attribute(&input, 0));
+    value_at(alloc, i, q, spans)
 }
 
 /// The attributes of a message in parentheses, one or more, with one space between (RFC 3501, section 9: msg-att).
@@ -119,5 +118,5 @@ pub fn attribute_values_at(alloc: Global, m: &[u8], p: usize) -> Reached<Vec<Att
     ensures ahead { Ahead m.now p result }
     ensures memory { FailsOnlyIf (BeginsWord "(" (drop p m.now)) result }
 {
-    kept_list(&Named { alloc, message: m }, alloc, m, p)
+    kept_list(&Values { alloc, message: m }, alloc, m, p)
 }

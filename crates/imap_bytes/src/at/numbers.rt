@@ -108,7 +108,7 @@ fn digits_in_front_64(i: &[u8]) -> Option<(usize, Option<u64>)>
 ///
 /// No digit in front, or a larger number, is `Error`. It is judged behind the byte that ends its digits: digits up to
 /// the end of the message wait.
-#[tactic(auto, using(imap_grammar::proofs::Agreement::exact_answered_at))]
+#[tactic(auto, using(imap_grammar::proofs::Agreement::exact_answer_at))]
 #[inline(always)]
 pub fn number(m: &[u8], p: usize) -> Reached<u32>
     requires { p ≤ length m.now }
@@ -129,7 +129,7 @@ pub fn number(m: &[u8], p: usize) -> Reached<u32>
 /// A number below 2^64, leading zeros allowed (RFC 4551, section 4: mod-sequence-value). No memory.
 ///
 /// It is judged as `number` is.
-#[tactic(auto, using(imap_grammar::proofs::Agreement::exact_answered_at))]
+#[tactic(auto, using(imap_grammar::proofs::Agreement::exact_answer_at))]
 pub fn number_64(m: &[u8], p: usize) -> Reached<u64>
     requires { p ≤ length m.now }
     ensures steps { StepsExactlyAt numbers.number_64 (λ x. x) m.now p result }

@@ -17,7 +17,7 @@ use std::ops::RangeInclusive;
 /// Two numbers with a colon between, their order kept (RFC 3501, section 9: seq-range). No memory.
 ///
 /// A number that is missing or past 32 bits, or no colon, is `Error`.
-#[tactic(auto, using(imap_grammar::proofs::Agreement::exact_answered_at), unfolding(crate::specs::Sets::sequence_range))]
+#[tactic(auto, using(imap_grammar::proofs::Agreement::exact_answer_at), unfolding(crate::specs::Sets::sequence_range))]
 pub fn sequence_range(m: &[u8], p: usize) -> Reached<RangeInclusive<u32>>
     requires { p ≤ length m.now }
     ensures steps { StepsExactlyAt sets.sequence_range range_of m.now p result }

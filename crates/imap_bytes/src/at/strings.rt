@@ -1,7 +1,8 @@
 //! Strings at a position, as spans of their content. None takes memory.
 
 ghost use Rattle.std.specs.Prelude.{◌≡◌, ◌==◌, ◌≤◌, length, drop, IfOk, IfSome, Ok};
-ghost use Rattle.imap_grammar.specs.Positions.{AnswersAt, ExactlyAt, Ahead, Inside, MaybeInside, Lies, maybe_in, named_in, StepsExactlyAt};
+ghost use Rattle.imap_grammar.specs.Positions.{AnswersAt, ExactlyAt, Ahead, Inside, MaybeInside, Lies, maybe_in};
+ghost use Rattle.imap_grammar.specs.Positions.{named_in, StepsExactlyAt};
 ghost use Rattle.imap_grammar.specs.Memory.{NeverFails};
 ghost use Rattle.imap_grammar.specs.Step.{step, take_step};
 ghost use Rattle.imap_grammar.specs.Meaning.{begins};
@@ -9,7 +10,8 @@ ghost use Rattle.imap_grammar.specs.Rule.{run0, run1, opt};
 ghost use Rattle.imap_grammar.specs.Ascii.{quote};
 ghost use Rattle.imap_grammar.specs.Classes as classes;
 ghost use Rattle.imap_bytes.specs.Strings as strings;
-ghost use Rattle.imap_bytes.specs.Places.{IsRunPlace, IsQuotedPlace, IsLiteralPlace, IsStringPlace, IsAstringPlace, IsNstringPlace};
+ghost use Rattle.imap_bytes.specs.Places.{IsRunPlace, IsQuotedPlace, IsLiteralPlace, IsStringPlace, IsAstringPlace};
+ghost use Rattle.imap_bytes.specs.Places.{IsNstringPlace};
 
 use crate::at::numbers::number;
 use crate::strings::as_utf8;
@@ -80,7 +82,7 @@ fn quoted_content(m: &[u8], p: usize) -> Reached<Span>
 /// No quote in front, or in the content NUL, CR, LF, or a backslash before another byte than `"` and `\`, is `Error`.
 // Never inlined: of a function with a loop the compiler doesn't see that it writes its whole answer, and in each caller
 // of `any_string` it would clear the room for one.
-#[tactic(auto, using(imap_grammar::proofs::Agreement::exact_answered_at), unfolding(crate::specs::Strings::quoted))]
+#[tactic(auto, using(imap_grammar::proofs::Agreement::exact_answer_at), unfolding(crate::specs::Strings::quoted))]
 #[inline(never)]
 pub fn quoted(m: &[u8], p: usize) -> Reached<Span>
     requires { p ≤ length m.now }
@@ -131,7 +133,7 @@ fn counted(count: usize, m: &[u8], p: usize) -> Reached<Span>
 ///
 /// Where fewer follow, `Needed::Size` is how many are missing. A header of another form, or with a count above
 /// 4,294,967,295, is `Error`.
-#[tactic(auto, using(imap_grammar::proofs::Agreement::exact_answered_at), unfolding(crate::specs::Strings::literal))]
+#[tactic(auto, using(imap_grammar::proofs::Agreement::exact_answer_at), unfolding(crate::specs::Strings::literal))]
 #[inline(never)]
 pub fn literal(m: &[u8], p: usize) -> Reached<Span>
     requires { p ≤ length m.now }
@@ -193,7 +195,7 @@ fn any_string(m: &[u8], p: usize) -> Reached<Span>
 /// A string: quoted, or a literal (RFC 3501, section 9: string). No memory.
 ///
 /// What begins with neither a quote nor a brace is `Error`.
-#[tactic(auto, using(imap_grammar::proofs::Agreement::exact_answered_at))]
+#[tactic(auto, using(imap_grammar::proofs::Agreement::exact_answer_at))]
 #[inline(always)]
 pub fn string(m: &[u8], p: usize) -> Reached<Span>
     requires { p ≤ length m.now }
@@ -227,7 +229,7 @@ pub fn astring_chars(m: &[u8], p: usize) -> Reached<Span>
 /// Bare astring-chars, or a string (RFC 3501, section 9: astring). No memory.
 ///
 /// What begins with neither an astring-char nor a quote nor a brace is `Error`.
-#[tactic(auto, using(imap_grammar::proofs::Agreement::exact_answered_at), unfolding(crate::specs::Strings::astring))]
+#[tactic(auto, using(imap_grammar::proofs::Agreement::exact_answer_at), unfolding(crate::specs::Strings::astring))]
 pub fn astring(m: &[u8], p: usize) -> Reached<Span>
     requires { p ≤ length m.now }
     ensures steps { StepsExactlyAt strings.astring (named_in m.now) m.now p result }
@@ -243,7 +245,7 @@ pub fn astring(m: &[u8], p: usize) -> Reached<Span>
 /// `NIL` in any case: the three bytes, whatever follows them (RFC 3501, section 9: nil). No memory.
 ///
 /// Any other bytes are `Error`.
-#[tactic(auto, using(imap_grammar::proofs::Agreement::exact_answered_at, crate::proofs::Places::word_place), unfolding(crate::specs::Strings::nil))]
+#[tactic(auto, using(crate::proofs::Places::word_answers), unfolding(crate::specs::Strings::nil))]
 pub fn nil(m: &[u8], p: usize) -> Reached<Span>
     requires { p ≤ length m.now }
     ensures steps { StepsExactlyAt strings.nil (named_in m.now) m.now p result }
@@ -258,7 +260,7 @@ pub fn nil(m: &[u8], p: usize) -> Reached<Span>
 /// `NIL`, or a string (RFC 3501, section 9: nstring). No memory.
 ///
 /// What is neither is `Error`.
-#[tactic(auto, using(imap_grammar::proofs::Agreement::exact_answered_at), unfolding(crate::specs::Strings::nstring))]
+#[tactic(auto, using(imap_grammar::proofs::Agreement::exact_answer_at), unfolding(crate::specs::Strings::nstring))]
 #[inline(always)]
 pub fn nstring(m: &[u8], p: usize) -> Reached<Option<Span>>
     requires { p ≤ length m.now }
@@ -321,7 +323,7 @@ pub(crate) fn atom_text(m: &[u8], p: usize) -> Reached<(Span, &str)>
 /// An atom (RFC 3501, section 9: atom). No memory.
 ///
 /// No atom-char in front, or bytes that are not UTF-8, are `Error`.
-#[tactic(auto, using(imap_grammar::proofs::Agreement::exact_answered_at))]
+#[tactic(auto, using(imap_grammar::proofs::Agreement::exact_answer_at))]
 pub fn atom(m: &[u8], p: usize) -> Reached<Span>
     requires { p ≤ length m.now }
     ensures steps { StepsExactlyAt strings.atom (named_in m.now) m.now p result }

@@ -12,8 +12,8 @@ use crate::sections::{judge_section, push_section};
 use crate::{BuildError, Section};
 
 impl<T: Open> OtherCommand<T> {
-    /// Adds a section of a message's body, as `BODY.PEEK[1.HEADER.FIELDS ("DATE" "FROM")]<0.2048>` of a FETCH (RFC 3501,
-    /// section 9: fetch-att). The names of header fields are quoted strings.
+    /// Adds a section of a message's body, as `BODY.PEEK[1.HEADER.FIELDS ("DATE" "FROM")]<0.2048>` of a FETCH (RFC
+    /// 3501, section 9: fetch-att). The names of header fields are quoted strings.
     ///
     /// `BadSection`: a part number is 0, `Mime` stands without a part, `Fields` or `FieldsNot` without a name, or the
     /// count is 0. `CarriageReturn`, `LineFeed`, `Nul`: the first such byte of the first name that has one. It takes

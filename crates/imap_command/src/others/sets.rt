@@ -43,8 +43,8 @@ impl OtherCommand<Arguments> {
         Ok(OtherCommand::with_text(args))
     }
 
-    /// Begins a set by the numbers from one on (RFC 3501, section 9: seq-range). 0 is not refused. `n:*` always includes
-    /// the last message, even where that is below n. It takes memory; `Err`: memory ran out.
+    /// Begins a set by the numbers from one on (RFC 3501, section 9: seq-range). 0 is not refused. `n:*` always
+    /// includes the last message, even where that is below n. It takes memory; `Err`: memory ran out.
     pub fn range_from(self, range: RangeFrom<u32>) -> Result<OtherCommand<Numbers>, AllocError>
         ensures { IfOk result (Adds arguments (call.range_from range.start) numbers self) }
     {

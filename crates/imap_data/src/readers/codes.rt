@@ -11,12 +11,12 @@ use crate::types::codes::ResponseCode;
 use imap_bytes::lists::tried;
 use imap_bytes::tags::{tag, word};
 use imap_bytes::{
-    Err, IResult, Needed, astring_utf8, first, named, number, number_64,
+    Err, IResult, Needed, astring_utf8, first, number, number_64, on_word,
     parenthesized_nonempty_list,
 };
-use imap_items::readers::capabilities::capability_data;
-use imap_items::readers::flags::flag_list;
-use imap_items::readers::uid_sets::uid_set;
+use imap_shared::readers::capabilities::capability_data;
+use imap_shared::readers::flags::flag_list;
+use imap_shared::readers::uid_sets::uid_set;
 use std::alloc::Global;
 use std::borrow::CowStr;
 
@@ -147,7 +147,7 @@ fn code_of_a(alloc: Global, i: &[u8]) -> IResult<&[u8], ResponseCode<'_>>
     ensures steps { Steps codes.code_of_a code_value i.now result }
     ensures memory { FailsOnlyIf (BeginsWord "APPENDUID " i.now) result }
 {
-    named!(b"ALERT", i, ResponseCode::Alert);
+    on_word!(b"ALERT", i, ResponseCode::Alert);
     append_uid(alloc, i)
 }
 
@@ -166,7 +166,7 @@ fn code_of_p(alloc: Global, i: &[u8]) -> IResult<&[u8], ResponseCode<'_>>
     ensures steps { Steps codes.code_of_p code_value i.now result }
     ensures memory { FailsOnlyIf (BeginsWord "PERMANENTFLAGS " i.now) result }
 {
-    named!(b"PARSE", i, ResponseCode::Parse);
+    on_word!(b"PARSE", i, ResponseCode::Parse);
     permanent_flags(alloc, i)
 }
 
@@ -177,7 +177,7 @@ fn code_of_u(i: &[u8]) -> IResult<&[u8], ResponseCode<'_>>
     first!(uid_validity(i));
     first!(uid_next(i));
     first!(unseen(i));
-    named!(b"UIDNOTSTICKY", i, ResponseCode::UidNotSticky);
+    on_word!(b"UIDNOTSTICKY", i, ResponseCode::UidNotSticky);
     Err(Err::Error)
 }
 
@@ -185,8 +185,8 @@ fn code_of_u(i: &[u8]) -> IResult<&[u8], ResponseCode<'_>>
 fn code_of_r(i: &[u8]) -> IResult<&[u8], ResponseCode<'_>>
     ensures { StepsExactly codes.code_of_r code_value i.now result }
 {
-    named!(b"READ-ONLY", i, ResponseCode::ReadOnly);
-    named!(b"READ-WRITE", i, ResponseCode::ReadWrite);
+    on_word!(b"READ-ONLY", i, ResponseCode::ReadOnly);
+    on_word!(b"READ-WRITE", i, ResponseCode::ReadWrite);
     Err(Err::Error)
 }
 

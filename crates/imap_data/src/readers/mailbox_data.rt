@@ -4,7 +4,8 @@ ghost use Rattle.std.specs.Prelude.{◌⊎◌};
 ghost use Rattle.imap_grammar.specs.Answer.{Answers, Steps, StepsExactly};
 ghost use Rattle.imap_grammar.specs.Memory.{Behind, BeginsWord, FailsOnlyIf, StartsWith, SucceedsFor};
 ghost use Rattle.imap_data.specs.MailboxData as rules;
-ghost use Rattle.imap_data.specs.MailboxData.{FlagsMayWant, NamesMayWant, StatusMayWant, NumbersMayWant, MailboxMayWant};
+ghost use Rattle.imap_data.specs.MailboxData.{FlagsMayWant, NamesMayWant, StatusMayWant, NumbersMayWant};
+ghost use Rattle.imap_data.specs.MailboxData.{MailboxMayWant};
 ghost use Rattle.imap_data.specs.DatumValues.{datum_value, IsNumber, Listed};
 ghost use Rattle.imap_data.specs.Counts as counts;
 ghost use Rattle.imap_data.specs.Names as names;
@@ -12,13 +13,14 @@ ghost use Rattle.imap_grammar.specs.Rule.{gives, tag_by, ◌▹◌};
 ghost use Rattle.imap_grammar.specs.Tags.{same_letter};
 
 use super::counts::{found_numbers, status_items};
-use super::names::list_data;
+use crate::at::names::list_data;
 use crate::types::mailbox_data::MailboxDatum;
+use imap_bytes::at::span::rest;
 use imap_bytes::tags::{tag, word};
-use imap_bytes::{Err, IResult, Needed, first, named, number};
-use imap_items::readers::flags::flag_list;
-use imap_items::readers::gmail::{gmail_label_list, gmail_msgid, gmail_thrid};
-use imap_items::readers::mailboxes::mailbox;
+use imap_bytes::{Err, IResult, Needed, at, first, number, on_word};
+use imap_shared::readers::flags::flag_list;
+use imap_shared::readers::gmail::{gmail_label_list, gmail_msgid, gmail_thrid};
+use imap_shared::readers::mailboxes::mailbox;
 use std::alloc::Global;
 
 #[tactic(auto, unfolding(crate::specs::MailboxData::flags))]
@@ -37,9 +39,9 @@ fn listed<'a>(alloc: Global, text: &[u8], i: &'a [u8]) -> IResult<&'a [u8], Mail
         i.now result }
     ensures memory { FailsOnlyIf (Behind (tag_by same_letter text.now) names.ListMayWant i.now) result }
 {
-    let (rest, _) = word(text, i)?;
-    let (rest, list) = list_data(alloc, rest)?;
-    Ok((rest, MailboxDatum::List(list)))
+    let (p, _) = at::tags::word(text, i, 0)?;
+    let (p, list) = list_data(alloc, i, p)?;
+    Ok((rest(i, p), MailboxDatum::List(list)))
 }
 
 #[tactic(auto, unfolding(crate::specs::MailboxData::status))]
@@ -62,8 +64,8 @@ fn datum_of_number(i: &[u8]) -> IResult<&[u8], MailboxDatum<'_>>
     ensures { StepsExactly rules.datum_of_number datum_value i.now result }
 {
     let (rest, count) = number(i)?;
-    named!(b" EXISTS", rest, MailboxDatum::Exists(count));
-    named!(b" RECENT", rest, MailboxDatum::Recent(count));
+    on_word!(b" EXISTS", rest, MailboxDatum::Exists(count));
+    on_word!(b" RECENT", rest, MailboxDatum::Recent(count));
     Err(Err::Error)
 }
 

@@ -5,8 +5,8 @@ ghost use Rattle.imap_grammar.specs.Text.{text_of, owned_text as owned};
 ghost use Rattle.imap_data.specs.Codes.{code_value};
 ghost use Rattle.imap_data.specs.Owned.{owned_code, HoldsNoTexts};
 
-use imap_items::owned::{owned_capabilities, owned_texts};
-use imap_items::{Capability, UidSetMember};
+use imap_shared::owned::{owned_capabilities, owned_texts};
+use imap_shared::{Capability, UidSetMember};
 use std::alloc::{AllocError, Global};
 use std::borrow::CowStr;
 

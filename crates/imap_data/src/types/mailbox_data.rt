@@ -6,9 +6,9 @@ ghost use Rattle.imap_data.specs.Owned.{owned_datum, IsMovedWhole};
 
 use super::counts::StatusAttribute;
 use super::names::MailboxListData;
-use imap_extensions::{Metadata, copied_annotations};
-use imap_items::copies::{copied_text, copied_texts};
-use imap_items::owned::{owned_text, owned_texts};
+use crate::types::annotations::{Metadata, copied_annotations};
+use imap_shared::copies::{copied_text, copied_texts};
+use imap_shared::owned::{owned_text, owned_texts};
 use std::alloc::{AllocError, Global};
 use std::borrow::CowStr;
 

@@ -3,12 +3,12 @@
 ghost use Rattle.std.specs.Prelude.{◌≡◌, [], IfOk, IfSome, IsOk};
 ghost use Rattle.std.specs.Option.{option_map};
 ghost use Rattle.imap_grammar.specs.Text.{text_of, IsOwned};
-ghost use Rattle.imap_items.specs.Copies.{IsLent};
-ghost use Rattle.imap_data.specs.Names.{NameAttributeValue, attribute_value, list_value, IsLentAttribute};
-ghost use Rattle.imap_data.specs.Owned.{owned_attribute, owned_list, IsOwnedAttribute};
+ghost use Rattle.imap_shared.specs.Copies.{IsLent};
+ghost use Rattle.imap_data.specs.Names.{NameAttributeValue, name_attribute_value, list_value, IsLentNameAttribute};
+ghost use Rattle.imap_data.specs.Owned.{owned_name_attribute, owned_list, IsOwnedNameAttribute};
 
-use imap_items::copies::{TryClone, copied_text, each_copied};
-use imap_items::owned::{IntoOwned, each_owned, owned_optional_text, owned_text};
+use imap_shared::copies::{TryClone, copied_text, each_copied};
+use imap_shared::owned::{IntoOwned, each_owned, owned_optional_text, owned_text};
 use std::alloc::{AllocError, Global};
 use std::borrow::CowStr;
 
@@ -57,8 +57,8 @@ pub struct MailboxListData<'a> {
 impl<'a> NameAttribute<'a> {
     /// A copy. It takes memory only for an owned text; `Err`: memory ran out.
     pub fn clone(&self) -> Result<Self, AllocError>
-        ensures same { IfOk result (λ c. attribute_value c ≡ attribute_value self.now) }
-        ensures memory { IsLentAttribute (attribute_value self.now) → IsOk result }
+        ensures same { IfOk result (λ c. name_attribute_value c ≡ name_attribute_value self.now) }
+        ensures memory { IsLentNameAttribute (name_attribute_value self.now) → IsOk result }
     {
         Ok(match self {
             NameAttribute::NoInferiors => NameAttribute::NoInferiors,
@@ -79,8 +79,8 @@ impl<'a> NameAttribute<'a> {
     /// The same attribute with its text owned. It takes memory only for a borrowed text; `Err`: memory ran out.
     pub fn into_owned(self, alloc: Global) -> Result<NameAttribute<'static>, AllocError>
         ensures same { IfOk result (λ a.
-            attribute_value a ≡ owned_attribute (attribute_value self.entry)) }
-        ensures memory { IsOwnedAttribute (attribute_value self.entry) → IsOk result }
+            name_attribute_value a ≡ owned_name_attribute (name_attribute_value self.entry)) }
+        ensures memory { IsOwnedNameAttribute (name_attribute_value self.entry) → IsOk result }
     {
         Ok(match self {
             NameAttribute::NoInferiors => NameAttribute::NoInferiors,
@@ -102,7 +102,7 @@ impl<'a> NameAttribute<'a> {
 impl<'a> TryClone for NameAttribute<'a> {
     ghost meaning = { NameAttributeValue };
 
-    ghost said = { attribute_value };
+    ghost said = { name_attribute_value };
 
     fn try_clone(&self) -> Result<NameAttribute<'a>, AllocError> {
         self.clone()
@@ -114,11 +114,11 @@ impl<'a> IntoOwned for NameAttribute<'a> {
 
     ghost meaning = { NameAttributeValue };
 
-    ghost said = { attribute_value };
+    ghost said = { name_attribute_value };
 
-    ghost owned = { owned_attribute };
+    ghost owned = { owned_name_attribute };
 
-    ghost owned_said = { attribute_value };
+    ghost owned_said = { name_attribute_value };
 
     fn into_owned(self, alloc: Global) -> Result<NameAttribute<'static>, AllocError> {
         self.into_owned(alloc)

@@ -2,25 +2,23 @@
 
 ghost use Rattle.std.specs.Prelude.{◌≡◌, ◌==◌, ◌≤◌, length, drop, map};
 ghost use Rattle.std.specs.Option.{option_map};
-ghost use Rattle.imap_grammar.specs.Positions.{Ahead, named_in, StepsAt, StepsExactlyAt};
 ghost use Rattle.imap_grammar.specs.Ascii.{open_parenthesis};
 ghost use Rattle.imap_grammar.specs.Meaning.{begins};
 ghost use Rattle.imap_grammar.specs.Memory.{NeverFails};
 ghost use Rattle.imap_envelopes.specs.Envelopes as envelopes;
 ghost use Rattle.imap_envelopes.specs.Envelopes.{spaced, last_fields_seen};
-ghost use Rattle.imap_shapes.specs.EnvelopeValues.{address_seen, addresses_seen, envelope_seen};
-ghost use Rattle.imap_shapes.specs.Spans.{RestsOn};
+ghost use Rattle.imap_envelopes.specs.Reading.{Reads, ReadsExactly};
+ghost use Rattle.imap_body_types.specs.EnvelopeValues.{address_seen, addresses_seen, envelope_seen};
 
-use crate::Keep;
 use crate::at::lists::ROOM;
 use crate::at::texts::{byte_string, spaced_byte_string};
 use crate::kept::kept_bytes;
+use crate::{Input, Keep};
+use imap_body_types::shapes::envelopes::{Address, Envelope};
 use imap_bytes::Err;
 use imap_bytes::at::Reached;
 use imap_bytes::at::strings::nil;
 use imap_bytes::at::tags::{maybe_space, tag};
-use imap_shapes::shapes::envelopes::{Address, Envelope};
-use std::alloc::Global;
 
 // The last fields of an envelope, as they are kept.
 #[derive(Drop)]
@@ -37,10 +35,8 @@ struct LastFields<B> {
 fn kept_string<K: Keep>(keep: &K, m: &[u8], p: usize) -> Reached<Option<K::Bytes>>
     requires start { p ≤ length m.now }
     requires serves { K.serves keep.now m.now }
-    ensures steps { StepsExactlyAt envelopes.byte_string
-        (option_map (K.bytes_said (named_in m.now))) m.now p result }
-    ensures ahead { Ahead m.now p result }
-    ensures rests { RestsOn (λ n. option_map (K.bytes_said n)) result }
+    ensures reads { ReadsExactly envelopes.byte_string (λ n. option_map (K.bytes_said n)) m.now p
+        result }
     ensures no_failure { NeverFails result }
 {
     let (q, bytes) = byte_string(m, p)?;
@@ -52,25 +48,21 @@ fn kept_string<K: Keep>(keep: &K, m: &[u8], p: usize) -> Reached<Option<K::Bytes
 fn spaced_string<K: Keep>(keep: &K, m: &[u8], p: usize) -> Reached<Option<K::Bytes>>
     requires start { p ≤ length m.now }
     requires serves { K.serves keep.now m.now }
-    ensures steps { StepsExactlyAt (spaced envelopes.byte_string)
-        (option_map (K.bytes_said (named_in m.now))) m.now p result }
-    ensures ahead { Ahead m.now p result }
-    ensures rests { RestsOn (λ n. option_map (K.bytes_said n)) result }
+    ensures reads { ReadsExactly (spaced envelopes.byte_string)
+        (λ n. option_map (K.bytes_said n)) m.now p result }
     ensures no_failure { NeverFails result }
 {
     let (q, bytes) = spaced_byte_string(m, p)?;
     Ok((q, kept_bytes(keep, m, bytes)))
 }
 
-/// An address (RFC 3501, section 9: address). No memory.
+/// An address (RFC 3501, section 9: address). No memory, and so no `Input`, which has an allocator.
 #[tactic(auto, unfolding(crate::specs::Envelopes::address))]
 pub fn address<K: Keep>(keep: &K, m: &[u8], p: usize) -> Reached<Address<K::Bytes>>
     requires start { p ≤ length m.now }
     requires serves { K.serves keep.now m.now }
-    ensures steps { StepsExactlyAt envelopes.address (address_seen (K.bytes_said (named_in m.now)))
-        m.now p result }
-    ensures ahead { Ahead m.now p result }
-    ensures rests { RestsOn (λ n. address_seen (K.bytes_said n)) result }
+    ensures reads { ReadsExactly envelopes.address (λ n. address_seen (K.bytes_said n)) m.now p
+        result }
     ensures no_failure { NeverFails result }
 {
     let (p, _) = tag(b"(", m, p)?;
@@ -92,38 +84,27 @@ pub fn address<K: Keep>(keep: &K, m: &[u8], p: usize) -> Reached<Address<K::Byte
 
 // An address, and maybe a space.
 #[tactic(auto, unfolding(crate::specs::Envelopes::listed_address))]
-fn listed_address<K: Keep>(keep: &K, m: &[u8], p: usize) -> Reached<Address<K::Bytes>>
-    requires start { p ≤ length m.now }
-    requires serves { K.serves keep.now m.now }
-    ensures steps { StepsExactlyAt envelopes.listed_address
-        (address_seen (K.bytes_said (named_in m.now))) m.now p result }
-    ensures ahead { Ahead m.now p result }
-    ensures rests { RestsOn (λ n. address_seen (K.bytes_said n)) result }
+fn listed_address<K: Keep>(input: &Input<K>, p: usize) -> Reached<Address<K::Bytes>>
+    requires { p ≤ length input.now }
+    ensures { ReadsExactly envelopes.listed_address
+        (λ n. address_seen (K.bytes_said n)) input.now p result }
 {
-    let (q, address) = address(keep, m, p)?;
-    let (q, _) = maybe_space(m, q)?;
+    let (q, address) = address(&input.keep, input.message, p)?;
+    let (q, _) = maybe_space(input.message, q)?;
     Ok((q, address))
 }
 
 #[tactic(auto, unfolding(crate::specs::Envelopes::some_addresses))]
-fn some_addresses<K: Keep>(
-    keep: &K,
-    alloc: Global,
-    m: &[u8],
-    p: usize,
-) -> Reached<Vec<Address<K::Bytes>>>
-    requires start { p ≤ length m.now }
-    requires serves { K.serves keep.now m.now }
-    ensures steps { StepsAt envelopes.some_addresses
-        (λ x. map (address_seen (K.bytes_said (named_in m.now))) x.items) m.now p result }
-    ensures ahead { Ahead m.now p result }
-    ensures rests { RestsOn (λ n x. map (address_seen (K.bytes_said n)) x.items) result }
+fn some_addresses<K: Keep>(input: &Input<K>, p: usize) -> Reached<Vec<Address<K::Bytes>>>
+    requires { p ≤ length input.now }
+    ensures { Reads envelopes.some_addresses
+        (λ n x. map (address_seen (K.bytes_said n)) x.items) input.now p result }
 {
     // The first is read in the loop, too, so that an address is read in one place, whose calls the compiler takes in.
-    let mut items = Vec::with_capacity(alloc, ROOM)?;
+    let mut items = Vec::with_capacity(input.alloc, ROOM)?;
     let mut q = p;
     'addresses: loop {
-        match listed_address(keep, m, q) {
+        match listed_address(input, q) {
             Ok((after, address)) => {
                 items.push(address)?;
                 q = after;
@@ -151,69 +132,45 @@ fn list_opens(m: &[u8], p: usize) -> bool
 }
 
 // `NIL`, or addresses in parentheses (RFC 3501, section 9: env-from).
-fn addresses<K: Keep>(
-    keep: &K,
-    alloc: Global,
-    m: &[u8],
-    p: usize,
-) -> Reached<Option<Vec<Address<K::Bytes>>>>
-    requires start { p ≤ length m.now }
-    requires serves { K.serves keep.now m.now }
-    ensures steps { StepsAt envelopes.addresses (addresses_seen (K.bytes_said (named_in m.now)))
-        m.now p result }
-    ensures ahead { Ahead m.now p result }
-    ensures rests { RestsOn (λ n. addresses_seen (K.bytes_said n)) result }
+fn addresses<K: Keep>(input: &Input<K>, p: usize) -> Reached<Option<Vec<Address<K::Bytes>>>>
+    requires { p ≤ length input.now }
+    ensures { Reads envelopes.addresses
+        (λ n. addresses_seen (K.bytes_said n)) input.now p result }
 {
-    if !list_opens(m, p) {
-        let (q, _) = nil(m, p)?;
+    if !list_opens(input.message, p) {
+        let (q, _) = nil(input.message, p)?;
         return Ok((q, None));
     }
-    let (q, _) = tag(b"(", m, p)?;
-    let (q, list) = some_addresses(keep, alloc, m, q)?;
-    let (q, _) = tag(b")", m, q)?;
+    let (q, _) = tag(b"(", input.message, p)?;
+    let (q, list) = some_addresses(input, q)?;
+    let (q, _) = tag(b")", input.message, q)?;
     Ok((q, Some(list)))
 }
 
-fn spaced_addresses<K: Keep>(
-    keep: &K,
-    alloc: Global,
-    m: &[u8],
-    p: usize,
-) -> Reached<Option<Vec<Address<K::Bytes>>>>
-    requires start { p ≤ length m.now }
-    requires serves { K.serves keep.now m.now }
-    ensures steps { StepsAt (spaced envelopes.addresses)
-        (addresses_seen (K.bytes_said (named_in m.now))) m.now p result }
-    ensures ahead { Ahead m.now p result }
-    ensures rests { RestsOn (λ n. addresses_seen (K.bytes_said n)) result }
+fn spaced_addresses<K: Keep>(input: &Input<K>, p: usize) -> Reached<Option<Vec<Address<K::Bytes>>>>
+    requires { p ≤ length input.now }
+    ensures { Reads (spaced envelopes.addresses)
+        (λ n. addresses_seen (K.bytes_said n)) input.now p result }
 {
-    let (p, _) = tag(b" ", m, p)?;
-    addresses(keep, alloc, m, p)
+    let (p, _) = tag(b" ", input.message, p)?;
+    addresses(input, p)
 }
 
 // To whom a message went, and which message it is, up to the end of the envelope. A reader of its own, since one of
 // all ten fields takes longer to prove.
 #[tactic(auto, unfolding(crate::specs::Envelopes::last_fields_seen))]
 #[inline(always)]
-fn last_fields<K: Keep>(
-    keep: &K,
-    alloc: Global,
-    m: &[u8],
-    p: usize,
-) -> Reached<LastFields<K::Bytes>>
-    requires start { p ≤ length m.now }
-    requires serves { K.serves keep.now m.now }
-    ensures steps { StepsAt envelopes.last_fields (last_fields_seen (K.bytes_said (named_in m.now)))
-        m.now p result }
-    ensures ahead { Ahead m.now p result }
-    ensures rests { RestsOn (λ n. last_fields_seen (K.bytes_said n)) result }
+fn last_fields<K: Keep>(input: &Input<K>, p: usize) -> Reached<LastFields<K::Bytes>>
+    requires { p ≤ length input.now }
+    ensures { Reads envelopes.last_fields
+        (λ n. last_fields_seen (K.bytes_said n)) input.now p result }
 {
-    let (p, to) = spaced_addresses(keep, alloc, m, p)?;
-    let (p, cc) = spaced_addresses(keep, alloc, m, p)?;
-    let (p, bcc) = spaced_addresses(keep, alloc, m, p)?;
-    let (p, in_reply_to) = spaced_string(keep, m, p)?;
-    let (p, message_id) = spaced_string(keep, m, p)?;
-    let (p, _) = tag(b")", m, p)?;
+    let (p, to) = spaced_addresses(input, p)?;
+    let (p, cc) = spaced_addresses(input, p)?;
+    let (p, bcc) = spaced_addresses(input, p)?;
+    let (p, in_reply_to) = spaced_string(&input.keep, input.message, p)?;
+    let (p, message_id) = spaced_string(&input.keep, input.message, p)?;
+    let (p, _) = tag(b")", input.message, p)?;
     Ok((
         p,
         LastFields {
@@ -227,22 +184,19 @@ fn last_fields<K: Keep>(
 }
 
 /// An envelope (RFC 3501, section 9: envelope). It takes memory for its lists of addresses.
-#[tactic(auto, unfolding(crate::specs::Envelopes::envelope, imap_shapes::specs::EnvelopeValues::envelope_seen))]
-pub fn envelope<K: Keep>(keep: &K, alloc: Global, m: &[u8], p: usize) -> Reached<Envelope<K::Bytes>>
-    requires start { p ≤ length m.now }
-    requires serves { K.serves keep.now m.now }
-    ensures steps { StepsAt envelopes.envelope (envelope_seen (K.bytes_said (named_in m.now))) m.now
-        p result }
-    ensures ahead { Ahead m.now p result }
-    ensures rests { RestsOn (λ n. envelope_seen (K.bytes_said n)) result }
+#[tactic(auto, unfolding(crate::specs::Envelopes::envelope, imap_body_types::specs::EnvelopeValues::envelope_seen))]
+pub fn envelope<K: Keep>(input: &Input<K>, p: usize) -> Reached<Envelope<K::Bytes>>
+    requires { p ≤ length input.now }
+    ensures { Reads envelopes.envelope
+        (λ n. envelope_seen (K.bytes_said n)) input.now p result }
 {
-    let (p, _) = tag(b"(", m, p)?;
-    let (p, date) = kept_string(keep, m, p)?;
-    let (p, subject) = spaced_string(keep, m, p)?;
-    let (p, from) = spaced_addresses(keep, alloc, m, p)?;
-    let (p, sender) = spaced_addresses(keep, alloc, m, p)?;
-    let (p, reply_to) = spaced_addresses(keep, alloc, m, p)?;
-    let (p, last) = last_fields(keep, alloc, m, p)?;
+    let (p, _) = tag(b"(", input.message, p)?;
+    let (p, date) = kept_string(&input.keep, input.message, p)?;
+    let (p, subject) = spaced_string(&input.keep, input.message, p)?;
+    let (p, from) = spaced_addresses(input, p)?;
+    let (p, sender) = spaced_addresses(input, p)?;
+    let (p, reply_to) = spaced_addresses(input, p)?;
+    let (p, last) = last_fields(input, p)?;
     Ok((
         p,
         Envelope {

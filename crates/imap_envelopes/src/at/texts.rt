@@ -7,14 +7,14 @@ ghost use Rattle.imap_bytes.specs.Numbers as numbers;
 ghost use Rattle.imap_bytes.specs.Texts as texts;
 ghost use Rattle.imap_envelopes.specs.Envelopes as envelopes;
 ghost use Rattle.imap_envelopes.specs.Envelopes.{spaced};
-ghost use Rattle.imap_shapes.specs.Spans.{RestsOn, text_in};
+ghost use Rattle.imap_body_types.specs.Spans.{RestsOn, text_in};
 ghost use Rattle.imap_envelopes.specs.Spanned.{maybe_bytes_in, maybe_text_in};
 
+use imap_body_types::spans::{Span, SpannedText};
 use imap_bytes::at::Reached;
 use imap_bytes::at::numbers::number;
 use imap_bytes::at::strings::{nstring, string};
 use imap_bytes::at::tags::tag;
-use imap_shapes::spans::{Span, SpannedText};
 
 /// An nstring, its bytes as they stand (RFC 3501, section 9: nstring). No memory.
 #[tactic(auto, using(crate::proofs::Naming::bytes_seen), unfolding(crate::specs::Envelopes::byte_string))]

@@ -4,17 +4,18 @@ ghost use Rattle.std.specs.Prelude.{◌≡◌, map, IfOk};
 ghost use Rattle.imap_grammar.specs.Answer.{Answers, Steps};
 ghost use Rattle.imap_grammar.specs.Memory.{BeginsWord, FailsOnlyIf, StartsWith};
 ghost use Rattle.imap_bytes.specs.Texts.{astring_utf8 as astring_rule};
-ghost use Rattle.imap_items.specs.Rights as letters;
+ghost use Rattle.imap_shared.specs.Rights as letters;
 ghost use Rattle.imap_extensions.specs.Acls as rules;
-ghost use Rattle.imap_extensions.specs.Acls.{AclMayWant, acl_entry_value, acl_value, list_rights_value, my_rights_value};
+ghost use Rattle.imap_extensions.specs.Acls.{AclMayWant, acl_entry_value, acl_value, list_rights_value};
+ghost use Rattle.imap_extensions.specs.Acls.{my_rights_value};
 
 use crate::types::acls::{Acl, AclEntry, ListRights, MyRights};
 use imap_bytes::lists::{Separator, maybe_separated};
 use imap_bytes::tags::{blanks0, blanks1, word};
 use imap_bytes::{IResult, astring_utf8};
-use imap_items::AclRight;
-use imap_items::readers::mailboxes::mailbox;
-use imap_items::readers::rights::rights;
+use imap_shared::AclRight;
+use imap_shared::readers::mailboxes::mailbox;
+use imap_shared::readers::rights::rights;
 use std::alloc::{AllocError, Global};
 
 // An identifier and its rights. It takes memory only where an identifier stands.

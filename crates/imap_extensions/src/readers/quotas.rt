@@ -5,12 +5,13 @@ ghost use Rattle.imap_grammar.specs.Answer.{Answers, Steps};
 ghost use Rattle.imap_grammar.specs.Memory.{BeginsWord, FailsOnlyIf};
 ghost use Rattle.imap_grammar.specs.Text.{text_of};
 ghost use Rattle.imap_extensions.specs.Quotas as quotas;
-ghost use Rattle.imap_extensions.specs.Quotas.{quota_resource_name_value, quota_resource_value, quota_value, quota_root_value};
+ghost use Rattle.imap_extensions.specs.Quotas.{quota_resource_name_value, quota_resource_value, quota_value};
+ghost use Rattle.imap_extensions.specs.Quotas.{quota_root_value};
 
 use crate::types::quotas::{Quota, QuotaResource, QuotaResourceName, QuotaRoot};
 use imap_bytes::lists::{Separator, maybe_separated, repeated};
 use imap_bytes::tags::{blanks1, tag, word};
-use imap_bytes::{IResult, astring_utf8, named, number_64};
+use imap_bytes::{IResult, astring_utf8, number_64, on_word};
 use std::alloc::Global;
 use std::borrow::CowStr;
 
@@ -18,8 +19,8 @@ use std::borrow::CowStr;
 fn quota_resource_name(alloc: Global, i: &[u8]) -> IResult<&[u8], QuotaResourceName<'_>>
     ensures { Steps quotas.quota_resource_name quota_resource_name_value i.now result }
 {
-    named!(b"STORAGE", i, QuotaResourceName::Storage);
-    named!(b"MESSAGE", i, QuotaResourceName::Message);
+    on_word!(b"STORAGE", i, QuotaResourceName::Storage);
+    on_word!(b"MESSAGE", i, QuotaResourceName::Message);
     let (rest, name) = astring_utf8(alloc, i)?;
     Ok((rest, QuotaResourceName::Atom(name)))
 }

@@ -2,11 +2,12 @@
 
 ghost use Rattle.std.specs.Prelude.{◌≡◌, [], IfOk, IsOk};
 ghost use Rattle.imap_grammar.specs.Text.{text_of, IsOwned};
-ghost use Rattle.imap_extensions.specs.Acls.{AclEntryValue, acl_entry_value, acl_value, list_rights_value, my_rights_value};
+ghost use Rattle.imap_extensions.specs.Acls.{AclEntryValue, acl_entry_value, acl_value, list_rights_value};
+ghost use Rattle.imap_extensions.specs.Acls.{my_rights_value};
 ghost use Rattle.imap_extensions.specs.Owned.{owned_acl_entry, owned_acl, owned_list_rights, owned_my_rights};
 
-use imap_items::AclRight;
-use imap_items::owned::{IntoOwned, each_owned, owned_text};
+use imap_shared::AclRight;
+use imap_shared::owned::{IntoOwned, each_owned, owned_text};
 use std::alloc::{AllocError, Global};
 use std::borrow::CowStr;
 

@@ -7,7 +7,7 @@ ghost use Rattle.imap_grammar.specs.Text.{text_of, owned_text as owned};
 ghost use Rattle.imap_extensions.specs.Ids.{id_value};
 ghost use Rattle.imap_extensions.specs.Owned.{owned_id};
 
-use imap_items::owned::owned_text;
+use imap_shared::owned::owned_text;
 use std::alloc::{AllocError, Global};
 use std::borrow::CowStr;
 use std::collections::HashMap;

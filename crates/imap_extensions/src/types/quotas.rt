@@ -2,12 +2,14 @@
 
 ghost use Rattle.std.specs.Prelude.{◌≡◌, [], IfOk, IsOk};
 ghost use Rattle.imap_grammar.specs.Text.{text_of, IsOwned};
-ghost use Rattle.imap_items.specs.Copies.{IsLent};
-ghost use Rattle.imap_extensions.specs.Quotas.{QuotaResourceValue, quota_resource_name_value, quota_resource_value, quota_value, quota_root_value, IsLentName};
-ghost use Rattle.imap_extensions.specs.Owned.{owned_quota_resource_name, owned_quota_resource, owned_quota, owned_quota_root, IsOwnedName};
+ghost use Rattle.imap_shared.specs.Copies.{IsLent};
+ghost use Rattle.imap_extensions.specs.Quotas.{QuotaResourceValue, quota_resource_name_value, quota_resource_value};
+ghost use Rattle.imap_extensions.specs.Quotas.{quota_value, quota_root_value, IsLentName};
+ghost use Rattle.imap_extensions.specs.Owned.{owned_quota_resource_name, owned_quota_resource, owned_quota};
+ghost use Rattle.imap_extensions.specs.Owned.{owned_quota_root, IsOwnedName};
 
-use imap_items::copies::{TryClone, copied_text, copied_texts, each_copied};
-use imap_items::owned::{IntoOwned, each_owned, owned_text, owned_texts};
+use imap_shared::copies::{TryClone, copied_text, copied_texts, each_copied};
+use imap_shared::owned::{IntoOwned, each_owned, owned_text, owned_texts};
 use std::alloc::{AllocError, Global};
 use std::borrow::CowStr;
 

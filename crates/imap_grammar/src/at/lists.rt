@@ -6,7 +6,9 @@ ghost use Rattle.imap_grammar.specs.Positions.{Ahead, named_in, StepsExactlyAt};
 ghost use Rattle.imap_grammar.specs.PositionLists.{FollowsAt, Advances, KeepsAhead, Onward};
 ghost use Rattle.imap_grammar.specs.Rule.{meaning};
 ghost use Rattle.imap_grammar.specs.Meaning.{many_means};
-ghost use Rattle.imap_grammar.specs.Lists.{or_memory_behind, separator as separator_rule, behind_means, list1_means, list0_means, opened_means, list_means, nonempty_list_means, delimited_means, opt_opt_means};
+ghost use Rattle.imap_grammar.specs.Lists.{or_memory_behind, separator as separator_rule, behind_means, list1_means};
+ghost use Rattle.imap_grammar.specs.Lists.{list0_means, opened_means, list_means, nonempty_list_means, delimited_means};
+ghost use Rattle.imap_grammar.specs.Lists.{opt_opt_means};
 
 use crate::at::Reached;
 use crate::at::span::Span;

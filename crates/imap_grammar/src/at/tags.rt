@@ -41,7 +41,7 @@ fn agrees_in_any_case(word: &[u8], i: &[u8]) -> bool
 }
 
 /// Exactly these bytes; others are `Error`. No memory.
-#[tactic(auto, using(crate::proofs::Positions::stepped, crate::proofs::Positions::zip_cut), unfolding(crate::specs::Step::tag_step))]
+#[tactic(auto, using(crate::proofs::Positions::word_cut), unfolding(crate::specs::Step::tag_step))]
 #[inline(always)]
 pub fn tag(text: &[u8], m: &[u8], p: usize) -> Reached<Span>
     requires { p ≤ length m.now }

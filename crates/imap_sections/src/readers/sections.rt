@@ -35,7 +35,7 @@ pub fn section_part(alloc: Global, i: &[u8]) -> IResult<&[u8], Vec<u32>>
 /// What begins with neither `HEADER` nor `TEXT` is `Error`. Where the names are denied, `HEADER` alone is read.
 ///
 /// It takes no memory: the names are read and dropped.
-#[tactic(auto, using(imap_grammar::proofs::Agreement::exact_answered))]
+#[tactic(auto, using(imap_grammar::proofs::Agreement::exact_answer))]
 pub fn section_msgtext(i: &[u8]) -> IResult<&[u8], MessageSection>
     ensures steps { StepsExactly sections.section_msgtext (λ x. x) i.now result }
     ensures answer { Answers sections.section_msgtext (λ x. x) i.now result }
@@ -63,7 +63,7 @@ impl MessageSection {
     /// What `section_msgtext` reads, or `MIME` (RFC 3501, section 9: section-text).
     ///
     /// What begins with none of `HEADER`, `TEXT` and `MIME` is `Error`. It takes no memory.
-    #[tactic(auto, using(imap_grammar::proofs::Agreement::exact_answered))]
+    #[tactic(auto, using(imap_grammar::proofs::Agreement::exact_answer))]
     pub fn parse(i: &[u8]) -> IResult<&[u8], MessageSection>
         ensures steps { StepsExactly sections.section_text (λ x. x) i.now result }
         ensures answer { Answers sections.section_text (λ x. x) i.now result }

@@ -1,8 +1,8 @@
 use Rattle.imap_grammar.specs.Text.{text_of}
 use Rattle.imap_grammar.proofs.Seen.{texts_tell}
-use Rattle.imap_shapes.specs.Spans.{bytes_of}
-use Rattle.imap_shapes.specs.BodyValues.{body_seen}
-use Rattle.imap_shapes.proofs.Equality.{both_tell, field}
+use Rattle.imap_body_types.specs.Spans.{bytes_of}
+use Rattle.imap_body_types.specs.BodyValues.{body_seen}
+use Rattle.imap_body_types.proofs.Equality.{both_tell, field}
 use Rattle.imap_sections.proofs.Equality.{sections_tell, paths_tell}
 use Rattle.imap_body.proofs.Equality.{slices_tell, spans_tell}
 use Rattle.imap_body.proofs.laws.equality.Goals as goal

@@ -1,5 +1,5 @@
 use Rattle.imap_grammar.specs.Positions.{named_in}
-use Rattle.imap_attributes.proofs.Escapes.{parts_stand}
+use Rattle.imap_body.proofs.Escapes.{parts_stand}
 use Rattle.imap_body.proofs.laws.escapes.Goals as goal
 
 pub returns : goal.returns

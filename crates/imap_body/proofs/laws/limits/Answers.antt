@@ -1,6 +1,6 @@
 use Rattle.std.proofs.Common.{refl}
-use Rattle.imap_structure.specs.Extensions.{body_extension}
-use Rattle.imap_structure.specs.Bodies.{body_structure}
+use Rattle.imap_bodystructure.specs.Extensions.{body_extension}
+use Rattle.imap_bodystructure.specs.Bodies.{body_structure}
 use Rattle.imap_body.proofs.laws.limits.Goals as goal
 
 pub returns-clause-body : goal.returns-clause-body

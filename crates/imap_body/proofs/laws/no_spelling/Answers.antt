@@ -4,7 +4,7 @@ use Rattle.imap_grammar.specs.Classes.{is_atom_char}
 use Rattle.imap_body.specs.AttributeTexts.{any_name, any_value}
 use Rattle.imap_grammar.specs.Text.{Bytes, as_text}
 use Rattle.imap_envelopes.specs.EnvelopeTexts.{spells_address}
-use Rattle.imap_structure.specs.ExtensionTexts.{spells_ext_1part}
+use Rattle.imap_bodystructure.specs.ExtensionTexts.{spells_ext_1part}
 use Rattle.imap_body.specs.NoSpelling.{a_mailbox_alone, an_md5_alone}
 use Rattle.imap_grammar.proofs.NoSpelling.{Passes, refuted, ◌andᵖ◌, passes-this, passes-any_case, passes-some, filled, passes-value, passes-lossy, passes-number, passes-maybe, tells-string}
 use Rattle.imap_body.proofs.laws.no_spelling.Goals as goal

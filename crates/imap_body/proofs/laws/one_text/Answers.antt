@@ -1,12 +1,12 @@
 use Rattle.std.proofs.Common.{map}
 use Rattle.std.specs.Option.{option_map}
 use Rattle.imap_grammar.proofs.OneText.{one_text}
-use Rattle.imap_shapes.specs.Lent.{lent_address, lent_addresses, lent_envelope, lent_params, lent_encoding, lent_fields, lent_disposition, lent_languages, lent_extension, lent_ext_1part, lent_ext_mpart, lent_body}
+use Rattle.imap_body_types.specs.Lent.{lent_address, lent_addresses, lent_envelope, lent_params, lent_encoding, lent_fields, lent_disposition, lent_languages, lent_extension, lent_ext_1part, lent_ext_mpart, lent_body}
 use Rattle.imap_envelopes.specs.EnvelopeTexts.{canonical_address, canonical_addresses, canonical_envelope}
-use Rattle.imap_structure.specs.FieldTexts.{canonical_params, canonical_encoding, canonical_fields}
-use Rattle.imap_structure.specs.ExtensionTexts.{canonical_disposition, canonical_languages, canonical_extension, canonical_ext_1part, canonical_ext_mpart}
-use Rattle.imap_structure.specs.BodyTexts.{canonical_body}
-use Rattle.imap_attributes.specs.Changed.{lent_attribute}
+use Rattle.imap_bodystructure.specs.FieldTexts.{canonical_params, canonical_encoding, canonical_fields}
+use Rattle.imap_bodystructure.specs.ExtensionTexts.{canonical_disposition, canonical_languages, canonical_extension, canonical_ext_1part, canonical_ext_mpart}
+use Rattle.imap_bodystructure.specs.BodyTexts.{canonical_body}
+use Rattle.imap_body.specs.Changed.{lent_attribute}
 use Rattle.imap_body.specs.AttributeTexts.{canonical_attribute, canonical_attributes}
 use Rattle.imap_body.proofs.OneText.{address, addresses, envelope, params, encoding, fields, disposition, languages, extension, ext_1part, ext_mpart, body, attribute, attributes}
 use Rattle.imap_body.proofs.laws.one_text.Goals as goal

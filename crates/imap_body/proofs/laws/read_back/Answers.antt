@@ -1,8 +1,8 @@
 use Rattle.imap_sections.proofs.SectionTexts.{keeps_section_msgtext, keeps_section_text, keeps_section_part, keeps_section_spec, keeps_section}
 use Rattle.imap_envelopes.proofs.EnvelopeTexts.{keeps_address, keeps_addresses, keeps_envelope}
-use Rattle.imap_structure.proofs.FieldTexts.{keeps_params, keeps_encoding, keeps_fields}
-use Rattle.imap_structure.proofs.ExtensionTexts.{keeps_disposition, keeps_language, keeps_extension, keeps_body_extension, keeps_ext_1part, keeps_ext_mpart}
-use Rattle.imap_structure.proofs.BodyTexts.{keeps_body, keeps_body_structure}
+use Rattle.imap_bodystructure.proofs.FieldTexts.{keeps_params, keeps_encoding, keeps_fields}
+use Rattle.imap_bodystructure.proofs.ExtensionTexts.{keeps_disposition, keeps_language, keeps_extension, keeps_body_extension, keeps_ext_1part, keeps_ext_mpart}
+use Rattle.imap_bodystructure.proofs.BodyTexts.{keeps_body, keeps_body_structure}
 use Rattle.imap_body.proofs.AttributeTexts as attribute_texts
 use Rattle.imap_body.proofs.laws.read_back.Goals as goal
 

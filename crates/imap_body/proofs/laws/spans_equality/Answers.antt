@@ -1,4 +1,4 @@
-use Rattle.imap_shapes.proofs.Equality.{field}
+use Rattle.imap_body_types.proofs.Equality.{field}
 use Rattle.imap_body.specs.SpannedAttributes.{place_of, place_of_text, places_of_body}
 use Rattle.imap_body.proofs.Equality.{places_tell, text_places_tell}
 use Rattle.imap_body.proofs.laws.spans_equality.Goals as goal

@@ -1,8 +1,8 @@
 use Rattle.std.proofs.Common.{refl}
-use Rattle.imap_items.specs.Statuses.{status}
-use Rattle.imap_items.specs.Capabilities.{capability}
+use Rattle.imap_shared.specs.Statuses.{status}
+use Rattle.imap_shared.specs.Capabilities.{capability}
 use Rattle.imap_extensions.specs.Quotas.{quota_resource_name}
-use Rattle.imap_data.specs.Constants.{status_texts, capability_texts, code_texts, attribute_texts, resource_texts}
+use Rattle.imap_data.specs.Constants.{status_texts, capability_texts, code_texts, name_attribute_texts, resource_texts}
 use Rattle.imap_data.specs.Codes.{response_code, charsets}
 use Rattle.imap_data.specs.Names.{name_attribute}
 use Rattle.imap_data.proofs.AnyCase.{all_read}
@@ -23,7 +23,7 @@ returns-clause-response_code c = all_read response_code code_texts ((refl, λ x.
 
 pub returns-clause-name_attribute : goal.returns-clause-name_attribute
 unfolding name_attribute
-returns-clause-name_attribute c = all_read name_attribute attribute_texts ((refl, λ x. refl), ((refl, λ x. refl), ((refl, λ x. refl), ((refl, λ x. refl), ((refl, λ x. refl), ((refl, λ x. refl), ((refl, λ x. refl), ((refl, λ x. refl), ((refl, λ x. refl), ((refl, λ x. refl), ((refl, λ x. refl), tt)))))))))))
+returns-clause-name_attribute c = all_read name_attribute name_attribute_texts ((refl, λ x. refl), ((refl, λ x. refl), ((refl, λ x. refl), ((refl, λ x. refl), ((refl, λ x. refl), ((refl, λ x. refl), ((refl, λ x. refl), ((refl, λ x. refl), ((refl, λ x. refl), ((refl, λ x. refl), ((refl, λ x. refl), tt)))))))))))
 
 pub returns-clause-quota_resource_name : goal.returns-clause-quota_resource_name
 unfolding quota_resource_name

@@ -1,6 +1,10 @@
+use Rattle.imap_data.proofs.Annotations.{metadata_tell}
 use Rattle.imap_data.proofs.MailboxData.{data_tell}
 use Rattle.imap_data.proofs.Names.{list_tells}
 use Rattle.imap_data.proofs.laws.equality.Goals as goal
+
+pub returns-clause-metadata : goal.returns-clause-metadata
+returns-clause-metadata c = metadata_tell
 
 pub returns-clause-list_data : goal.returns-clause-list_data
 returns-clause-list_data c = list_tells

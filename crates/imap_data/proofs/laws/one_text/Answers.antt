@@ -2,18 +2,18 @@ use Rattle.std.proofs.Common.{map, refl}
 use Rattle.std.specs.Option.{option_map}
 use Rattle.imap_grammar.specs.Text.{lent_text}
 use Rattle.imap_grammar.proofs.OneText.{one_text}
-use Rattle.imap_items.specs.Capabilities.{lent_capability}
-use Rattle.imap_items.specs.CapabilityTexts.{canonical_capabilities}
-use Rattle.imap_items.specs.FlagTexts.{canonical_flag_list}
-use Rattle.imap_items.specs.GmailTexts.{canonical_label_list}
-use Rattle.imap_items.specs.MailboxTexts.{canonical_mailbox}
+use Rattle.imap_shared.specs.Capabilities.{lent_capability}
+use Rattle.imap_shared.specs.CapabilityTexts.{canonical_capabilities}
+use Rattle.imap_shared.specs.FlagTexts.{canonical_flag_list}
+use Rattle.imap_shared.specs.GmailTexts.{canonical_label_list}
+use Rattle.imap_shared.specs.MailboxTexts.{canonical_mailbox}
 use Rattle.imap_extensions.specs.Quotas.{lent_quota, lent_quota_root}
 use Rattle.imap_extensions.specs.QuotaTexts.{canonical_quota, canonical_quota_root}
 use Rattle.imap_extensions.specs.Ids.{lent_id}
 use Rattle.imap_extensions.specs.IdTexts.{canonical_id}
 use Rattle.imap_extensions.specs.Acls.{lent_acl, lent_list_rights, lent_my_rights}
 use Rattle.imap_extensions.specs.AclTexts.{canonical_acl, canonical_list_rights, canonical_my_rights}
-use Rattle.imap_extensions.specs.AnnotationTexts.{canonical_metadata, canonical_entries}
+use Rattle.imap_data.specs.AnnotationTexts.{canonical_metadata, canonical_entries}
 use Rattle.imap_data.specs.Codes.{lent_code}
 use Rattle.imap_data.specs.CodeTexts.{canonical_response_code}
 use Rattle.imap_data.specs.DatumValues.{lent_datum}

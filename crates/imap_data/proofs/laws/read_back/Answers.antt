@@ -1,16 +1,16 @@
-use Rattle.imap_items.proofs.StatusTexts.{keeps_status}
-use Rattle.imap_items.proofs.FlagTexts.{keeps_flag, keeps_flag_perm, keeps_flag_list}
-use Rattle.imap_items.proofs.GmailTexts.{keeps_label_list, keeps_msgid, keeps_thrid}
-use Rattle.imap_items.proofs.CapabilityTexts.{keeps_capability_data, keeps_enabled_data}
-use Rattle.imap_items.proofs.UidSetTexts.{keeps_uid_set}
-use Rattle.imap_items.proofs.MailboxTexts.{keeps_mailbox}
-use Rattle.imap_items.proofs.RightTexts.{keeps_rights}
+use Rattle.imap_shared.proofs.StatusTexts.{keeps_status}
+use Rattle.imap_shared.proofs.FlagTexts.{keeps_flag, keeps_flag_perm, keeps_flag_list}
+use Rattle.imap_shared.proofs.GmailTexts.{keeps_label_list, keeps_msgid, keeps_thrid}
+use Rattle.imap_shared.proofs.CapabilityTexts.{keeps_capability_data, keeps_enabled_data}
+use Rattle.imap_shared.proofs.UidSetTexts.{keeps_uid_set}
+use Rattle.imap_shared.proofs.MailboxTexts.{keeps_mailbox}
+use Rattle.imap_shared.proofs.RightTexts.{keeps_rights}
 use Rattle.imap_data.proofs.CodeTexts.{keeps_response_code}
 use Rattle.imap_data.proofs.MailboxDataTexts.{keeps_mailbox_datum, keeps_list_or_lsub}
 use Rattle.imap_extensions.proofs.QuotaTexts.{keeps_quota, keeps_quota_root}
 use Rattle.imap_extensions.proofs.IdTexts.{keeps_id}
 use Rattle.imap_extensions.proofs.VanishingTexts.{keeps_vanished}
-use Rattle.imap_extensions.proofs.AnnotationTexts.{keeps_metadata_mailbox, keeps_annotations, keeps_entries}
+use Rattle.imap_data.proofs.AnnotationTexts.{keeps_metadata_mailbox, keeps_annotations, keeps_entries}
 use Rattle.imap_data.proofs.AnnotationTexts.{keeps_solicited, keeps_unsolicited}
 use Rattle.imap_extensions.proofs.AclTexts.{keeps_acl, keeps_my_rights}
 use Rattle.imap_extensions.proofs.OptionalRights.{keeps_list_rights}

@@ -1,8 +1,8 @@
 use Rattle.std.proofs.Common.{map, subst}
 use Rattle.std.proofs.lemmas.Result.{on_ok_weaker}
 use Rattle.imap_grammar.specs.Text.{text_of}
-use Rattle.imap_shapes.specs.Spans.{bytes_of}
-use Rattle.imap_shapes.specs.BodyValues.{body_seen}
+use Rattle.imap_body_types.specs.Spans.{bytes_of}
+use Rattle.imap_body_types.specs.BodyValues.{body_seen}
 use Rattle.imap_json.specs.Forms.{Appends, items_front}
 use Rattle.imap_json.specs.Bodies.{body_json}
 use Rattle.imap_json.proofs.Writing.{item_told, items_told}

@@ -1,7 +1,7 @@
 use Rattle.std.proofs.Common.{map, take}
 use Rattle.imap_grammar.specs.Text.{text_of}
-use Rattle.imap_shapes.specs.Spans.{bytes_of}
-use Rattle.imap_shapes.specs.BodyValues.{body_seen}
+use Rattle.imap_body_types.specs.Spans.{bytes_of}
+use Rattle.imap_body_types.specs.BodyValues.{body_seen}
 use Rattle.imap_json.specs.Forms.{Appends, items_front}
 use Rattle.imap_json.specs.Bodies.{body_json}
 use Rattle.imap_json.proofs.bodies.+body.Given as goal

@@ -1,7 +1,7 @@
 use Rattle.std.proofs.Common.{map, subst}
 use Rattle.std.proofs.lemmas.Result.{on_ok_weaker}
 use Rattle.imap_grammar.specs.Text.{text_of}
-use Rattle.imap_shapes.specs.ExtensionValues.{extension_seen}
+use Rattle.imap_body_types.specs.ExtensionValues.{extension_seen}
 use Rattle.imap_json.specs.Forms.{Appends, items_front}
 use Rattle.imap_json.specs.Extensions.{extension_json}
 use Rattle.imap_json.proofs.Writing.{item_told, items_told}

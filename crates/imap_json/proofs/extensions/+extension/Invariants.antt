@@ -1,6 +1,6 @@
 use Rattle.std.proofs.Common.{map, take}
 use Rattle.imap_grammar.specs.Text.{text_of}
-use Rattle.imap_shapes.specs.ExtensionValues.{extension_seen}
+use Rattle.imap_body_types.specs.ExtensionValues.{extension_seen}
 use Rattle.imap_json.specs.Forms.{Appends, items_front}
 use Rattle.imap_json.specs.Extensions.{extension_json}
 use Rattle.imap_json.proofs.extensions.+extension.Given as goal

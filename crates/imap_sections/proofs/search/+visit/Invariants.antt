@@ -1,7 +1,7 @@
 use Rattle.std.proofs.Common.{◌≡◌, ◌++◌, ◌+◌, map, drop}
 use Rattle.imap_grammar.specs.Text.{text_of}
-use Rattle.imap_shapes.specs.Spans.{bytes_of}
-use Rattle.imap_shapes.specs.BodyValues.{bodies_of, body_seen}
+use Rattle.imap_body_types.specs.Spans.{bytes_of}
+use Rattle.imap_body_types.specs.BodyValues.{bodies_of, body_seen}
 use Rattle.imap_sections.specs.Search.{visited, visited_from, too_many, too_many_in, part_seen}
 use Rattle.imap_sections.proofs.search.+visit.Given as goal
 

@@ -1,5 +1,5 @@
 use Rattle.std.proofs.Common.{◌≡◌, drop, map}
-use Rattle.imap_attributes.specs.AttributeValues.{attribute_value}
+use Rattle.imap_body.specs.AttributeValues.{attribute_value}
 use Rattle.imap_uses.specs.Messages.{first_uid}
 use Rattle.imap_uses.proofs.messages.uid_among.Given as goal
 

@@ -12,9 +12,9 @@ use Rattle.imap_body.proofs.at.lists.some_attributes.Goals as goal
 
 pub attributes-init : goal.attributes-init
 attributes-init g c = record {
-  so_far = (c.in-Ok-made.field-0.1 ∷ [], c.in_ok-add.ensures [] c.in_ok-kept.ensures, first attribute (sp ▹ attribute) _ _ _ c.in-Ok-made.ensures.steps, up_to_one _ _ _ _ _ _ c.in-Ok-made.ensures.stands);
-  ahead = c.in-Ok-made.ensures.ahead.0;
-  within = c.in-Ok-made.ensures.ahead.1;
+  so_far = (c.in-Ok-or_drop.field-0.1 ∷ [], c.in_ok-add.ensures [] c.in_ok-kept.ensures, first attribute (sp ▹ attribute) _ _ _ c.in-Ok-or_drop.ensures.steps, up_to_one _ _ _ _ _ _ c.in-Ok-or_drop.ensures.stands);
+  ahead = c.in-Ok-or_drop.ensures.ahead.0;
+  within = c.in-Ok-or_drop.ensures.ahead.1;
 }
 
 pub attributes-smaller : goal.attributes-smaller

@@ -1,4 +1,4 @@
-use Rattle.imap_shapes.proofs.Places.{parts_rest}
+use Rattle.imap_body_types.proofs.Places.{parts_rest}
 use Rattle.imap_body.proofs.Placing.{spans_said}
 use Rattle.imap_body.proofs.keep.PositionsKeepAttribute.flags.Goals as goal
 

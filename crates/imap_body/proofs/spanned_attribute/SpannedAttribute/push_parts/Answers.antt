@@ -1,4 +1,4 @@
-use Rattle.imap_shapes.specs.BodyValues.{body_seen}
+use Rattle.imap_body_types.specs.BodyValues.{body_seen}
 use Rattle.imap_body.proofs.spanned_attribute.SpannedAttribute.push_parts.Goals as goal
 
 pub returns : goal.returns

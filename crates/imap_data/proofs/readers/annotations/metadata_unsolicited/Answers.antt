@@ -2,7 +2,7 @@ use Rattle.std.proofs.Common.{◌≡◌, rules, Err, refl, sym, subst}
 use Rattle.imap_grammar.specs.Memory.{BeginsWord, FailsOnlyIf}
 use Rattle.imap_grammar.proofs.Agreement.{answered}
 use Rattle.imap_grammar.proofs.Memory.{holds_already}
-use Rattle.imap_extensions.proofs.Annotations.{begins_metadata, owned_mailbox_begins}
+use Rattle.imap_data.proofs.Annotations.{begins_metadata, owned_mailbox_begins}
 use Rattle.imap_data.specs.Annotations.{metadata_unsolicited}
 use Rattle.imap_data.proofs.readers.annotations.metadata_unsolicited.Goals as goal
 

@@ -2,7 +2,7 @@ use Rattle.std.proofs.Common.{rules}
 use Rattle.imap_grammar.specs.Lists.{opened}
 use Rattle.imap_grammar.specs.Memory.{StartsWith}
 use Rattle.imap_grammar.specs.Tags.{word}
-use Rattle.imap_items.specs.Flags.{flag_text}
+use Rattle.imap_shared.specs.Flags.{flag_text}
 use Rattle.imap_grammar.proofs.Memory.{fault_wants, stands_behind}
 use Rattle.imap_data.proofs.readers.mailbox_data.flags.Goals as goal
 

@@ -1,4 +1,4 @@
-use Rattle.imap_shapes.proofs.Places.{part_rests}
+use Rattle.imap_body_types.proofs.Places.{part_rests}
 use Rattle.imap_envelopes.proofs.at.texts.string_text.Goals as goal
 
 pub returns-clause-rests : goal.returns-clause-rests

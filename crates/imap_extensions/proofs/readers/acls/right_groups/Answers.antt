@@ -2,8 +2,8 @@ use Rattle.std.proofs.Common.{rules, refl}
 use Rattle.imap_grammar.specs.declared.lists.Separator.TheVariants.{Blanks}
 use Rattle.imap_grammar.proofs.Under.{shorter_ends, kept_at}
 use Rattle.imap_grammar.proofs.Callers.{maybe_separated_read}
-use Rattle.imap_items.proofs.Takes.{rights_take}
-use Rattle.imap_items.specs.Rights.{rights}
+use Rattle.imap_shared.proofs.Takes.{rights_take}
+use Rattle.imap_shared.specs.Rights.{rights}
 use Rattle.imap_extensions.specs.Acls.{right_groups}
 use Rattle.imap_extensions.proofs.readers.acls.right_groups.Goals as goal
 

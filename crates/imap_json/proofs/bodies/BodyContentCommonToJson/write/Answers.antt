@@ -1,4 +1,4 @@
-use Rattle.imap_shapes.specs.BodyValues.{common_seen}
+use Rattle.imap_body_types.specs.BodyValues.{common_seen}
 use Rattle.std.proofs.lemmas.Result.{on_ok_weaker}
 use Rattle.imap_json.proofs.Writing.{joined}
 use Rattle.imap_json.proofs.bodies.BodyContentCommonToJson.write.Goals as goal

@@ -1,4 +1,4 @@
-use Rattle.imap_shapes.specs.EnvelopeValues.{envelope_seen}
+use Rattle.imap_body_types.specs.EnvelopeValues.{envelope_seen}
 use Rattle.std.proofs.lemmas.Result.{on_ok_weaker}
 use Rattle.imap_json.proofs.Writing.{joined}
 use Rattle.imap_json.proofs.envelopes.EnvelopeToJson.write.Goals as goal

@@ -5,7 +5,7 @@ use Rattle.std.proofs.lemmas.Option.{slice_get-map, slice_get_read}
 use Rattle.imap_grammar.specs.Positions.{named_in}
 use Rattle.imap_grammar.specs.Text.{Bytes}
 use Rattle.imap_grammar.specs.declared.at.span.Span.{Span}
-use Rattle.imap_shapes.specs.declared.spans.SpannedText.{SpannedText}
+use Rattle.imap_body_types.specs.declared.spans.SpannedText.{SpannedText}
 use Rattle.imap_body.specs.declared.spanned_attribute.SpannedAttribute.{SpannedAttribute}
 use Rattle.imap_body.specs.SpannedAttributes.{attribute_in, span_of}
 use Rattle.imap_proto.proofs.kept.KeptFetch.span.Goals as goal

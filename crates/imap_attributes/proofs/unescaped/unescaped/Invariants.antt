@@ -1,7 +1,0 @@
-use Rattle.std.proofs.Common.{◌≡◌, ◌++◌, drop}
-use Rattle.imap_attributes.specs.Unescaped.{unescaped}
-use Rattle.imap_attributes.proofs.Escapes.{unescaped_behind}
-use Rattle.imap_attributes.proofs.unescaped.unescaped.Given as goal
-
-abbrev pub invariant-loop-b : goal.invariant-loop-b
-invariant-loop-b l = l.kept.items ++ unescaped_behind l.dropped (drop l.b-index l.content) ≡ unescaped l.content

@@ -1,3 +1,0 @@
-pub mod AttributeValues
-pub mod Changed
-pub mod Unescaped

@@ -1,0 +1,6 @@
+use Rattle.std.proofs.Common.{true, false}
+use Rattle.imap_body.proofs.Marks.{attribute}
+use Rattle.imap_body.proofs.laws.owning.Goals as goal
+
+pub returns : goal.returns
+returns c = attribute true false

@@ -1,0 +1,5 @@
+use Rattle.std.proofs.Common.{rules}
+use Rattle.imap_data.proofs.types.annotations.copied_annotations.Goals as goal
+
+pub returns-clause-same : goal.returns-clause-same
+returns-clause-same c = search rules depth 2

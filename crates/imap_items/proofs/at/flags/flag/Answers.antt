@@ -1,7 +1,0 @@
-use Rattle.std.proofs.Common.{rules}
-use Rattle.imap_items.specs.Flags.{flag}
-use Rattle.imap_items.proofs.at.flags.flag.Goals as goal
-
-pub returns-in_default-2-clause-steps : goal.returns-in_default-2-clause-steps
-unfolding flag
-returns-in_default-2-clause-steps c = search rules depth 2

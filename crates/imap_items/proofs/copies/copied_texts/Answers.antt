@@ -1,5 +1,0 @@
-use Rattle.std.proofs.Common.{rules}
-use Rattle.imap_items.proofs.copies.copied_texts.Goals as goal
-
-pub returns-clause-same : goal.returns-clause-same
-returns-clause-same c = search rules depth 2

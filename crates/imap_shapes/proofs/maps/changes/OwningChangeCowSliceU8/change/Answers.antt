@@ -1,5 +1,0 @@
-use Rattle.std.proofs.Common.{rules}
-use Rattle.imap_shapes.proofs.maps.changes.OwningChangeCowSliceU8.change.Goals as goal
-
-pub returns-in-Owned : goal.returns-in-Owned
-returns-in-Owned c = search rules depth 2

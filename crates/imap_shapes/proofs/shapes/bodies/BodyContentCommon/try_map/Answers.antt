@@ -1,7 +1,0 @@
-use Rattle.std.proofs.Common.{rules}
-use Rattle.imap_shapes.specs.BodyValues.{common_seen}
-use Rattle.imap_shapes.proofs.shapes.bodies.BodyContentCommon.try_map.Goals as goal
-
-pub returns : goal.returns
-unfolding common_seen
-returns g c = search rules depth 2

@@ -1,5 +1,0 @@
-use Rattle.std.proofs.Common.{refl}
-use Rattle.imap_shapes.proofs.shapes.extensions.ContentDisposition.try_map.Goals as goal
-
-pub returns : goal.returns
-returns g c = rw (c.in_ok-change.ensures, c.in_ok-mapped_params.ensures) refl

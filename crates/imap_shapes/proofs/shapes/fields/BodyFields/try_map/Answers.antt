@@ -1,7 +1,0 @@
-use Rattle.std.proofs.Common.{rules}
-use Rattle.imap_shapes.specs.FieldValues.{fields_seen}
-use Rattle.imap_shapes.proofs.shapes.fields.BodyFields.try_map.Goals as goal
-
-pub returns : goal.returns
-unfolding fields_seen
-returns c = search rules depth 2
