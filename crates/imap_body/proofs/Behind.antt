@@ -1,10 +1,11 @@
 -- A word and then a value made of what follows it, as a value made of what follows the word: the two rules yield the
 -- same.
-use Rattle.std.proofs.Common.{◌∙◌, ap, refl}
+use Rattle.std.proofs.Common.{◌≡◌, ◌∙◌, ap, refl}
 use Rattle.imap_grammar.specs.Rule.{Rule, meaning, gives, ◌▹◌}
 use Rattle.imap_grammar.specs.Text.{Bytes}
 use Rattle.imap_grammar.specs.Pieces.{Pieces}
-use Rattle.imap_grammar.specs.ReadBack.{Texts, ReadsBack, Spells, Apart}
+use Rattle.imap_grammar.specs.ReadBack.{Texts, SpellsAndReadsBack, Apart}
+use Rattle.imap_grammar.proofs.Keeping.{keeps-gives}
 
 pub record Alike {V : Type 0} (a b : Rule V) : Type 0 where
   pub to : (m : Bytes) (v : V) (rest : Bytes) → (meaning a).yields m v rest → (meaning b).yields m v rest
@@ -27,28 +28,23 @@ alike_behind s h = record {
 pub alike_through : {A : Type 0} {a b c : Rule A} → Alike a b → Alike b c → Alike a c
 alike_through h k = record { to = λ m v rest y. k.to m v rest (h.to m v rest y); from = λ m v rest y. h.from m v rest (k.from m v rest y) }
 
-module _ {A : Type 0} {a b : Rule A} {l : A → A} {c : A → Pieces} {F : Bytes → Type 0} where
-  pub reads-alike : Alike a b → ReadsBack b l c F → ReadsBack a l c F
-  reads-alike same h = record { again = λ m v rest y f t g. same.from _ (l v) t (h.again m v rest (same.to m v rest y) f t g) }
+module _ {A : Type 0} {a b : Rule A} {l : A → A} {c : A → Pieces} {T : A → Texts} {F : Texts} where
+  pub keeps-alike : Alike a b → SpellsAndReadsBack b l c T F → SpellsAndReadsBack a l c T F
+  keeps-alike same h = record {
+    spelled = record { consumed = λ m v rest y. h.spelled.consumed m v rest (same.to m v rest y) };
+    back = record { again = λ m v rest y f t g. same.from _ (l v) t (h.back.again m v rest (same.to m v rest y) f t g) };
+  }
 
-module _ {V W : Type 0} {a : Rule V} {b b' : Rule W} {c : W → Pieces} {F : Bytes → Type 0} where
+module _ {V W : Type 0} {a : Rule V} {b b' : Rule W} {c : W → Pieces} {F : Texts} where
   pub apart-alike : Alike b b' → Apart a b' c F → Apart a b c F
   apart-alike same h = record { denied = λ m v rest d y f t g. h.denied m v rest d (same.to m v rest y) f t g }
 
-module _ {A : Type 0} {a b : Rule A} {S : A → Texts} where
-  pub spells-alike : Alike a b → Spells b S → Spells a S
-  spells-alike same h = record { consumed = λ m v rest y. h.consumed m v rest (same.to m v rest y) }
-
 -- ---- at the word
 
-module _ {S A B : Type 0} {s : Rule S} {a : Rule A} {l : B → B} {c : B → Pieces} {F : Bytes → Type 0} where
-  pub reads-behind : (f : A → B) → ReadsBack (gives f (s ▹ a)) l c F → ReadsBack (s ▹ gives f a) l c F
-  reads-behind f h = reads-alike (given_behind s f a) h
+module _ {S A B : Type 0} {s : Rule S} {a : Rule A} {la : A → A} {l : B → B} {c : B → Pieces} {T : B → Texts} {F : Texts} where
+  pub keeps-behind : (f : A → B) → SpellsAndReadsBack (s ▹ a) la (λ x. c (f x)) (λ x. T (f x)) F → ((x : A) → f (la x) ≡ l (f x)) → SpellsAndReadsBack (s ▹ gives f a) l c T F
+  keeps-behind f h law = keeps-alike (given_behind s f a) (keeps-gives f h law)
 
-module _ {V S A B : Type 0} {e : Rule V} {c : B → Pieces} {F : Bytes → Type 0} where
+module _ {V S A B : Type 0} {e : Rule V} {c : B → Pieces} {F : Texts} where
   pub apart-behind : (s : Rule S) (f : A → B) (a : Rule A) → Apart e (gives f (s ▹ a)) c F → Apart e (s ▹ gives f a) c F
   apart-behind s f a h = apart-alike (given_behind s f a) h
-
-module _ {S A B : Type 0} {s : Rule S} {a : Rule A} {T : B → Texts} where
-  pub spells-behind : (f : A → B) → Spells (gives f (s ▹ a)) T → Spells (s ▹ gives f a) T
-  spells-behind f h = spells-alike (given_behind s f a) h

@@ -4,22 +4,21 @@ use Rattle.imap_grammar.specs.Meaning.{Denies}
 use Rattle.imap_grammar.specs.Rule.{Rule, meaning}
 use Rattle.imap_grammar.specs.Text.{Bytes}
 use Rattle.imap_grammar.specs.Pieces.{Pieces, written, space, ◌then◌, each}
-use Rattle.imap_grammar.specs.ReadBack.{ReadsBack, Spells, SpellsAndReadsBack, Apart, Any, Closes}
+use Rattle.imap_grammar.specs.ReadBack.{SpellsAndReadsBack, Apart, Any, Closes}
 use Rattle.imap_grammar.specs.Spelling.{each_of, some_each_of}
-use Rattle.imap_grammar.proofs.Reading.{first, reads-seq, reads-gives, reads-same, reads-never, reads-before, reads-some1, reads-follow, apart-gives, apart-alt, denies-gives, denials, denies-after, denies-tag, Begins, begun, ◌⨾ʳ◌, ◌▹ʳ◌}
-use Rattle.imap_grammar.proofs.ReadingLists.{takes-text, takes-word}
-use Rattle.imap_grammar.proofs.Spelling.{◌⨾ˢ◌, ◌▹ˢ◌, ◌◃ˢ◌, ◌orˢ◌, spells-gives, spells-wider, spells-never, spells-word, spells-tag, spells-some1}
+use Rattle.imap_grammar.proofs.Reading.{reads-same, reads-never, reads-some1, apart-gives, apart-alt, denies-gives, denials, denies-after, denies-tag, Begins, begun}
+use Rattle.imap_grammar.proofs.Spelling.{spells-wider, spells-never, spells-some1}
+use Rattle.imap_grammar.proofs.Keeping.{keeps-word, keeps-tag, keeps-before, keeps-seq, ◌⨾ᵏ◌, keeps-gives, keeps-wider, keeps-first}
 use Rattle.imap_bytes.specs.Strings.{string, quoted, literal_header, literal}
 use Rattle.imap_bytes.specs.Texts.{string_utf8}
-use Rattle.imap_bytes.proofs.ReadingTexts.{reads-number, reads-string_utf8}
-use Rattle.imap_bytes.proofs.SpellingTexts.{spells-number, spells-string_utf8}
+use Rattle.imap_bytes.proofs.Keeping.{keeps-number, keeps-string_utf8}
 use Rattle.imap_body_types.specs.BodyValues.{BodyValue, Multipart, Bodies, one_body, bodies_of}
 use Rattle.imap_body_types.specs.Lent.{lent_body, lent_bodies}
+use Rattle.imap_envelopes.proofs.EnvelopeTexts.{keeps_spaced, keeps_envelope}
 use Rattle.imap_bodystructure.specs.Bodies.{text_of_parts, message_of, basic_of, multipart_of, body_type_text, message_word, body_type_msg, body_type_basic, some_bodies, body_type_mpart, body_type, bracketed_body, body, body_structure}
 use Rattle.imap_bodystructure.specs.BodyTexts.{canonical_inside, canonical_each, canonical_body, spells_inside, spells_bodies, spells_each, spells_body}
-use Rattle.imap_envelopes.proofs.EnvelopeTexts.{reads_spaced, spaced_spells, reads_envelope, envelope_spells}
-use Rattle.imap_bodystructure.proofs.FieldTexts.{reads_fields, fields_spell}
-use Rattle.imap_bodystructure.proofs.ExtensionTexts.{reads_ext_1part, reads_ext_mpart, ext_1part_spells, ext_mpart_spells}
+use Rattle.imap_bodystructure.proofs.FieldTexts.{keeps_fields}
+use Rattle.imap_bodystructure.proofs.ExtensionTexts.{keeps_ext_1part, keeps_ext_mpart}
 
 -- ---- lists of bodies
 
@@ -41,27 +40,18 @@ bodies_spell (b ∷ bs) c (x, y, cut, here, others) = (x, y, cut, here, each_spe
 
 -- ---- each type
 
-reads_text : ReadsBack body_type_text lent_body canonical_inside Closes
+keeps_text : SpellsAndReadsBack body_type_text lent_body canonical_inside spells_inside Closes
 unfolding body_type_text
-reads_text =
-    reads-gives text_of_parts
-    (takes-word "\"TEXT\"" "\"TEXT\"" refl ▹ʳ reads_spaced reads-string_utf8
-    ⨾ʳ reads-seq (reads_spaced reads_fields) (reads-seq (reads_spaced reads-number) reads_ext_1part (λ y t g. refl)) (λ y t g. refl))
+keeps_text =
+    keeps-gives text_of_parts
+    (keeps-wider
+    (keeps-word "\"TEXT\"" (keeps_spaced keeps-string_utf8 ⨾ᵏ keeps-seq (keeps_spaced keeps_fields) (keeps-seq (keeps_spaced keeps-number) keeps_ext_1part (λ y t g. refl)) (λ y t g. refl)))
+    (λ v c h. (refl, h)))
     (λ x. refl)
 
-text_spells : Spells body_type_text spells_inside
-unfolding body_type_text
-text_spells =
-    spells-gives text_of_parts
-    (spells-wider (spells-word "\"TEXT\"" ▹ˢ spaced_spells spells-string_utf8 ⨾ˢ spaced_spells fields_spell ⨾ˢ spaced_spells spells-number ⨾ˢ ext_1part_spells) (λ v c h. (refl, h)))
-
-reads_basic : ReadsBack body_type_basic lent_body canonical_inside Closes
+keeps_basic : SpellsAndReadsBack body_type_basic lent_body canonical_inside spells_inside Closes
 unfolding body_type_basic
-reads_basic = reads-gives basic_of (reads-string_utf8 ⨾ʳ reads_spaced reads-string_utf8 ⨾ʳ reads-seq (reads_spaced reads_fields) reads_ext_1part (λ y t g. refl)) (λ x. refl)
-
-basic_spells : Spells body_type_basic spells_inside
-unfolding body_type_basic
-basic_spells = spells-gives basic_of (spells-string_utf8 ⨾ˢ spaced_spells spells-string_utf8 ⨾ˢ spaced_spells fields_spell ⨾ˢ ext_1part_spells)
+keeps_basic = keeps-gives basic_of (keeps-string_utf8 ⨾ᵏ keeps_spaced keeps-string_utf8 ⨾ᵏ keeps-seq (keeps_spaced keeps_fields) keeps_ext_1part (λ y t g. refl)) (λ x. refl)
 
 -- a multipart of other bodies
 abbrev with_bodies : BodyValue → Bodies → BodyValue
@@ -72,37 +62,33 @@ with_bodies other inside = other
 abbrev NoSpace : Rule BodyValue → Type 0
 NoSpace inner = (t : Bytes) → Denies (meaning inner) (32 ∷ t)
 
+abbrev KeepsBody : Rule BodyValue → Type 0
+KeepsBody inner = SpellsAndReadsBack inner lent_body canonical_body spells_body Any
+
 module _ {inner : Rule BodyValue} where
-  reads_message : ReadsBack inner lent_body canonical_body Any → ReadsBack (body_type_msg inner) lent_body canonical_inside Closes
+  keeps_message : KeepsBody inner → SpellsAndReadsBack (body_type_msg inner) lent_body canonical_inside spells_inside Closes
   unfolding body_type_msg message_word
-  reads_message h =
-      reads-gives message_of
-      (takes-word "\"MESSAGE\" \"RFC822\"" "\"MESSAGE\" \"RFC822\"" refl
-      ▹ʳ reads-seq (reads_spaced reads_fields) (reads_spaced reads_envelope ⨾ʳ reads_spaced h ⨾ʳ reads-seq (reads_spaced reads-number) reads_ext_1part (λ y t g. refl)) (λ y t g. refl))
+  keeps_message h =
+      keeps-gives message_of
+      (keeps-wider
+      (keeps-word "\"MESSAGE\" \"RFC822\""
+      (keeps-seq (keeps_spaced keeps_fields) (keeps_spaced keeps_envelope ⨾ᵏ keeps_spaced h ⨾ᵏ keeps-seq (keeps_spaced keeps-number) keeps_ext_1part (λ y t g. refl)) (λ y t g. refl)))
+      (λ v c h. (refl, (refl, h))))
       (λ x. refl)
 
-  message_spells : Spells inner spells_body → Spells (body_type_msg inner) spells_inside
-  unfolding body_type_msg message_word
-  message_spells h =
-      spells-gives message_of
-      (spells-wider
-      (spells-word "\"MESSAGE\" \"RFC822\"" ▹ˢ spaced_spells fields_spell ⨾ˢ spaced_spells envelope_spells ⨾ˢ spaced_spells h ⨾ˢ spaced_spells spells-number ⨾ˢ ext_1part_spells)
-      (λ v c h. (refl, (refl, h))))
-
-  reads_bodies : NoSpace inner → ReadsBack inner lent_body canonical_body Any → ReadsBack (some_bodies inner) (map lent_body) (λ bs. canonical_each (bodies_of bs)) (Begins 32)
+  keeps_bodies : NoSpace inner → KeepsBody inner → SpellsAndReadsBack (some_bodies inner) (map lent_body) (λ bs. canonical_each (bodies_of bs)) (λ bs. spells_bodies (bodies_of bs)) (Begins 32)
   unfolding some_bodies
-  reads_bodies none h = reads-same (reads-some1 h (λ y t. tt) (λ t g. tt) (begun _ none)) (λ bs. sym (same_each bs))
+  keeps_bodies none h = record {
+    spelled = spells-wider (spells-some1 h.spelled) bodies_spell;
+    back = reads-same (reads-some1 h.back (λ y t. tt) (λ t g. tt) (begun _ none)) (λ bs. sym (same_each bs));
+  }
 
-  reads_multipart : NoSpace inner → ReadsBack inner lent_body canonical_body Any → ReadsBack (body_type_mpart inner) lent_body canonical_inside Closes
+  keeps_multipart : NoSpace inner → KeepsBody inner → SpellsAndReadsBack (body_type_mpart inner) lent_body canonical_inside spells_inside Closes
   unfolding body_type_mpart
-  reads_multipart none h =
-      reads-gives multipart_of (reads-seq (reads_bodies none h) (reads_spaced reads-string_utf8 ⨾ʳ reads_ext_mpart) (λ y t g. (_, refl)))
+  keeps_multipart none h =
+      keeps-gives multipart_of
+      (keeps-wider (keeps-seq (keeps_bodies none h) (keeps_spaced keeps-string_utf8 ⨾ᵏ keeps_ext_mpart) (λ y t g. (_, refl))) (λ v c h. (refl, h)))
       (λ x. ap (with_bodies (lent_body (multipart_of x))) (sym (lent_each x.0)))
-
-  multipart_spells : Spells inner spells_body → Spells (body_type_mpart inner) spells_inside
-  unfolding body_type_mpart some_bodies
-  multipart_spells h =
-      spells-gives multipart_of (spells-wider (spells-wider (spells-some1 h) bodies_spell ⨾ˢ spaced_spells spells-string_utf8 ⨾ˢ ext_mpart_spells) (λ v c h. (refl, h)))
 
 -- ---- which type it is
 
@@ -142,16 +128,12 @@ message_basic : (inner : Rule BodyValue) → Apart (body_type_msg inner) body_ty
 unfolding body_type_msg message_word body_type_basic
 message_basic inner = apart-gives _ basic_of (λ x t g. denies-gives _ _ _ (denies-after _ _ _ (denies-tag _ _ _ refl)))
 
-reads_type : (inner : Rule BodyValue) → NoSpace inner → ReadsBack inner lent_body canonical_body Any → ReadsBack (body_type inner) lent_body canonical_inside Closes
+keeps_type : (inner : Rule BodyValue) → NoSpace inner → KeepsBody inner → SpellsAndReadsBack (body_type inner) lent_body canonical_inside spells_inside Closes
 unfolding body_type
-reads_type inner none h =
-    first reads_text (apart-alt _ _ (text_message inner) (apart-alt _ _ text_basic (multipart_apart _ inner text_no_multipart)))
-    (first (reads_message h) (apart-alt _ _ (message_basic inner) (multipart_apart _ inner (message_no_multipart inner)))
-    (first reads_basic (multipart_apart _ inner basic_no_multipart) (reads_multipart none h)))
-
-type_spells : (inner : Rule BodyValue) → Spells inner spells_body → Spells (body_type inner) spells_inside
-unfolding body_type
-type_spells inner h = text_spells orˢ message_spells h orˢ basic_spells orˢ multipart_spells h
+keeps_type inner none h =
+    keeps-first keeps_text (apart-alt _ _ (text_message inner) (apart-alt _ _ text_basic (multipart_apart _ inner text_no_multipart)))
+    (keeps-first (keeps_message h) (apart-alt _ _ (message_basic inner) (multipart_apart _ inner (message_no_multipart inner)))
+    (keeps-first keeps_basic (multipart_apart _ inner basic_no_multipart) (keeps_multipart none h)))
 
 -- ---- levels
 
@@ -160,21 +142,11 @@ unfolding meaning body bracketed_body
 no_space zero t = refl
 no_space (suc level) t = inl refl
 
-pub reads_body : (level : ℕ) → ReadsBack (body level) lent_body canonical_body Any
+pub keeps_body : (level : ℕ) → KeepsBody (body level)
 unfolding body bracketed_body
-reads_body zero = reads-never
-reads_body (suc level) = takes-text "(" ▹ʳ reads-before (reads_type (body level) (no_space level) (reads_body level)) (takes-text ")") (λ t g. refl)
+keeps_body zero = record { spelled = spells-never; back = reads-never }
+keeps_body (suc level) = keeps-tag "(" (keeps-before ")" (keeps_type (body level) (no_space level) (keeps_body level)) (λ t. refl))
 
-pub body_spells : (level : ℕ) → Spells (body level) spells_body
-unfolding body bracketed_body
-body_spells zero = spells-never
-body_spells (suc level) = spells-tag "(" ▹ˢ type_spells (body level) (body_spells level) ◃ˢ spells-tag ")"
-
--- ---- both laws
-
-pub keeps_body : (level : ℕ) → SpellsAndReadsBack (body level) lent_body canonical_body spells_body Closes
-keeps_body level = record { spelled = body_spells level; back = reads-follow (reads_body level) (λ t g. tt) }
-
-pub keeps_body_structure : SpellsAndReadsBack body_structure lent_body canonical_body spells_body Closes
+pub keeps_body_structure : KeepsBody body_structure
 unfolding body_structure
 keeps_body_structure = keeps_body 100

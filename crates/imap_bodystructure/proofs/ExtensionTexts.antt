@@ -7,38 +7,37 @@ use Rattle.imap_grammar.specs.Lists.{nonempty_list_of, flat}
 use Rattle.imap_grammar.specs.Text.{Bytes, Text, lent_text}
 use Rattle.imap_grammar.specs.Tags.{sp}
 use Rattle.imap_grammar.specs.Pieces.{Pieces, Fits, written, words, space, ◌then◌, each, separated, ntext, literal_text, list_text}
-use Rattle.imap_grammar.specs.ReadBack.{Texts, ReadsBack, Spells, SpellsAndReadsBack, Apart, Any, BeginsWith, Closes}
+use Rattle.imap_grammar.specs.ReadBack.{Texts, ReadsBack, SpellsAndReadsBack, Apart, Any, BeginsWith, Closes}
 use Rattle.imap_grammar.specs.Spelling.{exactly, ◌and◌, each_of, some_with_between, spells_ntext}
-use Rattle.imap_grammar.proofs.Reading.{reads-alt, reads-gives, reads-same, reads-never, reads-opt, reads-follow, apart-gives, apart-alt, denials, denies-gives, denies-after, closes-in, after-on, tag-on, gives-has, gives-on, written_on, ◌⨾ʳ◌, ◌▹ʳ◌, ◌◃ʳ◌}
-use Rattle.imap_grammar.proofs.ReadingLists.{reads-nonempty_list_of, takes-text, list_on_one}
-use Rattle.imap_grammar.proofs.Spelling.{◌⨾ˢ◌, ◌▹ˢ◌, ◌◃ˢ◌, ◌orˢ◌, spells-gives, spells-wider, spells-never, spells-nothing, spells-tag, spells-nonempty_list_of}
+use Rattle.imap_grammar.proofs.Reading.{reads-gives, reads-same, reads-never, apart-gives, apart-alt, denials, denies-gives, denies-after, closes-in, after-on, tag-on, gives-has, gives-on, written_on}
+use Rattle.imap_grammar.proofs.ReadingLists.{reads-nonempty_list_of, list_on_one}
+use Rattle.imap_grammar.proofs.Spelling.{◌orˢ◌, spells-gives, spells-wider, spells-never, spells-nothing, spells-nonempty_list_of}
 use Rattle.imap_grammar.proofs.ReadingChoices.{on-first, on-second, reads-either, reads-opt_opt}
+use Rattle.imap_grammar.proofs.Keeping.{keeps-tag, keeps-before, ◌⨾ᵏ◌, keeps-gives, keeps-follow, keeps-anywhere, keeps-first, keeps-opt, keeps-nonempty_list_of}
 use Rattle.imap_bytes.specs.Numbers.{number}
 use Rattle.imap_bytes.specs.Strings.{nil, string, quoted, literal_header, literal}
 use Rattle.imap_bytes.specs.Texts.{string_utf8, nstring_utf8}
-use Rattle.imap_bytes.proofs.ReadingTexts.{not_digit, reads-number, reads-string_utf8, reads-nstring_utf8, reads-nil_or, nil_or-none, nil_or-some}
+use Rattle.imap_bytes.proofs.ReadingTexts.{not_digit, reads-string_utf8, nil_or-none, nil_or-some}
 use Rattle.imap_bytes.proofs.ReadingCounts.{closes_space, denies-number}
-use Rattle.imap_bytes.proofs.SpellingTexts.{spells-nil_or, spells-number, spells-string_utf8, spells-nstring_utf8}
+use Rattle.imap_bytes.proofs.SpellingTexts.{spells-string_utf8, spells-nstring_utf8}
+use Rattle.imap_bytes.proofs.Keeping.{keeps-number, keeps-string_utf8, keeps-nstring_utf8, keeps-nil_or}
 use Rattle.imap_body_types.specs.ExtensionValues.{ExtensionValue, Num, Str, Listed, one_extension, extensions_of}
 use Rattle.imap_body_types.specs.Lent.{lent_disposition, lent_languages, lent_extension, lent_extensions, lent_ext_1part, lent_ext_mpart}
+use Rattle.imap_envelopes.specs.EnvelopeTexts.{behind_space}
+use Rattle.imap_envelopes.proofs.EnvelopeTexts.{keeps_spaced}
 use Rattle.imap_bodystructure.specs.Fields.{body_fld_param}
 use Rattle.imap_bodystructure.specs.Extensions.{disposition_of, body_fld_dsp, some_languages, one_language, language_list, body_fld_lang, extension_over, some_extensions, list_of_extensions, bracketed_extensions, extension_list, extension, body_extension, maybe_spaced, last_extension, ext_1part_of, body_ext_1part, ext_mpart_of, body_ext_mpart}
-use Rattle.imap_envelopes.specs.EnvelopeTexts.{behind_space}
 use Rattle.imap_bodystructure.specs.ExtensionTexts.{canonical_disposition, canonical_languages, canonical_extension, canonical_members, canonical_further, canonical_last, canonical_ext_1part, canonical_ext_mpart, spells_disposition, spells_languages, spells_extension, spells_members, spells_further, spells_field, spells_last, spells_ext_1part, spells_ext_mpart}
-use Rattle.imap_envelopes.proofs.EnvelopeTexts.{reads_spaced, spaced_spells}
-use Rattle.imap_bodystructure.proofs.FieldTexts.{reads_params, params_spell}
+use Rattle.imap_bodystructure.proofs.FieldTexts.{keeps_params}
 
 -- ---- disposition
 
-pub reads_disposition : ReadsBack body_fld_dsp (option_map lent_disposition) canonical_disposition Any
+pub keeps_disposition : SpellsAndReadsBack body_fld_dsp (option_map lent_disposition) canonical_disposition spells_disposition Any
 unfolding body_fld_dsp
-reads_disposition =
-    reads-nil_or refl (reads-gives disposition_of (takes-text "(" ▹ʳ reads-string_utf8 ⨾ʳ reads_spaced reads_params ◃ʳ takes-text ")") (λ x. refl))
+keeps_disposition =
+    keeps-nil_or refl
+    (keeps-gives disposition_of (keeps-tag "(" (keeps-string_utf8 ⨾ᵏ keeps-before ")" (keeps_spaced keeps_params) (λ t. tt))) (λ x. refl))
     (λ x t g. refl) refl (λ x. refl)
-
-pub disposition_spells : Spells body_fld_dsp spells_disposition
-unfolding body_fld_dsp
-disposition_spells = spells-nil_or (spells-gives disposition_of (spells-tag "(" ▹ˢ spells-string_utf8 ⨾ˢ spaced_spells params_spell ◃ˢ spells-tag ")"))
 
 -- ---- language
 
@@ -74,19 +73,18 @@ single_read None m rest y f t = on-first (gives one_language nstring_utf8) langu
 single_read (Some x) m rest y f t =
     on-second (gives one_language nstring_utf8) language_list _ (Some (lent_text x ∷ [])) t (denies-gives one_language nstring_utf8 _ (text_denied _)) (list_read x m rest (nil_or-some string_utf8 m rest x y) f t)
 
-pub reads_language : ReadsBack body_fld_lang lent_languages canonical_languages Any
-unfolding body_fld_lang
-reads_language =
-    reads-either
-    (λ m v rest y f t g.
-    let x = gives-has one_language nstring_utf8 m v rest y in
-    subst (λ w. (meaning (gives one_language nstring_utf8 or language_list)).yields (written (canonical_languages w) ++ t) (lent_languages w) t) x.2
-    (single_read x.0 m rest x.1 (subst (λ w. Fits (canonical_languages w)) (sym x.2) f) t))
-    reads_language_list list_apart
-
-language_spells : Spells body_fld_lang spells_languages
+pub keeps_language : SpellsAndReadsBack body_fld_lang lent_languages canonical_languages spells_languages Any
 unfolding body_fld_lang language_list some_languages
-language_spells = spells-gives one_language (spells-wider spells-nstring_utf8 alone) orˢ spells-gives Some (spells-wider (spells-nonempty_list_of spells-string_utf8) (λ v c h. inl h))
+keeps_language = record {
+  spelled = spells-gives one_language (spells-wider spells-nstring_utf8 alone) orˢ spells-gives Some (spells-wider (spells-nonempty_list_of spells-string_utf8) (λ v c h. inl h));
+  back =
+      reads-either
+      (λ m v rest y f t g.
+      let x = gives-has one_language nstring_utf8 m v rest y in
+      subst (λ w. (meaning (gives one_language nstring_utf8 or language_list)).yields (written (canonical_languages w) ++ t) (lent_languages w) t) x.2
+      (single_read x.0 m rest x.1 (subst (λ w. Fits (canonical_languages w)) (sym x.2) f) t))
+      reads_language_list list_apart;
+}
   where
     alone : (x : Option Text) (c : Bytes) → spells_ntext x c → spells_languages (one_language x) c
     alone None c h = h
@@ -127,25 +125,6 @@ unfolding meaning extension_list bracketed_extensions
 text_apart zero = record { denied = λ m v rest d y f t g. absurd y }
 text_apart (suc level) = apart-gives _ list_of_extensions (λ es t g. listed_denied _)
 
-over : (level : ℕ) → ReadsBack (extension_list level) lent_extension canonical_extension Any → ReadsBack (extension level) lent_extension canonical_extension (BeginsWith not_digit)
-unfolding extension_over
-over level lists =
-    reads-alt (reads-gives Num reads-number (λ x. refl))
-    (reads-alt (reads-follow (reads-gives Str reads-nstring_utf8 (λ x. refl)) (λ t g. tt)) (reads-follow lists (λ t g. tt)) (text_apart level))
-    (apart-alt _ _ (apart-gives _ Str (λ s t g. number_denied _ (text_no_digit s t))) (number_apart level))
-
-reads_extension_list : (level : ℕ) → ReadsBack (extension_list level) lent_extension canonical_extension Any
-unfolding extension_list bracketed_extensions some_extensions
-reads_extension_list zero = reads-never
-reads_extension_list (suc level) =
-    reads-gives list_of_extensions
-    (reads-same (reads-nonempty_list_of (over level (reads_extension_list level)) (λ t. refl) (λ t. refl))
-    (λ es. ap (λ p. words "(" then p then words ")") (sym (same_members es))))
-    (λ es. ap Listed (sym (lent_members es)))
-
-pub reads_extension : (level : ℕ) → ReadsBack (extension level) lent_extension canonical_extension (BeginsWith not_digit)
-reads_extension level = over level (reads_extension_list level)
-
 further_spell : (es : List ExtensionValue) (c : Bytes) → each_of (λ e. exactly " " and spells_extension e) es c → spells_further (extensions_of es) c
 further_spell [] c h = h
 further_spell (e ∷ es) c (a, b, cut, here, others) = (a, b, cut, here, further_spell es b others)
@@ -154,36 +133,47 @@ members_spell : (es : List ExtensionValue) (c : Bytes) → some_with_between (ex
 members_spell [] c h = h
 members_spell (e ∷ es) c (a, b, cut, here, others) = (a, b, cut, here, further_spell es b others)
 
-over_spells : (lists : Rule ExtensionValue) → Spells lists spells_extension → Spells (extension_over lists) spells_extension
+over : (level : ℕ) → SpellsAndReadsBack (extension_list level) lent_extension canonical_extension spells_extension Any → SpellsAndReadsBack (extension level) lent_extension canonical_extension spells_extension (BeginsWith not_digit)
 unfolding extension_over
-over_spells lists h = spells-gives Num spells-number orˢ spells-gives Str spells-nstring_utf8 orˢ h
+over level lists =
+    keeps-first (keeps-gives Num keeps-number (λ x. refl)) (apart-alt _ _ (apart-gives _ Str (λ s t g. number_denied _ (text_no_digit s t))) (number_apart level))
+    (keeps-first (keeps-anywhere (keeps-gives Str keeps-nstring_utf8 (λ x. refl))) (text_apart level) (keeps-anywhere lists))
 
-extension_list_spells : (level : ℕ) → Spells (extension_list level) spells_extension
+keeps_extension_list : (level : ℕ) → SpellsAndReadsBack (extension_list level) lent_extension canonical_extension spells_extension Any
 unfolding extension_list bracketed_extensions some_extensions
-extension_list_spells zero = spells-never
-extension_list_spells (suc level) =
-    spells-gives list_of_extensions
-    (spells-wider (spells-nonempty_list_of (over_spells (extension_list level) (extension_list_spells level)))
-    (λ es c (a, b, cut, open_, (x, y, cut', inner, close)). (a, b, cut, open_, (x, y, cut', members_spell es x inner, close))))
+keeps_extension_list zero = record { spelled = spells-never; back = reads-never }
+keeps_extension_list (suc level) =
+    let members = keeps-nonempty_list_of (over level (keeps_extension_list level)) (λ t. refl) (λ t. refl) in
+    record {
+      spelled =
+          spells-gives list_of_extensions
+          (spells-wider members.spelled (λ es c (a, b, cut, open_, (x, y, cut', inner, close)). (a, b, cut, open_, (x, y, cut', members_spell es x inner, close))));
+      back =
+          reads-gives list_of_extensions (reads-same members.back (λ es. ap (λ p. words "(" then p then words ")") (sym (same_members es))))
+          (λ es. ap Listed (sym (lent_members es)));
+    }
 
-pub extension_spells : (level : ℕ) → Spells (extension level) spells_extension
-extension_spells level = over_spells (extension_list level) (extension_list_spells level)
+pub keeps_extension : (level : ℕ) → SpellsAndReadsBack (extension level) lent_extension canonical_extension spells_extension (BeginsWith not_digit)
+keeps_extension level = over level (keeps_extension_list level)
 
 -- ---- what stands behind the fields
-
--- a field without a value is written NIL
-module _ {A : Type 0} {a : Rule (Option A)} {l : Option A → Option A} {c : Option A → Pieces} where
-  reads_field : ReadsBack a l c Any → c None ≡ words "NIL" → ((t : Bytes) → (meaning a).yields (codes "NIL" ++ t) None t) → l None ≡ None → ReadsBack (maybe_spaced a) l (λ x. space then c x) Any
-  reads_field h e read none =
-      reads-opt_opt (reads_spaced h)
-      (λ t g. after-on sp a _ (32 ∷ []) _ None t (tag-on _ (codes " ") (32 ∷ []) _ refl) (subst (λ q. (meaning a).yields (written q ++ t) None t) (sym e) (read t))) none
 
 field_spelt : {A : Type 0} (S : Option A → Texts) (x : Option A) (c : Bytes) → behind_space (S x) c → spells_field S x c
 field_spelt S None c h = inr h
 field_spelt S (Some x) c h = h
 
-field_spells : {A : Type 0} {a : Rule (Option A)} {S : Option A → Texts} → Spells a S → Spells (maybe_spaced a) (spells_field S)
-field_spells {S = S} h = spells-gives flat (spells-gives Some (spells-wider (spaced_spells h) (field_spelt S)) orˢ spells-nothing None (inl refl))
+-- a field without a value is written NIL
+module _ {A : Type 0} {a : Rule (Option A)} {l : Option A → Option A} {c : Option A → Pieces} {S : Option A → Texts} where
+  keeps_field : SpellsAndReadsBack a l c S Any → c None ≡ words "NIL" → ((t : Bytes) → (meaning a).yields (codes "NIL" ++ t) None t) → l None ≡ None
+      → SpellsAndReadsBack (maybe_spaced a) l (λ x. space then c x) (spells_field S) Any
+  keeps_field h e read none =
+      let spaced = keeps_spaced h in
+      record {
+        spelled = spells-gives flat (spells-gives Some (spells-wider spaced.spelled (field_spelt S)) orˢ spells-nothing None (inl refl));
+        back =
+            reads-opt_opt spaced.back
+            (λ t g. after-on sp a _ (32 ∷ []) _ None t (tag-on _ (codes " ") (32 ∷ []) _ refl) (subst (λ q. (meaning a).yields (written q ++ t) None t) (sym e) (read t))) none;
+      }
 
 params_nil : (t : Bytes) → (meaning body_fld_param).yields (codes "NIL" ++ t) None t
 unfolding body_fld_param
@@ -197,57 +187,21 @@ language_nil : (t : Bytes) → (meaning body_fld_lang).yields (codes "NIL" ++ t)
 unfolding body_fld_lang
 language_nil t = on-first (gives one_language nstring_utf8) language_list _ None t (gives-on one_language nstring_utf8 _ None t (nil_read t))
 
-reads_last : ReadsBack last_extension (option_map lent_extension) canonical_last Closes
+keeps_last : SpellsAndReadsBack last_extension (option_map lent_extension) canonical_last spells_last Closes
 unfolding last_extension body_extension
-reads_last =
-    reads-opt {c = canonical_last} refl (reads_spaced (reads-follow (reads_extension 100) (closes-in not_digit refl refl))) (λ t g. denies-after _ _ _ (closes_space t g)) (λ x. refl) refl
-
-last_spells : Spells last_extension spells_last
-unfolding last_extension body_extension
-last_spells = spells-gives Some (spaced_spells (extension_spells 100)) orˢ spells-nothing None refl
-
-pub reads_ext_1part : ReadsBack body_ext_1part lent_ext_1part canonical_ext_1part Closes
-unfolding body_ext_1part
-reads_ext_1part =
-    let text = reads_field reads-nstring_utf8 refl nil_read refl in
-    reads-gives ext_1part_of (text ⨾ʳ reads_field reads_disposition refl disposition_nil refl ⨾ʳ reads_field reads_language refl language_nil refl ⨾ʳ text ⨾ʳ reads_last) (λ x. refl)
-
-pub reads_ext_mpart : ReadsBack body_ext_mpart lent_ext_mpart canonical_ext_mpart Closes
-unfolding body_ext_mpart
-reads_ext_mpart =
-    reads-gives ext_mpart_of
-    (reads_field reads_params refl params_nil refl ⨾ʳ reads_field reads_disposition refl disposition_nil refl ⨾ʳ reads_field reads_language refl language_nil refl
-    ⨾ʳ reads_field reads-nstring_utf8 refl nil_read refl ⨾ʳ reads_last)
-    (λ x. refl)
-
-pub ext_1part_spells : Spells body_ext_1part spells_ext_1part
-unfolding body_ext_1part
-ext_1part_spells =
-    let text = field_spells spells-nstring_utf8 in
-    spells-gives ext_1part_of (text ⨾ˢ field_spells disposition_spells ⨾ˢ field_spells language_spells ⨾ˢ text ⨾ˢ last_spells)
-
-pub ext_mpart_spells : Spells body_ext_mpart spells_ext_mpart
-unfolding body_ext_mpart
-ext_mpart_spells =
-    spells-gives ext_mpart_of (field_spells params_spell ⨾ˢ field_spells disposition_spells ⨾ˢ field_spells language_spells ⨾ˢ field_spells spells-nstring_utf8 ⨾ˢ last_spells)
-
--- ---- both laws
-
-pub keeps_disposition : SpellsAndReadsBack body_fld_dsp (option_map lent_disposition) canonical_disposition spells_disposition Closes
-keeps_disposition = record { spelled = disposition_spells; back = reads-follow reads_disposition (λ t g. tt) }
-
-pub keeps_language : SpellsAndReadsBack body_fld_lang lent_languages canonical_languages spells_languages Closes
-keeps_language = record { spelled = language_spells; back = reads-follow reads_language (λ t g. tt) }
-
-pub keeps_extension : (level : ℕ) → SpellsAndReadsBack (extension level) lent_extension canonical_extension spells_extension Closes
-keeps_extension level = record { spelled = extension_spells level; back = reads-follow (reads_extension level) (closes-in not_digit refl refl) }
-
-pub keeps_body_extension : SpellsAndReadsBack body_extension lent_extension canonical_extension spells_extension Closes
-unfolding body_extension
-keeps_body_extension = keeps_extension 100
+keeps_last =
+    keeps-opt refl refl (keeps_spaced (keeps-follow (keeps_extension 100) (closes-in not_digit refl refl))) (λ t g. denies-after _ _ _ (closes_space t g)) (λ x. refl) refl
 
 pub keeps_ext_1part : SpellsAndReadsBack body_ext_1part lent_ext_1part canonical_ext_1part spells_ext_1part Closes
-keeps_ext_1part = record { spelled = ext_1part_spells; back = reads_ext_1part }
+unfolding body_ext_1part
+keeps_ext_1part =
+    let text = keeps_field keeps-nstring_utf8 refl nil_read refl in
+    keeps-gives ext_1part_of (text ⨾ᵏ keeps_field keeps_disposition refl disposition_nil refl ⨾ᵏ keeps_field keeps_language refl language_nil refl ⨾ᵏ text ⨾ᵏ keeps_last) (λ x. refl)
 
 pub keeps_ext_mpart : SpellsAndReadsBack body_ext_mpart lent_ext_mpart canonical_ext_mpart spells_ext_mpart Closes
-keeps_ext_mpart = record { spelled = ext_mpart_spells; back = reads_ext_mpart }
+unfolding body_ext_mpart
+keeps_ext_mpart =
+    keeps-gives ext_mpart_of
+    (keeps_field keeps_params refl params_nil refl ⨾ᵏ keeps_field keeps_disposition refl disposition_nil refl ⨾ᵏ keeps_field keeps_language refl language_nil refl
+    ⨾ᵏ keeps_field keeps-nstring_utf8 refl nil_read refl ⨾ᵏ keeps_last)
+    (λ x. refl)

@@ -14,3 +14,4 @@ pub mod ReadingSets
 pub mod ReadingCounts
 pub mod Places
 pub mod Takes
+pub mod Keeping

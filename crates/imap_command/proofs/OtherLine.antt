@@ -200,24 +200,7 @@ open_after announced argument other h = h refl
 open_after refused argument other h = h refl
 open_after arguments (literal n) other h = absurd (other n refl)
 open_after numbers (literal n) other h = absurd (other n refl)
-open_after arguments (word text) other h = tt
-open_after arguments (string text) other h = tt
-open_after arguments (number n) other h = tt
-open_after arguments (num n) other h = tt
-open_after arguments (range first last) other h = tt
-open_after arguments (range_from first) other h = tt
-open_after arguments (list words) other h = tt
-open_after arguments (strings texts) other h = tt
-open_after arguments (section asked) other h = tt
-open_after numbers (word text) other h = tt
-open_after numbers (string text) other h = tt
-open_after numbers (number n) other h = tt
-open_after numbers (num n) other h = tt
-open_after numbers (range first last) other h = tt
-open_after numbers (range_from first) other h = tt
-open_after numbers (list words) other h = tt
-open_after numbers (strings texts) other h = tt
-open_after numbers (section asked) other h = tt
+open_after s argument other h = tt
 
 found_of_others : (name : List ℕ) (argument : Argument) (before : List Argument) → ((n : ℕ) → argument ≢ literal n) → Sound name (argument ∷ before) → from_brace outside (begun name (argument ∷ before)) ≡ []
 found_of_others name argument before other sound =

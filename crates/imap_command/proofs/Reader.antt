@@ -87,28 +87,8 @@ reads stage text = None
 -- each word names its attribute, and has no byte that ends it
 pub known-attribute_word : (a : Attribute) → known_attribute (attribute_word a) ≡ Some a
 known-attribute_word attribute.Body = refl
-known-attribute_word attribute.Envelope = refl
-known-attribute_word attribute.Flags = refl
-known-attribute_word attribute.InternalDate = refl
-known-attribute_word attribute.ModSeq = refl
-known-attribute_word attribute.Rfc822 = refl
-known-attribute_word attribute.Rfc822Size = refl
-known-attribute_word attribute.Rfc822Text = refl
-known-attribute_word attribute.Uid = refl
-known-attribute_word attribute.GmailLabels = refl
-known-attribute_word attribute.GmailMsgId = refl
-known-attribute_word attribute.GmailThrId = refl
+known-attribute_word other = refl
 
 pub whole_words : (a : Attribute) → list_all in_word (attribute_word a) ≡ true
 whole_words attribute.Body = refl
-whole_words attribute.Envelope = refl
-whole_words attribute.Flags = refl
-whole_words attribute.InternalDate = refl
-whole_words attribute.ModSeq = refl
-whole_words attribute.Rfc822 = refl
-whole_words attribute.Rfc822Size = refl
-whole_words attribute.Rfc822Text = refl
-whole_words attribute.Uid = refl
-whole_words attribute.GmailLabels = refl
-whole_words attribute.GmailMsgId = refl
-whole_words attribute.GmailThrId = refl
+whole_words other = refl

@@ -12,16 +12,18 @@ use Rattle.imap_grammar.specs.Meaning.{Denies}
 use Rattle.imap_grammar.specs.Rule.{meaning}
 use Rattle.imap_grammar.specs.Text.{Bytes, Text, as_text, lent_text}
 use Rattle.imap_grammar.specs.Pieces.{written, literal_of, literal_text, ntext, nstring_text}
-use Rattle.imap_grammar.specs.ReadBack.{ReadsBack, Spells, SpellsAndReadsBack, Any, Closes, closes, as_is}
+use Rattle.imap_grammar.specs.ReadBack.{ReadsBack, SpellsAndReadsBack, Any, Closes, closes, as_is}
 use Rattle.imap_grammar.specs.Spelling.{spells_ntext, nil_or, spells_string_text}
-use Rattle.imap_grammar.proofs.Reading.{test-has, test-on, reads-gives, reads-same, reads-as, reads-follow, reads-list0, denials, ◌⨾ʳ◌, ◌▹ʳ◌, ◌◃ʳ◌}
-use Rattle.imap_grammar.proofs.ReadingLists.{takes-text, takes-word, reads-nonempty_list_of}
-use Rattle.imap_grammar.proofs.Spelling.{◌⨾ˢ◌, ◌▹ˢ◌, ◌◃ˢ◌, spells-gives, spells-wider, spells-tested, spells-word, spells-tag, spells-list0, spells-nonempty_list_of}
+use Rattle.imap_grammar.proofs.Reading.{test-has, test-on, reads-gives, reads-same, reads-as, reads-list0, denials, ◌⨾ʳ◌, ◌▹ʳ◌}
+use Rattle.imap_grammar.proofs.ReadingLists.{takes-text}
+use Rattle.imap_grammar.proofs.Spelling.{◌⨾ˢ◌, ◌▹ˢ◌, spells-gives, spells-wider, spells-tested, spells-tag, spells-list0}
+use Rattle.imap_grammar.proofs.Keeping.{keeps-word, keeps-before, ◌⨾ᵏ◌, keeps-gives, keeps-nonempty_list_of}
 use Rattle.imap_bytes.specs.Strings.{astring, string, quoted, literal, literal_header}
 use Rattle.imap_bytes.proofs.ReadingTexts.{astring_on, decoded_twice, reads-nstring_utf8}
-use Rattle.imap_bytes.proofs.ReadingQuoted.{lossy_ascii, reads-quoted_utf8}
+use Rattle.imap_bytes.proofs.ReadingQuoted.{lossy_ascii}
 use Rattle.imap_bytes.proofs.ReadingCounts.{closes_space}
-use Rattle.imap_bytes.proofs.SpellingTexts.{spells-astring, spells-utf8, spells-nstring_utf8, spells-quoted_utf8}
+use Rattle.imap_bytes.proofs.SpellingTexts.{spells-astring, spells-utf8, spells-nstring_utf8}
+use Rattle.imap_bytes.proofs.Keeping.{keeps-quoted_utf8}
 use Rattle.imap_data.specs.Annotations.{is_component_byte, is_path_byte, first_line, is_path, has_component, behind, passes, is_comment, is_vendor, is_comment_or_vendor, is_private, is_admin, is_shared, is_entry_name, entry, entry_utf8, bytes_in, annotation_of, annotation, metadata_mailbox, annotations, entries, solicited_of, metadata_solicited, unsolicited_of, metadata_unsolicited}
 use Rattle.imap_data.specs.AnnotationValues.{MetadataValue}
 use Rattle.imap_data.specs.AnnotationTexts.{canonical_annotation, canonical_metadata, canonical_annotations, canonical_entries, spells_entry, spells_annotation, spells_metadata, spells_annotations, spells_entries}
@@ -128,7 +130,7 @@ entry_lossy m h = elim (or_cases (is_private m || is_admin m) (is_shared m) h) [
 
 -- ---- entries and their values
 
-pub reads_entry : ReadsBack entry_utf8 lent_text literal_text Any
+reads_entry : ReadsBack entry_utf8 lent_text literal_text Any
 unfolding meaning entry_utf8 entry
 reads_entry = record {
   again = λ m v rest y f t g.
@@ -151,18 +153,30 @@ value_lent (Some t) = refl
 abbrev valued : Bytes → Option Bytes → MetadataValue
 valued name value = record { entry = name; value = value }
 
-pub reads_annotation : ReadsBack annotation as_is canonical_annotation Any
+value_spells : (v : Option Text) (c : Bytes) → spells_ntext v c → nil_or (λ b. spells_string_text (as_text b)) (option_map bytes_in v) c
+value_spells None c h = h
+value_spells (Some t) c h = h
+
+keeps_entry : SpellsAndReadsBack entry_utf8 lent_text literal_text spells_entry Any
+unfolding entry_utf8 entry
+keeps_entry = record { spelled = spells-utf8 (spells-tested is_entry_name spells-astring); back = reads_entry }
+
+keeps_annotation : SpellsAndReadsBack annotation as_is canonical_annotation spells_annotation Any
 unfolding annotation
-reads_annotation =
-    reads-gives annotation_of (reads_entry ⨾ʳ takes-text " " ▹ʳ reads-same reads-nstring_utf8 value_text) (λ x. ap (valued x.0.bytes) (value_lent x.1))
+keeps_annotation = record {
+  spelled = spells-gives annotation_of (keeps_entry.spelled ⨾ˢ spells-tag " " ▹ˢ spells-wider spells-nstring_utf8 value_spells);
+  back = reads-gives annotation_of (reads_entry ⨾ʳ takes-text " " ▹ʳ reads-same reads-nstring_utf8 value_text) (λ x. ap (valued x.0.bytes) (value_lent x.1));
+}
 
-pub reads_metadata : ReadsBack metadata_mailbox lent_text canonical_metadata Any
+pub keeps_metadata_mailbox : SpellsAndReadsBack metadata_mailbox lent_text canonical_metadata spells_metadata Any
 unfolding metadata_mailbox
-reads_metadata = takes-word "METADATA " "METADATA " refl ▹ʳ reads-quoted_utf8 ◃ʳ takes-text " "
+keeps_metadata_mailbox = keeps-word "METADATA " (keeps-before " " keeps-quoted_utf8 (λ t. tt))
 
-pub reads_annotations : ReadsBack annotations as_is canonical_annotations Any
+pub keeps_annotations : SpellsAndReadsBack annotations as_is canonical_annotations spells_annotations Any
 unfolding annotations
-reads_annotations = reads-as (reads-nonempty_list_of reads_annotation (λ t. tt) (λ t. tt)) map-id
+keeps_annotations =
+    let list = keeps-nonempty_list_of keeps_annotation (λ t. tt) (λ t. tt) in
+    record { spelled = list.spelled; back = reads-as list.back map-id }
 
 -- ---- entries alone
 
@@ -178,59 +192,19 @@ closes_entry : (t : Bytes) → Closes t → Denies (meaning entry_utf8) t
 closes_entry [] g = absurd (false≢true g)
 closes_entry (b ∷ t) g = no_entry b t g
 
-pub reads_entries : ReadsBack entries (map lent_text) canonical_entries Closes
-unfolding entries
-reads_entries = reads-list0 (takes-text " ") reads_entry (λ y t. tt) (λ t. tt) (λ t g. tt) closes_space closes_entry
-
--- ---- spelling
-
-entry_spells : Spells entry_utf8 spells_entry
-unfolding entry_utf8 entry
-entry_spells = spells-utf8 (spells-tested is_entry_name spells-astring)
-
-value_spells : (v : Option Text) (c : Bytes) → spells_ntext v c → nil_or (λ b. spells_string_text (as_text b)) (option_map bytes_in v) c
-value_spells None c h = h
-value_spells (Some t) c h = h
-
-annotation_spells : Spells annotation spells_annotation
-unfolding annotation
-annotation_spells = spells-gives annotation_of (entry_spells ⨾ˢ spells-tag " " ▹ˢ spells-wider spells-nstring_utf8 value_spells)
-
-pub metadata_spells : Spells metadata_mailbox spells_metadata
-unfolding metadata_mailbox
-metadata_spells = spells-word "METADATA " ▹ˢ spells-quoted_utf8 ◃ˢ spells-tag " "
-
-pub annotations_spell : Spells annotations spells_annotations
-unfolding annotations
-annotations_spell = spells-nonempty_list_of annotation_spells
-
-pub entries_spell : Spells entries spells_entries
-unfolding entries
-entries_spell = spells-list0 (spells-tag " ") entry_spells
-
-pub keeps_metadata_mailbox : SpellsAndReadsBack metadata_mailbox lent_text canonical_metadata spells_metadata Closes
-keeps_metadata_mailbox = record { spelled = metadata_spells; back = reads-follow reads_metadata (λ t g. tt) }
-
-pub keeps_annotations : SpellsAndReadsBack annotations as_is canonical_annotations spells_annotations Closes
-keeps_annotations = record { spelled = annotations_spell; back = reads-follow reads_annotations (λ t g. tt) }
-
 pub keeps_entries : SpellsAndReadsBack entries (map lent_text) canonical_entries spells_entries Closes
-keeps_entries = record { spelled = entries_spell; back = reads_entries }
+unfolding entries
+keeps_entries = record {
+  spelled = spells-list0 (spells-tag " ") keeps_entry.spelled;
+  back = reads-list0 (takes-text " ") reads_entry (λ y t. tt) (λ t. tt) (λ t g. tt) closes_space closes_entry;
+}
 
 -- ---- as data of a mailbox
 
-reads_solicited : ReadsBack metadata_solicited lent_datum canonical_datum Any
+pub keeps_solicited : SpellsAndReadsBack metadata_solicited lent_datum canonical_datum spells_datum Any
 unfolding metadata_solicited
-reads_solicited = reads-gives solicited_of (reads_metadata ⨾ʳ reads_annotations) (λ x. refl)
-
-reads_unsolicited : ReadsBack metadata_unsolicited lent_datum canonical_datum Closes
-unfolding metadata_unsolicited
-reads_unsolicited = reads-gives unsolicited_of (reads_metadata ⨾ʳ reads_entries) (λ x. refl)
-
-pub keeps_solicited : SpellsAndReadsBack metadata_solicited lent_datum canonical_datum spells_datum Closes
-unfolding metadata_solicited
-keeps_solicited = record { spelled = spells-gives solicited_of (metadata_spells ⨾ˢ annotations_spell); back = reads-follow reads_solicited (λ t g. tt) }
+keeps_solicited = keeps-gives solicited_of (keeps_metadata_mailbox ⨾ᵏ keeps_annotations) (λ x. refl)
 
 pub keeps_unsolicited : SpellsAndReadsBack metadata_unsolicited lent_datum canonical_datum spells_datum Closes
 unfolding metadata_unsolicited
-keeps_unsolicited = record { spelled = spells-gives unsolicited_of (metadata_spells ⨾ˢ entries_spell); back = reads_unsolicited }
+keeps_unsolicited = keeps-gives unsolicited_of (keeps_metadata_mailbox ⨾ᵏ keeps_entries) (λ x. refl)

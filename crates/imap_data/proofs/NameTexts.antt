@@ -1,5 +1,5 @@
--- LIST data reads back.
-use Rattle.std.proofs.Common.{◌≡◌, true, ◌∷◌, ◌++◌, None, Some, sym, ◌∙◌, ap, subst, refl, codes}
+-- LIST data: what their rules take spells them, and their canonical texts read back.
+use Rattle.std.proofs.Common.{◌≡◌, true, ◌∷◌, ◌++◌, None, Some, sym, ◌∙◌, ap, subst, refl}
 use Rattle.std.specs.Option.{option_map}
 use Rattle.std.specs.Str.{is_utf8}
 use Rattle.imap_grammar.specs.Classes.{is_atom_char}
@@ -8,19 +8,18 @@ use Rattle.imap_grammar.specs.Rule.{meaning, gives, nothing, tag_by, ◌▹◌}
 use Rattle.imap_grammar.specs.Text.{Bytes, lent_text}
 use Rattle.imap_grammar.specs.Tags.{same_letter}
 use Rattle.imap_grammar.specs.Pieces.{written, raw}
-use Rattle.imap_grammar.specs.ReadBack.{ReadsBack, Spells, Apart, Any, BeginsWith}
+use Rattle.imap_grammar.specs.ReadBack.{Apart, Any, BeginsWith, SpellsAndReadsBack}
 use Rattle.imap_grammar.specs.Spelling.{exactly, ◌and◌, all_of, as_it_is, nil_or, spells_quoted_text}
-use Rattle.imap_grammar.proofs.Reading.{raw_on, test-has, first, reads-word, reads-gives, reads-test, apart_forms, denials, denies-after, denies-tag, names-denied, tag-denied, ◌⨾ʳ◌, ◌▹ʳ◌}
+use Rattle.imap_grammar.proofs.Reading.{raw_on, test-has, reads-gives, reads-test, apart_forms, denials, denies-after, denies-tag, names-denied, tag-denied}
 use Rattle.imap_grammar.proofs.ReadingWords.{has_cases, differs-again}
-use Rattle.imap_grammar.proofs.ReadingLists.{takes-text, reads-list_of}
-use Rattle.imap_grammar.proofs.Spelling.{◌⨾ˢ◌, ◌▹ˢ◌, ◌orˢ◌, spells-gives, spells-wider, spells-tested, spells-names, spells-word, spells-tag, spells-run0, spells-raw, spells-list_of}
+use Rattle.imap_grammar.proofs.Spelling.{◌⨾ˢ◌, spells-gives, spells-wider, spells-tested, spells-tag, spells-run0, spells-raw}
+use Rattle.imap_grammar.proofs.Keeping.{keeps-names, keeps-tag, ◌⨾ᵏ◌, keeps-gives, keeps-first, keeps-list_of}
 use Rattle.imap_bytes.specs.Strings.{quoted, nil}
 use Rattle.imap_bytes.specs.Texts.{quoted_utf8}
-use Rattle.imap_bytes.proofs.ReadingQuoted.{reads-quoted_utf8}
-use Rattle.imap_bytes.proofs.SpellingTexts.{spells-quoted_utf8}
+use Rattle.imap_bytes.proofs.Keeping.{keeps-quoted_utf8}
 use Rattle.imap_shared.specs.Flags.{backslashed, backslashed_text}
 use Rattle.imap_shared.proofs.FlagTexts.{backslashed-has, reads_backslashed}
-use Rattle.imap_shared.proofs.MailboxTexts.{reads_mailbox, mailbox_spells}
+use Rattle.imap_shared.proofs.MailboxTexts.{keeps_mailbox}
 use Rattle.imap_data.specs.Names.{NameAttributeValue, NoInferiors, NoSelect, Marked, Unmarked, All, Archive, Drafts, Flagged, Junk, Sent, Trash, lent_name_attribute, lent_list, extension_of, name_attribute, name_attributes, delimiter, list_of_parts, list_data}
 use Rattle.imap_data.specs.NameTexts.{canonical_name_attribute, canonical_delimiter, canonical_list, spells_name_attribute, spells_list_data}
 
@@ -45,60 +44,44 @@ extension_apart k x cases = record {
 
 ruleset name_forms = (extension_apart, apart_forms)
 
-pub reads_name_attribute : ReadsBack name_attribute lent_name_attribute canonical_name_attribute AtomEnds
+backslash_first : (x : Bytes × Bytes) (c : Bytes) → (exactly "\\" and as_it_is (all_of is_atom_char) x.1) c → (exactly "\\" and all_of is_atom_char) c
+backslash_first x c (a, b, cut, slash, same) = (a, b, cut, slash, subst (all_of is_atom_char) (sym same.0) same.1)
+
+-- any other name behind a backslash
+keeps_name_extension : SpellsAndReadsBack (gives extension_of backslashed_text) lent_name_attribute canonical_name_attribute spells_name_attribute AtomEnds
+unfolding backslashed_text backslashed
+keeps_name_extension = record {
+  spelled =
+      spells-gives extension_of
+      (spells-wider (spells-tested is_utf8 (spells-raw (spells-tag "\\" ⨾ˢ spells-run0 is_atom_char) backslash_first)) (λ v c h. (h.1.0, (h.1.1, h.0))));
+  back = reads-gives extension_of (reads-test is_utf8 reads_backslashed (λ v e. e)) (λ x. refl);
+}
+
+keeps_name_attribute : SpellsAndReadsBack name_attribute lent_name_attribute canonical_name_attribute spells_name_attribute AtomEnds
 unfolding name_attribute backslashed_text
-reads_name_attribute =
-    first (reads-word _ _ NoInferiors (codes "\\Noinferiors") refl refl refl) (search name_forms depth 30)
-    (first (reads-word _ _ NoSelect (codes "\\Noselect") refl refl refl) (search name_forms depth 30)
-    (first (reads-word _ _ Marked (codes "\\Marked") refl refl refl) (search name_forms depth 30)
-    (first (reads-word _ _ Unmarked (codes "\\Unmarked") refl refl refl) (search name_forms depth 30)
-    (first (reads-word _ _ All (codes "\\All") refl refl refl) (search name_forms depth 30)
-    (first (reads-word _ _ Archive (codes "\\Archive") refl refl refl) (search name_forms depth 30)
-    (first (reads-word _ _ Drafts (codes "\\Drafts") refl refl refl) (search name_forms depth 30)
-    (first (reads-word _ _ Flagged (codes "\\Flagged") refl refl refl) (search name_forms depth 30)
-    (first (reads-word _ _ Junk (codes "\\Junk") refl refl refl) (search name_forms depth 30)
-    (first (reads-word _ _ Sent (codes "\\Sent") refl refl refl) (search name_forms depth 30)
-    (first (reads-word _ _ Trash (codes "\\Trash") refl refl refl) (search name_forms depth 30)
-    (reads-gives extension_of (reads-test is_utf8 reads_backslashed (λ v e. e)) (λ x. refl))))))))))))
+keeps_name_attribute =
+    keeps-first (keeps-names "\\Noinferiors" NoInferiors refl refl (λ c h. h)) (search name_forms depth 30)
+    (keeps-first (keeps-names "\\Noselect" NoSelect refl refl (λ c h. h)) (search name_forms depth 30)
+    (keeps-first (keeps-names "\\Marked" Marked refl refl (λ c h. h)) (search name_forms depth 30)
+    (keeps-first (keeps-names "\\Unmarked" Unmarked refl refl (λ c h. h)) (search name_forms depth 30)
+    (keeps-first (keeps-names "\\All" All refl refl (λ c h. h)) (search name_forms depth 30)
+    (keeps-first (keeps-names "\\Archive" Archive refl refl (λ c h. h)) (search name_forms depth 30)
+    (keeps-first (keeps-names "\\Drafts" Drafts refl refl (λ c h. h)) (search name_forms depth 30)
+    (keeps-first (keeps-names "\\Flagged" Flagged refl refl (λ c h. h)) (search name_forms depth 30)
+    (keeps-first (keeps-names "\\Junk" Junk refl refl (λ c h. h)) (search name_forms depth 30)
+    (keeps-first (keeps-names "\\Sent" Sent refl refl (λ c h. h)) (search name_forms depth 30)
+    (keeps-first (keeps-names "\\Trash" Trash refl refl (λ c h. h)) (search name_forms depth 30)
+    keeps_name_extension))))))))))
 
-reads_delimiter : ReadsBack delimiter (option_map lent_text) canonical_delimiter Any
+keeps_delimiter : SpellsAndReadsBack delimiter (option_map lent_text) canonical_delimiter (nil_or spells_quoted_text) Any
 unfolding delimiter quoted_utf8 quoted nil
-reads_delimiter = first (reads-gives Some reads-quoted_utf8 (λ x. refl)) (search apart_forms depth 20) (reads-word _ _ None (codes "NIL") refl refl refl)
+keeps_delimiter =
+    keeps-first (keeps-gives Some keeps-quoted_utf8 (λ x. refl)) (search apart_forms depth 20)
+    (keeps-names "NIL" None refl refl (λ c h. h))
 
-pub reads_list_data : ReadsBack list_data lent_list canonical_list Any
+pub keeps_list_data : SpellsAndReadsBack list_data lent_list canonical_list spells_list_data Any
 unfolding list_data name_attributes name_attribute backslashed_text backslashed
-reads_list_data =
-    reads-gives list_of_parts (reads-list_of reads_name_attribute (λ t. refl) (λ t. refl) (λ t. search denials depth 30) ⨾ʳ takes-text " " ▹ʳ reads_delimiter ⨾ʳ takes-text " " ▹ʳ reads_mailbox) (λ x. refl)
-
--- ---- spelling
-
-name_attribute_spells : Spells name_attribute spells_name_attribute
-unfolding name_attribute backslashed_text backslashed
-name_attribute_spells =
-    spells-names NoInferiors (spells-word "\\Noinferiors")
-    orˢ spells-names NoSelect (spells-word "\\Noselect")
-    orˢ spells-names Marked (spells-word "\\Marked")
-    orˢ spells-names Unmarked (spells-word "\\Unmarked")
-    orˢ spells-names All (spells-word "\\All")
-    orˢ spells-names Archive (spells-word "\\Archive")
-    orˢ spells-names Drafts (spells-word "\\Drafts")
-    orˢ spells-names Flagged (spells-word "\\Flagged")
-    orˢ spells-names Junk (spells-word "\\Junk")
-    orˢ spells-names Sent (spells-word "\\Sent")
-    orˢ spells-names Trash (spells-word "\\Trash")
-    orˢ spells-gives extension_of
-    (spells-wider (spells-tested is_utf8 (spells-raw (spells-tag "\\" ⨾ˢ spells-run0 is_atom_char) backslash_first))
-    (λ v c h. (h.1.0, (h.1.1, h.0))))
-  where
-    backslash_first : (x : Bytes × Bytes) (c : Bytes) → (exactly "\\" and as_it_is (all_of is_atom_char) x.1) c → (exactly "\\" and all_of is_atom_char) c
-    backslash_first x c (a, b, cut, slash, same) = (a, b, cut, slash, subst (all_of is_atom_char) (sym same.0) same.1)
-
-delimiter_spells : Spells delimiter (nil_or spells_quoted_text)
-unfolding delimiter nil
-delimiter_spells = spells-gives Some spells-quoted_utf8 orˢ spells-names None (spells-word "NIL")
-
-pub list_data_spells : Spells list_data spells_list_data
-unfolding list_data name_attributes
-list_data_spells =
-    spells-gives list_of_parts
-    (spells-list_of name_attribute_spells ⨾ˢ spells-tag " " ▹ˢ delimiter_spells ⨾ˢ spells-tag " " ▹ˢ mailbox_spells)
+keeps_list_data =
+    keeps-gives list_of_parts
+    (keeps-list_of keeps_name_attribute (λ t. refl) (λ t. refl) (λ t. search denials depth 30) ⨾ᵏ keeps-tag " " (keeps_delimiter ⨾ᵏ keeps-tag " " keeps_mailbox))
+    (λ x. refl)

@@ -21,11 +21,11 @@ use Rattle.imap_extensions.specs.Acls.{lent_acl_entry, lent_acl, lent_list_right
 use Rattle.imap_extensions.specs.AclTexts.{canonical_acl_entry, canonical_acl, canonical_list_rights, canonical_my_rights}
 use Rattle.imap_data.specs.AnnotationTexts.{canonical_metadata, canonical_entries}
 use Rattle.imap_extensions.proofs.Ids.{entries-lent_id}
-use Rattle.imap_data.specs.Codes.{Alert, Parse, ReadOnly, ReadWrite, TryCreate, UidNotSticky, MetadataTooMany, MetadataNoPrivate, BadCharset, Capabilities, PermanentFlags, UidNext, UidValidity, Unseen, HighestModSeq, MetadataLongEntries, MetadataMaxSize, AppendUid, CopyUid, lent_code}
+use Rattle.imap_data.specs.Codes.{BadCharset, Capabilities, PermanentFlags, lent_code}
 use Rattle.imap_data.specs.CodeTexts.{canonical_charsets, canonical_code, canonical_response_code}
-use Rattle.imap_data.specs.Names.{NoInferiors, NoSelect, Marked, Unmarked, All, Archive, Drafts, Flagged, Junk, Sent, Trash, Extension, lent_name_attribute, lent_list}
+use Rattle.imap_data.specs.Names.{Extension, lent_name_attribute, lent_list}
 use Rattle.imap_data.specs.NameTexts.{canonical_name_attribute, canonical_delimiter, canonical_list}
-use Rattle.imap_data.specs.DatumValues.{Exists, Flags, Listed, Search, Sort, Status, Recent, MetadataSolicited, MetadataUnsolicited, GmailLabels, GmailMsgId, GmailThrId, lent_datum}
+use Rattle.imap_data.specs.DatumValues.{Flags, Listed, MetadataSolicited, MetadataUnsolicited, GmailLabels, lent_datum}
 use Rattle.imap_data.specs.MailboxDataTexts.{canonical_datum}
 
 -- ---- flags, labels, capabilities
@@ -66,22 +66,7 @@ code : Keeps lent_code canonical_code
 code (BadCharset c) = ap (λ x. words "BADCHARSET" then x) (charsets c)
 code (Capabilities cs) = ap (λ x. words "CAPABILITY" then x) (each_capability cs)
 code (PermanentFlags fs) = ap (λ x. words "PERMANENTFLAGS " then x) (flag_list fs)
-code Alert = refl
-code Parse = refl
-code ReadOnly = refl
-code ReadWrite = refl
-code TryCreate = refl
-code UidNotSticky = refl
-code MetadataTooMany = refl
-code MetadataNoPrivate = refl
-code (UidNext n) = refl
-code (UidValidity n) = refl
-code (Unseen n) = refl
-code (HighestModSeq n) = refl
-code (MetadataLongEntries n) = refl
-code (MetadataMaxSize n) = refl
-code (AppendUid n uids) = refl
-code (CopyUid n from to) = refl
+code other = refl
 
 pub response_code : Keeps lent_code canonical_response_code
 response_code c = ap (λ x. words "[" then x then words "]") (code c)
@@ -89,18 +74,8 @@ response_code c = ap (λ x. words "[" then x then words "]") (code c)
 -- ---- data of a mailbox
 
 name_attribute : Keeps lent_name_attribute canonical_name_attribute
-name_attribute NoInferiors = refl
-name_attribute NoSelect = refl
-name_attribute Marked = refl
-name_attribute Unmarked = refl
-name_attribute All = refl
-name_attribute Archive = refl
-name_attribute Drafts = refl
-name_attribute Flagged = refl
-name_attribute Junk = refl
-name_attribute Sent = refl
-name_attribute Trash = refl
 name_attribute (Extension t) = refl
+name_attribute other = refl
 
 delimiter : Keeps (option_map lent_text) canonical_delimiter
 delimiter None = refl
@@ -114,17 +89,11 @@ entries_kept = separated_keeps space lent_text literal_text (λ t. refl)
 
 pub datum : Keeps lent_datum canonical_datum
 datum (Flags fs) = ap (λ x. words "FLAGS " then x) (flag_list fs)
-datum (Exists n) = refl
 datum (Listed l) = ap (λ x. words "LIST " then x) (list l)
-datum (Status mailbox items) = refl
-datum (Recent n) = refl
-datum (Search ns) = refl
-datum (Sort ns) = refl
 datum (GmailLabels ls) = label_list ls
-datum (GmailMsgId n) = refl
-datum (GmailThrId n) = refl
 datum (MetadataSolicited mailbox values) = refl
 datum (MetadataUnsolicited mailbox es) = ap (λ x. canonical_metadata mailbox then x) (entries_kept es)
+datum other = refl
 
 -- ---- extensions
 

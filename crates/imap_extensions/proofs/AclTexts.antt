@@ -1,4 +1,4 @@
--- Access control lists read back.
+-- Access control lists: what their rules take spells them, and their canonical texts read back.
 use Rattle.std.proofs.Common.{◌≡◌, ℕ, ◌==◌, true, List, [], ◌∷◌, ◌++◌, refl, sym, subst, inl, inr, ◌⊎◌, map}
 use Rattle.std.proofs.lemmas.Bool.{false≢true, or_cases, eqb-true}
 use Rattle.imap_grammar.specs.Classes.{is_blank}
@@ -7,17 +7,18 @@ use Rattle.imap_grammar.specs.Rule.{Rule, meaning, list0, ◌▹◌}
 use Rattle.imap_grammar.specs.Text.{Bytes}
 use Rattle.imap_grammar.specs.Tags.{blanks0, blanks1}
 use Rattle.imap_grammar.specs.Pieces.{Pieces, written, Fits, space, separated, each, ◌then◌}
-use Rattle.imap_grammar.specs.ReadBack.{ReadsBack, Spells, SpellsAndReadsBack, Any, BeginsWith, Closes, closes}
-use Rattle.imap_grammar.proofs.Reading.{written_on, reads-gives, reads-seq, reads-after, reads-list0, reads-follow, denials, denies-gives, denies-seq, closes-in, after-has, after-on, ◌▹ʳ◌}
-use Rattle.imap_grammar.proofs.ReadingLists.{takes-word, takes-blanks}
-use Rattle.imap_grammar.proofs.Spelling.{◌⨾ˢ◌, ◌▹ˢ◌, spells-gives, spells-word, spells-blanks0, spells-blanks1, spells-list0}
+use Rattle.imap_grammar.specs.ReadBack.{ReadsBack, SpellsAndReadsBack, Any, BeginsWith, Closes, closes}
+use Rattle.imap_grammar.proofs.Reading.{written_on, reads-list0, denials, denies-gives, denies-seq, closes-in, after-has, after-on}
+use Rattle.imap_grammar.proofs.ReadingLists.{takes-blanks}
+use Rattle.imap_grammar.proofs.Spelling.{◌▹ˢ◌, spells-blanks0, spells-blanks1, spells-list0}
+use Rattle.imap_grammar.proofs.Keeping.{keeps-word, keeps-blanks, ◌⨾ᵏ◌, keeps-gives}
+use Rattle.imap_grammar.specs.Spelling.{with_between, some_blanks, blanks, ◌and◌}
 use Rattle.imap_bytes.specs.Strings.{astring, string, quoted, literal, literal_header}
 use Rattle.imap_bytes.specs.Texts.{astring_utf8}
-use Rattle.imap_bytes.proofs.ReadingTexts.{reads-astring_utf8}
 use Rattle.imap_bytes.proofs.ReadingCounts.{closes_blanks}
-use Rattle.imap_bytes.proofs.SpellingTexts.{spells-astring_utf8}
-use Rattle.imap_shared.proofs.MailboxTexts.{reads_mailbox, mailbox_spells}
-use Rattle.imap_shared.proofs.RightTexts.{reads_rights, rights_spell}
+use Rattle.imap_bytes.proofs.Keeping.{keeps-astring_utf8}
+use Rattle.imap_shared.proofs.RightTexts.{keeps_rights}
+use Rattle.imap_shared.proofs.MailboxTexts.{keeps_mailbox}
 use Rattle.imap_extensions.specs.Acls.{lent_acl_entry, lent_acl, lent_my_rights, acl_entry_of, acl_entry, acl_entries, acl_of, acl, my_rights_of, my_rights}
 use Rattle.imap_extensions.specs.AclTexts.{canonical_acl_entry, canonical_acl, canonical_my_rights, spells_acl_entry, spells_acl, spells_my_rights}
 
@@ -25,7 +26,7 @@ use Rattle.imap_extensions.specs.AclTexts.{canonical_acl_entry, canonical_acl, c
 
 module _ {A : Type 0} {a : Rule A} {l : A → A} {c : A → Pieces} where
   -- none, or each behind a space
-  pub reads_spaced_list : ReadsBack a l c Any → ((y : A) (t : Bytes) → BeginsWith (outside is_blank) (written (c y) ++ t)) → ((t : Bytes) → Closes t → Denies (meaning a) t)
+  reads_spaced_list : ReadsBack a l c Any → ((y : A) (t : Bytes) → BeginsWith (outside is_blank) (written (c y) ++ t)) → ((t : Bytes) → Closes t → Denies (meaning a) t)
       → ReadsBack (blanks0 ▹ list0 blanks1 a) (map l) (each (λ y. space then c y)) Closes
   unfolding meaning
   reads_spaced_list h begin none = record {
@@ -60,44 +61,25 @@ closes_text (b ∷ t) g = closed b t g
 
 -- ---- ACL
 
-reads_acl_entry : ReadsBack acl_entry lent_acl_entry canonical_acl_entry Any
+keeps_acl_entry : SpellsAndReadsBack acl_entry lent_acl_entry canonical_acl_entry spells_acl_entry Any
 unfolding acl_entry
-reads_acl_entry = reads-gives acl_entry_of (reads-seq reads-astring_utf8 (reads-after takes-blanks reads_rights (λ y t g. refl)) (λ y t g. tt)) (λ x. refl)
+keeps_acl_entry = keeps-gives acl_entry_of (keeps-astring_utf8 ⨾ᵏ keeps-blanks keeps_rights (λ v t. refl)) (λ x. refl)
 
 no_acl_entry : (t : Bytes) → Closes t → Denies (meaning acl_entry) t
 unfolding acl_entry
 no_acl_entry t g = denies-gives _ _ _ (denies-seq _ _ _ (closes_text t g))
 
-pub reads_acl : ReadsBack acl lent_acl canonical_acl Closes
-unfolding acl acl_entries
-reads_acl =
-    reads-gives acl_of
-    (takes-word "ACL" "ACL" refl ▹ʳ reads-after takes-blanks (reads-seq reads_mailbox (reads_spaced_list reads_acl_entry (λ y t. refl) no_acl_entry) (λ y t g. tt)) (λ y t g. refl))
-    (λ x. refl)
-
-pub reads_my_rights : ReadsBack my_rights lent_my_rights canonical_my_rights Any
-unfolding my_rights
-reads_my_rights =
-    reads-gives my_rights_of
-    (takes-word "MYRIGHTS" "MYRIGHTS" refl ▹ʳ reads-after takes-blanks (reads-seq reads_mailbox (reads-after takes-blanks reads_rights (λ y t g. refl)) (λ y t g. tt)) (λ y t g. refl))
-    (λ x. refl)
-
--- ---- spelling
-
-acl_entry_spells : Spells acl_entry spells_acl_entry
-unfolding acl_entry
-acl_entry_spells = spells-gives acl_entry_of (spells-astring_utf8 ⨾ˢ spells-blanks1 ▹ˢ rights_spell)
-
-acl_spells : Spells acl spells_acl
-unfolding acl acl_entries
-acl_spells = spells-gives acl_of (spells-word "ACL" ▹ˢ spells-blanks1 ▹ˢ mailbox_spells ⨾ˢ spells-blanks0 ▹ˢ spells-list0 spells-blanks1 acl_entry_spells)
-
-my_rights_spells : Spells my_rights spells_my_rights
-unfolding my_rights
-my_rights_spells = spells-gives my_rights_of (spells-word "MYRIGHTS" ▹ˢ spells-blanks1 ▹ˢ mailbox_spells ⨾ˢ spells-blanks1 ▹ˢ rights_spell)
+keeps_entries : SpellsAndReadsBack (blanks0 ▹ acl_entries) (map lent_acl_entry) (each (λ e. space then canonical_acl_entry e)) (λ es. blanks and with_between some_blanks spells_acl_entry es) Closes
+unfolding acl_entries
+keeps_entries = record {
+  spelled = spells-blanks0 ▹ˢ spells-list0 spells-blanks1 keeps_acl_entry.spelled;
+  back = reads_spaced_list keeps_acl_entry.back (λ y t. refl) no_acl_entry;
+}
 
 pub keeps_acl : SpellsAndReadsBack acl lent_acl canonical_acl spells_acl Closes
-keeps_acl = record { spelled = acl_spells; back = reads_acl }
+unfolding acl
+keeps_acl = keeps-gives acl_of (keeps-word "ACL" (keeps-blanks (keeps_mailbox ⨾ᵏ keeps_entries) (λ v t. refl))) (λ x. refl)
 
-pub keeps_my_rights : SpellsAndReadsBack my_rights lent_my_rights canonical_my_rights spells_my_rights Closes
-keeps_my_rights = record { spelled = my_rights_spells; back = reads-follow reads_my_rights (λ t g. tt) }
+pub keeps_my_rights : SpellsAndReadsBack my_rights lent_my_rights canonical_my_rights spells_my_rights Any
+unfolding my_rights
+keeps_my_rights = keeps-gives my_rights_of (keeps-word "MYRIGHTS" (keeps-blanks (keeps_mailbox ⨾ᵏ keeps-blanks keeps_rights (λ v t. refl)) (λ v t. refl))) (λ x. refl)

@@ -11,22 +11,22 @@ use Rattle.imap_grammar.specs.Rule.{meaning, gives, nothing, ◌▹◌}
 use Rattle.imap_grammar.specs.Text.{Bytes, as_text}
 use Rattle.imap_grammar.specs.Tags.{blanks0, blanks1}
 use Rattle.imap_grammar.specs.Pieces.{written, Fits, literal_of}
-use Rattle.imap_grammar.specs.ReadBack.{ReadsBack, Spells, SpellsAndReadsBack, Closes, as_is}
+use Rattle.imap_grammar.specs.ReadBack.{SpellsAndReadsBack, Closes, as_is}
 use Rattle.imap_grammar.proofs.Yields.{Yields, given_yields, either_yields, right_yields, list_yields}
-use Rattle.imap_grammar.proofs.Reading.{reads-gives, reads-seq, reads-after, denies-gives, denies-after, closes-in, gives-on, after-on, ◌▹ʳ◌}
-use Rattle.imap_grammar.proofs.ReadingLists.{takes-word, takes-blanks}
-use Rattle.imap_grammar.proofs.Spelling.{◌⨾ˢ◌, ◌▹ˢ◌, spells-gives, spells-wider, spells-word, spells-blanks0, spells-blanks1, spells-list0}
+use Rattle.imap_grammar.proofs.Reading.{denies-gives, denies-after, closes-in, gives-on, after-on}
+use Rattle.imap_grammar.proofs.Spelling.{◌▹ˢ◌, spells-gives, spells-wider, spells-blanks0, spells-blanks1, spells-list0}
+use Rattle.imap_grammar.proofs.Keeping.{keeps-word, keeps-blanks, ◌⨾ᵏ◌, keeps-gives}
 use Rattle.imap_bytes.specs.Strings.{astring}
 use Rattle.imap_bytes.specs.Texts.{astring_utf8}
 use Rattle.imap_bytes.proofs.LossyTwice.{all-append}
-use Rattle.imap_bytes.proofs.ReadingTexts.{astring_on, decoded_utf8, reads-astring_utf8, utf8_yields}
+use Rattle.imap_bytes.proofs.ReadingTexts.{astring_on, decoded_utf8, utf8_yields}
 use Rattle.imap_bytes.proofs.ReadingCounts.{closes_blanks}
-use Rattle.imap_bytes.proofs.SpellingTexts.{spells-astring_utf8}
+use Rattle.imap_bytes.proofs.Keeping.{keeps-astring_utf8}
 use Rattle.imap_shared.specs.declared.types.rights.AclRight.{AclRight}
 use Rattle.imap_shared.specs.Rights.{right_of, letter_of, rights_of, rights_in, rights}
 use Rattle.imap_shared.specs.RightTexts.{letters_of}
-use Rattle.imap_shared.proofs.MailboxTexts.{reads_mailbox, mailbox_spells}
-use Rattle.imap_shared.proofs.RightTexts.{letters_kept, reads_rights, rights_spell}
+use Rattle.imap_shared.proofs.RightTexts.{letters_kept, keeps_rights}
+use Rattle.imap_shared.proofs.MailboxTexts.{keeps_mailbox}
 use Rattle.imap_extensions.specs.Acls.{lent_list_rights, joined, right_groups, optional_rights, list_rights_of, list_rights}
 use Rattle.imap_extensions.specs.AclTexts.{canonical_optional, canonical_list_rights, spells_optional, spells_list_rights}
 use Rattle.imap_extensions.proofs.AclTexts.{closes_text}
@@ -90,33 +90,19 @@ optional_on (r ∷ rs) p f t g =
     subst (λ w. (meaning (gives joined (blanks0 ▹ right_groups))).yields (32 ∷ ((text ++ []) ++ t)) w t) (append-nil v)
     (gives-on joined (blanks0 ▹ right_groups) _ (v ∷ []) t (after-on blanks0 right_groups _ (32 ∷ []) ((text ++ []) ++ t) (v ∷ []) t (refl, refl, refl) read))
 
-reads_optional : ReadsBack optional_rights as_is canonical_optional Closes
-reads_optional = record { again = λ m v rest y f t g. optional_on v (optional_yields.each m v rest y) f t g }
-
-pub reads_list_rights : ReadsBack list_rights lent_list_rights canonical_list_rights Closes
-unfolding list_rights
-reads_list_rights =
-    reads-gives list_rights_of
-    (takes-word "LISTRIGHTS" "LISTRIGHTS" refl ▹ʳ
-    reads-after takes-blanks
-    (reads-seq reads_mailbox
-    (reads-after takes-blanks
-    (reads-seq reads-astring_utf8 (reads-after takes-blanks (reads-seq reads_rights reads_optional (λ y t g. tt)) (λ y t g. refl)) (λ y t g. tt))
-    (λ y t g. refl))
-    (λ y t g. tt))
-    (λ y t g. refl))
-    (λ x. refl)
-
--- ---- spelling
-
-optional_spells : Spells optional_rights spells_optional
+keeps_optional : SpellsAndReadsBack optional_rights as_is canonical_optional spells_optional Closes
 unfolding optional_rights right_groups
-optional_spells = spells-gives joined (spells-wider (spells-blanks0 ▹ˢ spells-list0 spells-blanks1 rights_spell) (λ groups c h. (groups, refl, h)))
-
-list_rights_spells : Spells list_rights spells_list_rights
-unfolding list_rights
-list_rights_spells =
-    spells-gives list_rights_of (spells-word "LISTRIGHTS" ▹ˢ spells-blanks1 ▹ˢ mailbox_spells ⨾ˢ spells-blanks1 ▹ˢ spells-astring_utf8 ⨾ˢ spells-blanks1 ▹ˢ rights_spell ⨾ˢ optional_spells)
+keeps_optional = record {
+  spelled = spells-gives joined (spells-wider (spells-blanks0 ▹ˢ spells-list0 spells-blanks1 keeps_rights.spelled) (λ groups c h. (groups, refl, h)));
+  back = record { again = λ m v rest y f t g. optional_on v (optional_yields.each m v rest y) f t g };
+}
 
 pub keeps_list_rights : SpellsAndReadsBack list_rights lent_list_rights canonical_list_rights spells_list_rights Closes
-keeps_list_rights = record { spelled = list_rights_spells; back = reads_list_rights }
+unfolding list_rights
+keeps_list_rights =
+    keeps-gives list_rights_of
+    (keeps-word "LISTRIGHTS"
+    (keeps-blanks
+    (keeps_mailbox ⨾ᵏ keeps-blanks (keeps-astring_utf8 ⨾ᵏ keeps-blanks (keeps_rights ⨾ᵏ keeps_optional) (λ v t. refl)) (λ v t. refl))
+    (λ v t. refl)))
+    (λ x. refl)

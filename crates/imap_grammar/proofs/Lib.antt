@@ -7,6 +7,7 @@ pub mod Decoding
 pub mod Hashing
 pub mod Joining
 pub mod Joins
+pub mod Keeping
 pub mod Loops
 pub mod Marks
 pub mod Memory

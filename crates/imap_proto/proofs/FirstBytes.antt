@@ -6,20 +6,12 @@ use Rattle.imap_grammar.specs.declared.answer.Needed.TheVariants.{Unknown}
 use Rattle.imap_grammar.specs.Rule.{never}
 use Rattle.imap_grammar.specs.Step.{step}
 use Rattle.imap_grammar.proofs.Starts.{AtNone, AtAny, AtDigit, AtOther, AtOtherThanDigits, by_none, waits_without, by_any, by_digit, by_other, by_other_than_digits}
-use Rattle.imap_bytes.specs.Numbers.{number, digits}
 use Rattle.imap_shared.specs.Statuses.{status}
-use Rattle.imap_data.specs.MailboxData.{flags, exists, list, lsub, status as mailbox_status, recent, search, labels, msgid, thrid, sort, mailbox_datum, list_or_lsub}
-use Rattle.imap_shared.specs.Gmail.{gmail_label_list, gmail_msgid, gmail_thrid}
-use Rattle.imap_shared.specs.Capabilities.{capability_data, enabled_data}
-use Rattle.imap_data.specs.Annotations.{metadata_solicited, metadata_unsolicited}
-use Rattle.imap_data.specs.Annotations.{metadata_mailbox}
-use Rattle.imap_extensions.specs.Vanishings.{vanished}
-use Rattle.imap_extensions.specs.Quotas.{quota, quota_root}
-use Rattle.imap_extensions.specs.Ids.{id}
-use Rattle.imap_extensions.specs.Acls.{acl, list_rights, my_rights}
+use Rattle.imap_data.specs.MailboxData.{list_or_lsub}
 use Rattle.imap_data.specs.Codes.{response_code}
 use Rattle.imap_proto.specs.Outcomes.{outcome, plain_outcome}
-use Rattle.imap_proto.specs.Lines.{continuation, data_line, request_tag, tagged, response, datum, state_datum, extension_datum, status_data, expunge, fetch, vanished_data, ended_datum, status_line, numbered_line, mailbox_line, list_line, capability_line, enabled_line, annotation_line, vanished_line, quota_line, id_line, acl_line}
+use Rattle.imap_proto.proofs.Rules.{datum_rules}
+use Rattle.imap_proto.specs.Lines.{continuation, data_line, request_tag, tagged, response, datum, state_datum, status_data, ended_datum, status_line, numbered_line, mailbox_line, list_line, capability_line, enabled_line, annotation_line, vanished_line, quota_line, id_line, acl_line}
 
 -- ---- responses
 
@@ -55,16 +47,6 @@ unfolding response_code
 no_code = by_other "[" response_code never (λ m. refl)
 
 -- ---- data
-
--- Where this is unfolded, so is each rule of mailbox data as far as its first byte.
-unfoldable mailbox_rules : ⊤
-unfolding flags exists list lsub mailbox_status recent search labels msgid thrid sort mailbox_datum gmail_label_list gmail_msgid gmail_thrid metadata_solicited metadata_unsolicited metadata_mailbox
-mailbox_rules = tt
-
--- Where this is unfolded, the choice is, and each rule of a datum as far as its first byte.
-unfoldable datum_rules : ⊤
-unfolding mailbox_rules ended_datum datum state_datum extension_datum status_data expunge fetch vanished_data status capability_data enabled_data vanished quota quota_root id acl list_rights my_rights number digits
-datum_rules = tt
 
 pub datum_none : (m : List ℕ) → slice_get m 0 ≡ None → step ended_datum m ≡ Err (Incomplete Unknown)
 unfolding ended_datum datum state_datum status_data status

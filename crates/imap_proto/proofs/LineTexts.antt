@@ -1,4 +1,4 @@
--- Lines read back.
+-- Lines: what is taken spells the response, and its canonical text reads back.
 use Rattle.std.proofs.Common.{◌≡◌, ℕ, ◌<◌, ◌^◌, Bool, true, false, not, ◌||◌, ◌==◌, nat_lt, List, [], ◌∷◌, ◌++◌, length, codes, decimal, cond, sym, subst, refl, inl, inr, append_assoc, arith}
 use Prim.Native.String.{String}
 use Rattle.std.specs.List.{list_all, list_any}
@@ -13,50 +13,50 @@ use Rattle.imap_grammar.specs.Answer.{Returned, Gives}
 use Rattle.imap_grammar.specs.Text.{Bytes, Text}
 use Rattle.imap_grammar.specs.Tags.{same_letter, word, crlf}
 use Rattle.imap_grammar.specs.Pieces.{Raw, Lit, Pieces, ◌then◌, words, raw, space, literal_text, separated, written, Fits}
-use Rattle.imap_grammar.specs.ReadBack.{Texts, ReadsBack, ReadsBackIf, Takes, Apart, Spells, Any, BeginsWith, Closes}
+use Rattle.imap_grammar.specs.ReadBack.{Texts, ReadsBackIf, Takes, Apart, Spells, Any, BeginsWith, Closes, SpellsAndReadsBack}
 use Rattle.imap_grammar.specs.Spelling.{exactly, ◌and◌, all_of}
 use Rattle.imap_grammar.proofs.Agreement.{agrees}
 use Rattle.imap_grammar.proofs.Yields.{Yields, either_yields, given_yields, made_yields, left_yields, right_yields}
-use Rattle.imap_grammar.proofs.Reading.{reads-gives, reads-seq, reads-follow, reads-test, reads-run1, first, apart-where, apart-alt, apart-gives, apart_forms, denials, denies-gives, denies-after, denies-alt, denies-behind, denies-tag, tag-on, written_on, run1-has, test-has, first_yields, takes-seq, takes-some, takes-bytes, Begins, begun, ◌▹ʳ◌}
+use Rattle.imap_grammar.proofs.Reading.{reads-test, reads-run1, apart-where, apart-alt, apart-gives, apart_forms, denials, denies-gives, denies-after, denies-alt, denies-behind, denies-tag, tag-on, written_on, run1-has, test-has, first_yields, takes-seq, takes-some, takes-bytes, Begins, begun}
 use Rattle.imap_grammar.proofs.ReadingWords.{apart_byte}
 use Rattle.imap_grammar.proofs.ReadingLists.{takes-text, takes-word, takes-none}
 use Rattle.imap_grammar.proofs.ReadingIf.{if-all, seq-if, after-if, before-if, gives-if, alt-if}
 use Rattle.imap_grammar.proofs.Spelling.{◌⨾ˢ◌, ◌▹ˢ◌, ◌◃ˢ◌, ◌orˢ◌, spells-gives, spells-wider, spells-where, spells-tag, spells-word, spells-crlf, spells-utf8, spells-run0, spells-maybe_space}
-use Rattle.imap_bytes.specs.Numbers.{digits, number}
-use Rattle.imap_bytes.proofs.ReadingTexts.{not_digit, number_first, reads-number}
+use Rattle.imap_grammar.proofs.Keeping.{keeps-word, keeps-seq, keeps-gives, keeps-follow, keeps-anywhere, keeps-wider, keeps-first}
+use Rattle.imap_bytes.proofs.ReadingTexts.{not_digit, number_first}
 use Rattle.imap_bytes.proofs.ReadingCounts.{number_starts, numbers_yield, reads-counted}
 use Rattle.imap_bytes.proofs.SpellingTexts.{spells-number}
+use Rattle.imap_bytes.proofs.Keeping.{keeps-number}
 use Rattle.imap_shared.specs.Statuses.{status}
 use Rattle.imap_shared.specs.Capabilities.{capability_data, enabled_data}
 use Rattle.imap_shared.specs.CapabilityTexts.{canonical_each}
-use Rattle.imap_shared.specs.Gmail.{gmail_label_list, gmail_msgid, gmail_thrid}
-use Rattle.imap_shared.proofs.StatusTexts.{reads_status, status_spells}
+use Rattle.imap_shared.proofs.StatusTexts.{keeps_status}
 use Rattle.imap_shared.proofs.CapabilityTexts.{offered_yields, enabled_yields, keeps_capability_data, keeps_enabled_data}
-use Rattle.imap_data.specs.DatumValues.{Exists, Flags, Listed, Search, Sort, Recent, GmailLabels, GmailMsgId, GmailThrId}
-use Rattle.imap_data.specs.MailboxData.{flags, exists, list, lsub, status_of, status as mailbox_status, recent, search as search_rule, labels, msgid, thrid, sort, mailbox_datum}
-use Rattle.imap_data.specs.MailboxDataTexts.{canonical_datum}
-use Rattle.imap_data.specs.Annotations.{metadata_mailbox, annotations}
-use Rattle.imap_data.specs.AnnotationTexts.{canonical_metadata}
-use Rattle.imap_data.proofs.AnnotationTexts.{reads_metadata}
-use Rattle.imap_data.specs.Annotations.{solicited_of, unsolicited_of, metadata_solicited, metadata_unsolicited}
-use Rattle.imap_data.proofs.MailboxDataTexts.{reads_mailbox_datum, mailbox_datum_spells}
-use Rattle.imap_data.proofs.AnnotationTexts.{keeps_solicited, keeps_unsolicited}
-use Rattle.imap_extensions.specs.Vanishings.{vanished}
+use Rattle.imap_shared.specs.StatusTexts.{canonical_status}
 use Rattle.imap_extensions.specs.Quotas.{quota, quota_root}
-use Rattle.imap_extensions.specs.Ids.{id}
-use Rattle.imap_extensions.specs.Acls.{ListRightsValue, MyRightsValue, acl, list_rights, my_rights}
 use Rattle.imap_extensions.proofs.VanishingTexts.{keeps_vanished}
 use Rattle.imap_extensions.proofs.QuotaTexts.{keeps_quota, keeps_quota_root}
 use Rattle.imap_extensions.proofs.IdTexts.{keeps_id}
 use Rattle.imap_extensions.proofs.AclTexts.{keeps_acl, keeps_my_rights}
 use Rattle.imap_extensions.proofs.OptionalRights.{keeps_list_rights}
-use Rattle.imap_body.proofs.AttributeTexts.{reads_attribute_list, attribute_list_spells}
+use Rattle.imap_extensions.specs.Acls.{ListRightsValue, MyRightsValue}
+use Rattle.imap_data.specs.DatumValues.{Exists, Flags, Listed, Search, Sort, Recent, GmailLabels, GmailMsgId, GmailThrId}
+use Rattle.imap_data.specs.MailboxData.{flags, exists, list, lsub, status_of, status as mailbox_status, recent, search as search_rule, labels, msgid, thrid, sort, mailbox_datum}
+use Rattle.imap_data.specs.MailboxDataTexts.{canonical_datum}
+use Rattle.imap_data.specs.Annotations.{metadata_mailbox, annotations}
+use Rattle.imap_data.specs.AnnotationTexts.{canonical_metadata}
+use Rattle.imap_data.proofs.AnnotationTexts.{keeps_metadata_mailbox}
+use Rattle.imap_data.specs.Annotations.{solicited_of, unsolicited_of, metadata_solicited, metadata_unsolicited}
+use Rattle.imap_data.proofs.AnnotationTexts.{keeps_solicited, keeps_unsolicited}
+use Rattle.imap_data.proofs.MailboxDataTexts.{keeps_mailbox_datum}
+use Rattle.imap_data.proofs.Rules.{last_rules}
 use Rattle.imap_body.specs.AttributeTexts.{canonical_attributes}
-use Rattle.imap_proto.specs.Responses.{ResponseValue, Capabilities, Continue, Expunge, MailboxData, Quota, QuotaRoot, Id, Acl, ListRights, MyRights, lent_response}
-use Rattle.imap_proto.specs.Lines.{continuation, data_of, status_data, expunge, fetch_of, fetched, fetch, vanished_of, vanished_data, state_datum, extension_datum, datum, is_space, spaces, ended_datum, data_line, is_tag_char, request_tag, done_of, tagged, response}
-use Rattle.imap_shared.specs.StatusTexts.{canonical_status}
+use Rattle.imap_body.proofs.AttributeTexts.{keeps_attribute_list}
+use Rattle.imap_proto.specs.Responses.{ResponseValue, Capabilities, Continue, Done, Expunge, MailboxData, Quota, QuotaRoot, Id, Acl, ListRights, MyRights, lent_response}
+use Rattle.imap_proto.specs.Lines.{continuation, data_of, status_data, expunge, fetch_of, fetched, fetch, vanished_of, state_datum, extension_datum, datum, is_space, spaces, ended_datum, data_line, is_tag_char, request_tag, done_of, tagged, response}
 use Rattle.imap_proto.specs.OutcomeTexts.{canonical_spaced, Ends}
 use Rattle.imap_proto.specs.LineTexts.{line_end, canonical_data, canonical_response, spells_data, ends_line, spells_response, Spelled, has_bracket, is_too_long, CanonicalReadsBack}
+use Rattle.imap_proto.proofs.Rules.{message_rules, state_rules, extension_rules}
 use Rattle.imap_proto.proofs.OutcomeTexts.{reads_outcome, reads_spaced, outcome_spells, spaced_spells}
 use Rattle.imap_proto.proofs.FirstApart.{one_of, StartsOneOf, denies_one_of, apart_first, digit_one_of, small_numbers, other_behind}
 
@@ -68,38 +68,46 @@ ends_closes = begun Closes (λ u. refl)
 
 -- ---- each datum
 
+-- what it takes spells the datum, whose canonical text reads back before the end of a line
+abbrev KeepsDatum : Rule ResponseValue → Type 0
+KeepsDatum a = SpellsAndReadsBack a lent_response canonical_data spells_data Ends
+
 reads_status_data : ReadsBackIf NoBracket status_data lent_response canonical_data Ends
 unfolding status_data
-reads_status_data = gives-if data_of (seq-if reads_status reads_spaced (λ y t g. tt)) (λ x. refl)
+reads_status_data = gives-if data_of (seq-if keeps_status.back reads_spaced (λ y t g. tt)) (λ x. refl)
 
 abbrev mailbox : Rule ResponseValue
 mailbox = gives MailboxData mailbox_datum
 
-reads_mailbox : ReadsBack mailbox lent_response canonical_data Ends
-reads_mailbox = reads-gives MailboxData (reads-follow reads_mailbox_datum ends_closes) (λ x. refl)
+keeps_mailbox : KeepsDatum mailbox
+keeps_mailbox = keeps-gives MailboxData (keeps-follow keeps_mailbox_datum ends_closes) (λ x. refl)
 
 at_end : {A : Type 0} {a : Rule A} {p : Pieces} → Takes a p Any → Takes a p Ends
 at_end h = record { taken = λ f t g. h.taken f t tt }
 
-reads_expunge : ReadsBack expunge lent_response canonical_data Ends
+keeps_expunge : KeepsDatum expunge
 unfolding expunge
-reads_expunge = reads-counted Expunge " EXPUNGE" " EXPUNGE" (at_end (takes-word " EXPUNGE" " EXPUNGE" refl)) (λ n. refl) (λ t. refl) (λ n. refl)
+keeps_expunge = record {
+  spelled = spells-gives Expunge (spells-number ◃ˢ spells-word " EXPUNGE");
+  back = reads-counted Expunge " EXPUNGE" " EXPUNGE" (at_end (takes-word " EXPUNGE" " EXPUNGE" refl)) (λ n. refl) (λ t. refl) (λ n. refl);
+}
 
-reads_fetch : ReadsBack fetch lent_response canonical_data Ends
+keeps_fetch : KeepsDatum fetch
 unfolding fetch fetched
-reads_fetch = reads-gives fetch_of (reads-seq reads-number (takes-word " FETCH " " FETCH " refl ▹ʳ reads-follow reads_attribute_list (λ t g. tt)) (λ y t g. refl)) (λ x. refl)
+keeps_fetch = keeps-gives fetch_of (keeps-seq keeps-number (keeps-word " FETCH " (keeps-anywhere keeps_attribute_list)) (λ y t g. refl)) (λ x. refl)
 
-reads_capabilities : ReadsBack (gives Capabilities capability_data) lent_response canonical_data Ends
-reads_capabilities = reads-gives Capabilities (reads-follow keeps_capability_data.back ends_closes) (λ x. refl)
+-- CAPABILITY and ENABLED are one kind of response, and spelled either way
+keeps_capabilities : KeepsDatum (gives Capabilities capability_data)
+keeps_capabilities = keeps-gives Capabilities (keeps-wider (keeps-follow keeps_capability_data ends_closes) (λ v c h. inl h)) (λ x. refl)
 
-reads_enabled : ReadsBack (gives Capabilities enabled_data) lent_response canonical_data Ends
-reads_enabled = reads-gives Capabilities (reads-follow keeps_enabled_data.back ends_closes) (λ x. refl)
+keeps_enabled : KeepsDatum (gives Capabilities enabled_data)
+keeps_enabled = keeps-gives Capabilities (keeps-wider (keeps-follow keeps_enabled_data ends_closes) (λ v c h. inr h)) (λ x. refl)
 
-reads_solicited : ReadsBack (gives MailboxData metadata_solicited) lent_response canonical_data Ends
-reads_solicited = reads-gives MailboxData (reads-follow keeps_solicited.back ends_closes) (λ x. refl)
+keeps_with_values : KeepsDatum (gives MailboxData metadata_solicited)
+keeps_with_values = keeps-gives MailboxData (keeps-anywhere keeps_solicited) (λ x. refl)
 
-reads_unsolicited : ReadsBack (gives MailboxData metadata_unsolicited) lent_response canonical_data Ends
-reads_unsolicited = reads-gives MailboxData (reads-follow keeps_unsolicited.back ends_closes) (λ x. refl)
+keeps_without_values : KeepsDatum (gives MailboxData metadata_unsolicited)
+keeps_without_values = keeps-gives MailboxData (keeps-follow keeps_unsolicited ends_closes) (λ x. refl)
 
 -- ---- what their texts begin with
 
@@ -107,7 +115,7 @@ digit : (b : ℕ) → is_digit b ≡ true → one_of (codes "0123456789CEFLMSX")
 digit = digit_one_of (codes "CEFLMSX")
 
 datum_starts : Yields (StartsOneOf "0123456789CEFLMSX" canonical_datum) mailbox_datum
-unfolding mailbox_datum flags exists list lsub mailbox_status recent search_rule labels msgid thrid sort
+unfolding mailbox_datum flags exists list lsub mailbox_status recent last_rules
 datum_starts =
     either_yields (made_yields Flags (λ x t. refl))
     (either_yields (given_yields Exists (left_yields numbers_yield) (λ n small t. number_starts _ digit n small (words " EXISTS") t))
@@ -155,7 +163,7 @@ named_start ks c e m = either_yields (capabilities_start ks c) (either_yields (e
 -- ---- a number before another word
 
 no_datum_at_number : (n : ℕ) (t : Bytes) → n < 2 ^ 32 → BeginsWith not_digit t → differs same_letter (codes " EXISTS") t ≡ true → differs same_letter (codes " RECENT") t ≡ true → Denies (meaning mailbox_datum) (decimal n ++ t)
-unfolding mailbox_datum flags exists list lsub mailbox_status recent search_rule labels gmail_label_list msgid gmail_msgid thrid gmail_thrid sort
+unfolding mailbox_datum flags exists list lsub mailbox_status recent last_rules
 no_datum_at_number n t small ends no_exists no_recent =
     denies-alt _ _ _ (denies_one_of flags "0123456789" refl _ at_digit)
     (denies-alt _ _ _ (other_behind Exists " EXISTS" n t small ends no_exists)
@@ -210,54 +218,32 @@ solicited_apart = record {
       subst (λ w. Denies (meaning (gives MailboxData metadata_solicited)) (written (canonical_data w) ++ t)) y.2
       (subst (λ w. Denies (meaning (gives MailboxData metadata_solicited)) (written (canonical_datum w) ++ t)) inner.2
       (subst (λ l. Denies (meaning (gives MailboxData metadata_solicited)) l) (sym (written_on (canonical_metadata inner.0.0) (separated space literal_text names) t))
-      (inr (_, tail, reads_metadata.again m inner.0.0 parts.0 parts.1 tt tail tt, no_values names t g))));
+      (inr (_, tail, keeps_metadata_mailbox.back.again m inner.0.0 parts.0 parts.1 tt tail tt, no_values names t g))));
 }
 
 -- ---- the state of the server and of a mailbox
 
-reads_named : ReadsBack named_data lent_response canonical_data Ends
+keeps_named : KeepsDatum named_data
 unfolding capability_data enabled_data metadata_mailbox
-reads_named =
-    first reads_capabilities (apart_first "EM" (either_yields (enabled_start "EM" refl) (annotations_start "EM" refl)) refl)
-    (first reads_enabled (apart_first "M" (annotations_start "M" refl) refl)
-    (first reads_solicited solicited_apart reads_unsolicited))
+keeps_named =
+    keeps-first keeps_capabilities (apart_first "EM" (either_yields (enabled_start "EM" refl) (annotations_start "EM" refl)) refl)
+    (keeps-first keeps_enabled (apart_first "M" (annotations_start "M" refl) refl)
+    (keeps-first keeps_with_values solicited_apart keeps_without_values))
 
-reads_mailbox_data : ReadsBack (mailbox or expunge or fetch or named_data) lent_response canonical_data Ends
-unfolding mailbox_datum flags exists list lsub mailbox_status recent search_rule labels gmail_label_list msgid gmail_msgid thrid gmail_thrid sort expunge fetch number digits
-reads_mailbox_data =
-    first reads_mailbox (apart-alt _ _ mailbox_expunge (apart-alt _ _ mailbox_fetch (apart_first "CEM" (named_start "CEM" refl refl refl) refl)))
-    (first reads_expunge (apart-alt _ _ expunge_fetch (apart_first "CEM" (named_start "CEM" refl refl refl) refl))
-    (first reads_fetch (apart_first "CEM" (named_start "CEM" refl refl refl) refl) reads_named))
+keeps_messages : KeepsDatum (mailbox or expunge or fetch or named_data)
+unfolding message_rules
+keeps_messages =
+    keeps-first keeps_mailbox (apart-alt _ _ mailbox_expunge (apart-alt _ _ mailbox_fetch (apart_first "CEM" (named_start "CEM" refl refl refl) refl)))
+    (keeps-first keeps_expunge (apart-alt _ _ expunge_fetch (apart_first "CEM" (named_start "CEM" refl refl refl) refl))
+    (keeps-first keeps_fetch (apart_first "CEM" (named_start "CEM" refl refl refl) refl) keeps_named))
 
 reads_state : ReadsBackIf NoBracket state_datum lent_response canonical_data Ends
 unfolding state_datum status_data status
 reads_state =
-    alt-if reads_status_data (if-all reads_mailbox_data)
+    alt-if reads_status_data (if-all keeps_messages.back)
     (apart_first "0123456789CEFLMSX" (either_yields mailbox_starts (either_yields expunge_starts (either_yields fetch_starts (named_start "0123456789CEFLMSX" refl refl refl)))) refl)
 
 -- ---- extensions
-
-reads_vanished : ReadsBack vanished_data lent_response canonical_data Ends
-unfolding vanished_data
-reads_vanished = reads-gives vanished_of (reads-follow keeps_vanished.back ends_closes) (λ x. refl)
-
-reads_quota : ReadsBack (gives Quota quota) lent_response canonical_data Ends
-reads_quota = reads-gives Quota (reads-follow keeps_quota.back ends_closes) (λ x. refl)
-
-reads_quota_root : ReadsBack (gives QuotaRoot quota_root) lent_response canonical_data Ends
-reads_quota_root = reads-gives QuotaRoot (reads-follow keeps_quota_root.back ends_closes) (λ x. refl)
-
-reads_id : ReadsBack (gives Id id) lent_response canonical_data Ends
-reads_id = reads-gives Id (reads-follow keeps_id.back ends_closes) (λ x. refl)
-
-reads_acl : ReadsBack (gives Acl acl) lent_response canonical_data Ends
-reads_acl = reads-gives Acl (reads-follow keeps_acl.back ends_closes) (λ x. refl)
-
-reads_list_rights : ReadsBack (gives ListRights list_rights) lent_response canonical_data Ends
-reads_list_rights = reads-gives ListRights (reads-follow keeps_list_rights.back ends_closes) (λ x. refl)
-
-reads_my_rights : ReadsBack (gives MyRights my_rights) lent_response canonical_data Ends
-reads_my_rights = reads-gives MyRights (reads-follow keeps_my_rights.back ends_closes) (λ x. refl)
 
 -- behind `QUOTA` a blank is wanted
 quota_apart : Apart (gives Quota quota) (gives QuotaRoot quota_root) canonical_data Ends
@@ -265,26 +251,27 @@ unfolding quota
 quota_apart = apart-gives _ QuotaRoot
     (λ x t g. denies-gives _ _ _ (denies-gives _ _ _ (denies-behind (word "QUOTA") _ _ (codes "QUOTA") _ (tag-on same_letter (codes "QUOTA") (codes "QUOTA") _ refl) (search denials depth 10))))
 
-reads_extension : ReadsBack extension_datum lent_response canonical_data Ends
-unfolding extension_datum vanished_data vanished quota quota_root id acl list_rights my_rights
-reads_extension =
-    first reads_vanished (search apart_forms depth 20)
-    (first reads_quota (apart-alt _ _ quota_apart (search apart_forms depth 20))
-    (first reads_quota_root (search apart_forms depth 20)
-    (first reads_id (search apart_forms depth 20)
-    (first reads_acl (search apart_forms depth 20)
-    (first reads_list_rights (search apart_forms depth 20) reads_my_rights)))))
+keeps_extension : KeepsDatum extension_datum
+unfolding extension_rules
+keeps_extension =
+    keeps-first (keeps-gives vanished_of (keeps-follow keeps_vanished ends_closes) (λ x. refl)) (search apart_forms depth 20)
+    (keeps-first (keeps-gives Quota (keeps-anywhere keeps_quota) (λ x. refl)) (apart-alt _ _ quota_apart (search apart_forms depth 20))
+    (keeps-first (keeps-gives QuotaRoot (keeps-follow keeps_quota_root ends_closes) (λ x. refl)) (search apart_forms depth 20)
+    (keeps-first (keeps-gives Id (keeps-follow keeps_id ends_closes) (λ x. refl)) (search apart_forms depth 20)
+    (keeps-first (keeps-gives Acl (keeps-follow keeps_acl ends_closes) (λ x. refl)) (search apart_forms depth 20)
+    (keeps-first (keeps-gives ListRights (keeps-follow keeps_list_rights ends_closes) (λ x. refl)) (search apart_forms depth 20)
+    (keeps-gives MyRights (keeps-anywhere keeps_my_rights) (λ x. refl)))))))
 
 no_state_at_list_rights : (x : ListRightsValue) (t : Bytes) → Denies (meaning state_datum) (written (canonical_data (ListRights x)) ++ t)
-unfolding state_datum status_data status mailbox_datum flags exists list lsub mailbox_status recent search_rule labels gmail_label_list msgid gmail_msgid thrid gmail_thrid sort expunge fetch number digits capability_data enabled_data metadata_solicited metadata_unsolicited metadata_mailbox
+unfolding state_rules
 no_state_at_list_rights x t = search denials depth 30
 
 no_state_at_my_rights : (x : MyRightsValue) (t : Bytes) → Denies (meaning state_datum) (written (canonical_data (MyRights x)) ++ t)
-unfolding state_datum status_data status mailbox_datum flags exists list lsub mailbox_status recent search_rule labels gmail_label_list msgid gmail_msgid thrid gmail_thrid sort expunge fetch number digits capability_data enabled_data metadata_solicited metadata_unsolicited metadata_mailbox
+unfolding state_rules
 no_state_at_my_rights x t = search denials depth 30
 
 state_apart : Apart state_datum extension_datum canonical_data Ends
-unfolding extension_datum vanished_data state_datum status_data status mailbox_datum flags exists list lsub mailbox_status recent search_rule labels gmail_label_list msgid gmail_msgid thrid gmail_thrid sort expunge fetch number digits capability_data enabled_data metadata_solicited metadata_unsolicited metadata_mailbox
+unfolding extension_rules state_rules
 state_apart =
     apart-alt _ _ (apart_first "V" (made_yields vanished_of (λ x t. refl)) refl)
     (apart-alt _ _ (apart_first "Q" (made_yields Quota (λ x t. refl)) refl)
@@ -295,7 +282,11 @@ state_apart =
 
 reads_datum : ReadsBackIf NoBracket datum lent_response canonical_data Ends
 unfolding datum
-reads_datum = alt-if reads_state (if-all reads_extension) state_apart
+reads_datum = alt-if reads_state (if-all keeps_extension.back) state_apart
+
+datum_spells : Spells datum spells_data
+unfolding datum state_datum status_data
+datum_spells = (spells-gives data_of (keeps_status.spelled ⨾ˢ spaced_spells) orˢ keeps_messages.spelled) orˢ keeps_extension.spelled
 
 -- ---- lines
 
@@ -317,23 +308,14 @@ reads_stars = after-if (takes-text "* ") (before-if reads_datum takes_line_end (
 abbrev IsDataLine : ResponseValue → Type 0
 IsDataLine r = (data_text r ≡ canonical_response r) × ((c : Bytes) → spells_data_line r c → spells_response r c)
 
+is_data_line : (r : ResponseValue) (c : Bytes) → spells_data r c → IsDataLine r
+is_data_line (Continue _) c h = absurd h
+is_data_line (Done _ _ _) c h = absurd h
+is_data_line other c h = (refl, λ b k. k)
+
 data_lines : Yields IsDataLine data_line
-unfolding data_line ended_datum datum state_datum status_data expunge fetch extension_datum vanished_data
-data_lines =
-    right_yields (left_yields (either_yields
-    (either_yields (made_yields data_of (λ x. (refl, λ c h. h)))
-    (either_yields (made_yields MailboxData (λ x. (refl, λ c h. h)))
-    (either_yields (made_yields Expunge (λ x. (refl, λ c h. h)))
-    (either_yields (made_yields fetch_of (λ x. (refl, λ c h. h)))
-    (either_yields (made_yields Capabilities (λ x. (refl, λ c h. h)))
-    (either_yields (made_yields Capabilities (λ x. (refl, λ c h. h)))
-    (either_yields (made_yields MailboxData (λ x. (refl, λ c h. h))) (made_yields MailboxData (λ x. (refl, λ c h. h))))))))))
-    (either_yields (made_yields vanished_of (λ x. (refl, λ c h. h)))
-    (either_yields (made_yields Quota (λ x. (refl, λ c h. h)))
-    (either_yields (made_yields QuotaRoot (λ x. (refl, λ c h. h)))
-    (either_yields (made_yields Id (λ x. (refl, λ c h. h)))
-    (either_yields (made_yields Acl (λ x. (refl, λ c h. h)))
-    (either_yields (made_yields ListRights (λ x. (refl, λ c h. h))) (made_yields MyRights (λ x. (refl, λ c h. h)))))))))))
+unfolding data_line ended_datum
+data_lines = right_yields (left_yields (record { each = λ m v rest y. let taken = datum_spells.consumed m v rest y in is_data_line v taken.0 taken.2 }))
 
 reads_data_line : ReadsBackIf NoBracket data_line lent_response canonical_response Any
 reads_data_line = record {
@@ -354,7 +336,7 @@ unfolding tagged request_tag
 reads_tagged =
     gives-if done_of
     (seq-if (reads-test is_utf8 (reads-run1 is_tag_char) (λ v e. e))
-    (after-if (takes-text " ") (seq-if reads_status (before-if reads_spaced (takes-bytes (13 ∷ 10 ∷ [])) (λ t g. (10 ∷ t, refl))) (λ y t g. tt)))
+    (after-if (takes-text " ") (seq-if keeps_status.back (before-if reads_spaced (takes-bytes (13 ∷ 10 ∷ [])) (λ t g. (10 ∷ t, refl))) (λ y t g. tt)))
     (λ y t g. refl))
     (λ x. refl)
 
@@ -424,25 +406,6 @@ canonical_reads_back m r rest y plain short t = reads_response.again m r rest y 
 
 -- ---- spelling
 
-datum_spells : Spells datum spells_data
-unfolding datum state_datum status_data expunge fetch fetched extension_datum vanished_data
-datum_spells =
-    (spells-gives data_of (status_spells ⨾ˢ spaced_spells)
-    orˢ spells-gives MailboxData mailbox_datum_spells
-    orˢ spells-gives Expunge (spells-number ◃ˢ spells-word " EXPUNGE")
-    orˢ spells-gives fetch_of (spells-number ⨾ˢ spells-word " FETCH " ▹ˢ attribute_list_spells)
-    orˢ spells-gives Capabilities (spells-wider keeps_capability_data.spelled (λ v c h. inl h))
-    orˢ spells-gives Capabilities (spells-wider keeps_enabled_data.spelled (λ v c h. inr h))
-    orˢ spells-gives MailboxData keeps_solicited.spelled
-    orˢ spells-gives MailboxData keeps_unsolicited.spelled)
-    orˢ spells-gives vanished_of keeps_vanished.spelled
-    orˢ spells-gives Quota keeps_quota.spelled
-    orˢ spells-gives QuotaRoot keeps_quota_root.spelled
-    orˢ spells-gives Id keeps_id.spelled
-    orˢ spells-gives Acl keeps_acl.spelled
-    orˢ spells-gives ListRights keeps_list_rights.spelled
-    orˢ spells-gives MyRights keeps_my_rights.spelled
-
 spaces_spell : Spells spaces (λ _. all_of is_space)
 unfolding spaces
 spaces_spell = spells-wider (spells-run0 is_space) (λ v c h. subst (all_of is_space) (sym h.0) h.1)
@@ -457,7 +420,7 @@ continuation_spells = spells-gives Continue (spells-tag "+" ▹ˢ spells-maybe_s
 
 tagged_spells : Spells tagged spells_response
 unfolding tagged request_tag
-tagged_spells = spells-gives done_of (spells-utf8 is_tag_char ⨾ˢ spells-tag " " ▹ˢ status_spells ⨾ˢ spaced_spells ◃ˢ spells-crlf)
+tagged_spells = spells-gives done_of (spells-utf8 is_tag_char ⨾ˢ spells-tag " " ▹ˢ keeps_status.spelled ⨾ˢ spaced_spells ◃ˢ spells-crlf)
 
 pub response_spells : Spells response spells_response
 unfolding response

@@ -24,16 +24,13 @@ module _ (a b : Bool) where
   response (said.Continue o) = ap (λ x. said.Continue x) (outcome o)
   response (said.Done tag status o) = ap (λ x. said.Done tag status x) (outcome o)
   response (said.Data status o) = ap (λ x. said.Data status x) (outcome o)
-  response (said.Expunge n) = refl
-  response (said.Vanished earlier uids) = refl
   response (said.Fetch n attributes) = ap (λ x. said.Fetch n x) (lists a b changed_attribute (attribute a b) attributes)
   response (said.MailboxData d) = ap (λ x. said.MailboxData x) (datum a b d)
   response (said.Quota q) = ap (λ x. said.Quota x) (quota a b q)
   response (said.QuotaRoot q) = ap (λ x. said.QuotaRoot x) (quota_root a b q)
   response (said.Id m) = ap (λ x. said.Id x) (options a b changed_id (id_map a b) m)
   response (said.Acl list) = ap (λ x. said.Acl x) (acl a b list)
-  response (said.ListRights r) = refl
-  response (said.MyRights r) = refl
+  response other = refl
 
 -- a response with its texts borrowed is the same response, and so is an owned one
 pub lent_is_same : (r : ResponseValue) → Same (lent_response r) r

@@ -58,32 +58,20 @@ response (said.Continue o) = ap (λ x. words "+" then space then x then line_end
 response (said.Done tag status o) = ap (λ x. raw tag then space then canonical_status status then x then line_end) (spaced o)
 response (said.Data status o) = ap (λ x. in_line (canonical_status status then x)) (spaced o)
 response (said.MailboxData d) = ap in_line (datum d)
-response (said.Expunge n) = refl
 response (said.Fetch n vs) = ap (λ x. in_line (number_text n then words " FETCH " then x)) (attributes vs)
 response (said.Capabilities cs) = ap in_line (capabilities cs)
-response (said.Vanished earlier uids) = refl
 response (said.Quota q) = ap in_line (quota q)
 response (said.QuotaRoot q) = ap in_line (quota_root q)
 response (said.Id ps) = ap in_line (id ps)
 response (said.Acl a) = ap in_line (acl a)
-response (said.ListRights r) = refl
-response (said.MyRights r) = refl
+response other = refl
 
 brackets : (r : ResponseValue) → has_bracket (lent_response r) ≡ has_bracket r
 brackets (said.Continue o) = bracket o
 brackets (said.Done tag status o) = bracket o
 brackets (said.Data status o) = bracket o
 brackets (said.MailboxData d) = refl
-brackets (said.Expunge n) = refl
-brackets (said.Fetch n vs) = refl
-brackets (said.Capabilities cs) = refl
-brackets (said.Vanished earlier uids) = refl
-brackets (said.Quota q) = refl
-brackets (said.QuotaRoot q) = refl
-brackets (said.Id ps) = refl
-brackets (said.Acl a) = refl
-brackets (said.ListRights r) = refl
-brackets (said.MyRights r) = refl
+brackets other = refl
 
 pub said_alike : SaidAlike
 said_alike r s same =

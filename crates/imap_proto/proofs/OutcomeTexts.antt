@@ -23,7 +23,7 @@ use Rattle.imap_bytes.proofs.ReadingQuoted.{lossy_some}
 use Rattle.imap_bytes.proofs.SpellingTexts.{spells-text}
 use Rattle.imap_data.specs.Codes.{CodeValue, lent_code, response_code}
 use Rattle.imap_data.specs.CodeTexts.{canonical_response_code, spells_response_code}
-use Rattle.imap_data.proofs.CodeTexts.{reads_response_code, keeps_response_code}
+use Rattle.imap_data.proofs.CodeTexts.{keeps_response_code}
 use Rattle.imap_proto.specs.Responses.{OutcomeValue, lent_outcome}
 use Rattle.imap_proto.specs.Outcomes.{bytes_after_first, outcome_of, outcome, no_outcome, spaced_outcome}
 use Rattle.imap_proto.specs.OutcomeTexts.{canonical_outcome, canonical_spaced, is_bracketed, IsPlain, Ends, spells_outcome, spells_spaced}
@@ -34,7 +34,7 @@ canonical_maybe_code None = []
 canonical_maybe_code (Some c) = canonical_response_code c
 
 reads_maybe_code : ReadsBack (opt response_code) (option_map lent_code) canonical_maybe_code (λ t. Denies (meaning response_code) t)
-reads_maybe_code = reads-opt refl (reads-follow reads_response_code (λ t g. tt)) (λ t g. g) (λ x. refl) refl
+reads_maybe_code = reads-opt refl (reads-follow keeps_response_code.back (λ t g. tt)) (λ t g. g) (λ x. refl) refl
 
 no_bracket : (t : Bytes) → differs ◌==◌ (91 ∷ []) t ≡ true → Denies (meaning response_code) t
 unfolding response_code

@@ -12,20 +12,8 @@ use Rattle.imap_proto.specs.Responses as said
 use Rattle.imap_report.specs.Plain.{name_of, counted}
 
 name_owned : (v : ResponseValue) → name_of (owned_response v) ≡ name_of v
-name_owned (said.Capabilities capabilities) = refl
 name_owned (said.Continue o) = refl
-name_owned (said.Done tag status o) = refl
-name_owned (said.Data status o) = refl
-name_owned (said.Expunge n) = refl
-name_owned (said.Vanished earlier uids) = refl
-name_owned (said.Fetch n attributes) = refl
-name_owned (said.MailboxData datum) = refl
-name_owned (said.Quota quota) = refl
-name_owned (said.QuotaRoot root) = refl
-name_owned (said.Id map) = refl
-name_owned (said.Acl acl) = refl
-name_owned (said.ListRights rights) = refl
-name_owned (said.MyRights rights) = refl
+name_owned other = refl
 
 -- so its line is that of the response that it was made from
 pub counted_alike : (owned : ResponseValue) (name : Bytes) (n : ℕ) (r : Result (String Global) AllocError) → name ≡ name_of owned → IfOk r (λ text. string_bytes text ≡ counted name n)

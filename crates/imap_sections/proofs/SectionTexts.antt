@@ -1,4 +1,4 @@
--- Sections read back.
+-- Sections: what their rules take spells them, and their canonical texts read back.
 use Rattle.std.proofs.Common.{◌≡◌, ℕ, Bool, true, false, not, ◌||◌, ◌==◌, List, [], ◌∷◌, ◌++◌, Option, None, Some, sym, ◌∙◌, ap, subst, refl, inl, inr, codes}
 use Rattle.std.proofs.lemmas.Bool.{false≢true, or_cases, or_left, eqb-true}
 use Rattle.std.proofs.lemmas.List.{map-id}
@@ -8,12 +8,13 @@ use Rattle.imap_grammar.specs.Text.{Bytes}
 use Rattle.imap_grammar.specs.Classes.{is_digit}
 use Rattle.imap_grammar.specs.Tags.{same_letter, tag, word, names}
 use Rattle.imap_grammar.specs.Pieces.{Pieces, written, words, ◌then◌, number_text, each}
-use Rattle.imap_grammar.specs.ReadBack.{ReadsBack, Spells, SpellsAndReadsBack, Apart, Any, BeginsWith, Closes, closes, as_is}
+use Rattle.imap_grammar.specs.ReadBack.{Spells, SpellsAndReadsBack, Apart, Any, BeginsWith, Closes, closes, as_is}
 use Rattle.imap_grammar.proofs.Yields.{Yields, right_yields, named_yields, given_yields}
-use Rattle.imap_grammar.proofs.Reading.{reads-word, reads-gives, reads-opt, reads-before, reads-seq, reads-as, first, starts, first_yields, tag-on, apart-names, apart-alt, apart_forms, denials, denies-after, denies-tag, Begins, begun, closes-in, reads-follow, ◌▹ʳ◌, reads-list1_until, apart-where, denies-behind}
+use Rattle.imap_grammar.proofs.Reading.{reads-as, starts, first_yields, tag-on, apart-names, apart-alt, apart_forms, denials, denies-after, denies-tag, Begins, begun, closes-in, reads-list1_until, apart-where, denies-behind}
 use Rattle.imap_grammar.proofs.ReadingLists.{takes-text}
 use Rattle.imap_grammar.proofs.Spelling.{◌⨾ˢ◌, ◌▹ˢ◌, ◌◃ˢ◌, ◌orˢ◌, spells-gives, spells-wider, spells-where, spells-names, spells-nothing, spells-word, spells-tag, spells-maybe, spells-maybe_space, some-between, spells-list1}
 use Rattle.imap_grammar.proofs.ReadingChoices.{reads-later_one}
+use Rattle.imap_grammar.proofs.Keeping.{keeps-names, keeps-tag, keeps-before, keeps-seq, keeps-gives, keeps-follow, keeps-wider, keeps-first, keeps-opt}
 use Rattle.imap_bytes.specs.Numbers.{digits, number}
 use Rattle.imap_bytes.proofs.ReadingTexts.{not_digit, reads-number}
 use Rattle.imap_bytes.proofs.ReadingCounts.{number_starts, numbers_yield, denies-number, denies-word_at_digit}
@@ -22,7 +23,7 @@ use Rattle.imap_sections.specs.declared.types.sections.MessageSection.{MessageSe
 use Rattle.imap_sections.specs.declared.types.sections.MessageSection.TheVariants.{Header, Mime, Text}
 use Rattle.imap_sections.specs.SectionValues.{PathValue, Full, Part}
 use Rattle.imap_sections.specs.Sections.{header_names, header_list, fields_word, not_word, header_fields, section_msgtext, section_text, section_part, part_text, part_path, section_spec, section}
-use Rattle.imap_sections.specs.SectionTexts.{canonical_section_text, canonical_part, canonical_text_behind, canonical_path, canonical_spec, canonical_section, spells_header_names, spells_header_list, spells_message_text, spells_section_text, spells_part, spells_path, spells_section}
+use Rattle.imap_sections.specs.SectionTexts.{canonical_section_text, canonical_part, canonical_text_behind, canonical_path, canonical_spec, canonical_section, spells_header_names, spells_header_list, spells_message_text, spells_section_text, spells_part, spells_path, spells_spec, spells_section}
 
 -- what ends a section's text: `]`, and what ends any text
 abbrev pub ends_section : ℕ → Bool
@@ -66,16 +67,37 @@ header_named : (meaning (names "HEADER" Header or names "TEXT" Text)).yields (co
 unfolding meaning
 header_named = inl ((codes "HEADER", Header), ([], (refl, refl), (refl, refl)), refl)
 
-pub reads_section_msgtext : ReadsBack section_msgtext as_is canonical_section_text EndsSection
-unfolding section_msgtext
-reads_section_msgtext =
-    reads-later_one Header (codes "HEADER") header_yields header_named fields_denied
-    (first (reads-word _ _ Header (codes "HEADER") refl refl refl) (search apart_forms depth 20) (reads-word _ _ Text (codes "TEXT") refl refl refl))
-    fields_apart
+header_names_spell : Spells (otherwise header_names tt) (λ _. spells_header_names)
+unfolding header_names
+header_names_spell = spells-gives _ (spells-wider (spells-list1 (spells-tag " ") spells-astring) (λ v c h. (v, some-between _ _ v c h))) orˢ spells-nothing tt ([], refl)
 
-pub reads_section_text : ReadsBack section_text as_is canonical_section_text EndsSection
+header_list_spells : Spells header_list (λ _. spells_header_list)
+unfolding header_list
+header_list_spells = spells-tag "(" ▹ˢ header_names_spell ◃ˢ (spells-maybe_space ⨾ˢ spells-tag ")")
+
+header_fields_spells : Spells header_fields spells_message_text
+unfolding header_fields fields_word not_word
+header_fields_spells =
+    spells-where header_yields
+    (spells-word "HEADER.FIELDS" ▹ˢ spells-maybe (spells-word ".NOT") ▹ˢ spells-tag " " ▹ˢ spells-names {T = λ _. spells_header_list} Header header_list_spells)
+    (λ v c e h. subst (λ w. spells_message_text w c) (sym e) (inr h))
+
+pub keeps_section_msgtext : SpellsAndReadsBack section_msgtext as_is canonical_section_text spells_message_text EndsSection
+unfolding section_msgtext
+keeps_section_msgtext =
+    let text = keeps-names "TEXT" Text refl refl (λ c h. h) in
+    let others = keeps-first (keeps-names "HEADER" Header refl refl (λ c h. inl h)) (search apart_forms depth 20) text in
+    record { spelled = header_fields_spells orˢ others.spelled; back = reads-later_one Header (codes "HEADER") header_yields header_named fields_denied others.back fields_apart }
+
+-- what names a text of a message names one of a part
+of_part : (what : MessageSection) (c : Bytes) → spells_message_text what c → spells_section_text what c
+of_part Header c h = h
+of_part Mime c h = absurd h
+of_part Text c h = h
+
+pub keeps_section_text : SpellsAndReadsBack section_text as_is canonical_section_text spells_section_text EndsSection
 unfolding section_text section_msgtext header_fields fields_word
-reads_section_text = first reads_section_msgtext (search apart_forms depth 20) (reads-word _ _ Mime (codes "MIME") refl refl refl)
+keeps_section_text = keeps-first (keeps-wider keeps_section_msgtext of_part) (search apart_forms depth 20) (keeps-names "MIME" Mime refl refl (λ c h. h))
 
 -- ---- parts
 
@@ -83,9 +105,16 @@ reads_section_text = first reads_section_msgtext (search apart_forms depth 20) (
 abbrev pub EndsPart : Bytes → Type 0
 EndsPart t = BeginsWith not_digit t × Denies (meaning (tag "." ▹ number)) t
 
-pub reads_section_part : ReadsBack section_part as_is canonical_part EndsPart
+pub keeps_section_part : SpellsAndReadsBack section_part as_is canonical_part spells_part EndsPart
 unfolding section_part
-reads_section_part = reads-as (reads-list1_until (takes-text ".") reads-number (λ y t. tt) (λ t. refl) (λ t g. g.0) (λ t g. g.1)) map-id
+keeps_section_part = record {
+  spelled = spells-list1 (spells-tag ".") spells-number;
+  back = reads-as (reads-list1_until (takes-text ".") reads-number (λ y t. tt) (λ t. refl) (λ t g. g.0) (λ t g. g.1)) map-id;
+}
+
+-- what ends a section's text ends a part
+pub ends_part : (t : Bytes) → EndsSection t → EndsPart t
+ends_part t g = (in_all not_digit refl refl refl t g, denies-after _ _ _ (dot_denied t g))
 
 -- a word behind a dot is no number
 word_ends : (t : Bytes) → BeginsWith not_digit t → EndsPart (46 ∷ t)
@@ -97,18 +126,15 @@ text_ends Mime t = word_ends _ refl
 text_ends Text t = word_ends _ refl
 
 behind_ends : (what : Option MessageSection) (t : Bytes) → EndsSection t → EndsPart (written (canonical_text_behind what) ++ t)
-behind_ends None t g = (in_all not_digit refl refl refl t g, denies-after _ _ _ (dot_denied t g))
+behind_ends None t g = ends_part t g
 behind_ends (Some what) t g = text_ends what t
 
-reads_part_text : ReadsBack part_text as_is (λ what. canonical_text_behind (Some what)) EndsSection
-unfolding part_text
-reads_part_text = takes-text "." ▹ʳ reads_section_text
-
-pub reads_part_path : ReadsBack part_path as_is canonical_path EndsSection
+keeps_part_path : SpellsAndReadsBack part_path as_is canonical_path spells_path EndsSection
 unfolding part_path part_text
-reads_part_path =
-    reads-gives _ (reads-seq reads_section_part
-    (reads-opt {l = as_is} {c = canonical_text_behind} refl reads_part_text (λ t g. denies-after _ _ _ (dot_denied t g)) (λ x. refl) refl)
+keeps_part_path =
+    keeps-gives _
+    (keeps-seq keeps_section_part
+    (keeps-opt {l = as_is} {c = canonical_text_behind} refl refl (keeps-tag "." keeps_section_text) (λ t g. denies-after _ _ _ (dot_denied t g)) (λ x. refl) refl)
     behind_ends)
     (λ x. refl)
 
@@ -137,93 +163,22 @@ text_denied : (m : Bytes) → BeginsWith is_digit m → Denies (meaning (gives F
 unfolding section_msgtext header_fields fields_word
 text_denied m g = search at_digit depth 20
 
-pub reads_section_spec : ReadsBack section_spec as_is canonical_path EndsSection
+pub keeps_section_spec : SpellsAndReadsBack section_spec as_is canonical_path spells_path EndsSection
 unfolding section_spec
-reads_section_spec = first (reads-gives Full reads_section_msgtext (λ x. refl)) (apart-where path_yields (λ v t digit g. text_denied _ (digit t))) reads_part_path
+keeps_section_spec = keeps-first (keeps-gives Full keeps_section_msgtext (λ x. refl)) (apart-where path_yields (λ v t digit g. text_denied _ (digit t))) keeps_part_path
 
 -- nothing between the brackets
 none_denied : (t : Bytes) → Denies (meaning section_spec) (93 ∷ t)
 unfolding section_spec section_msgtext header_fields fields_word part_path section_part number digits
 none_denied t = search denials depth 20
 
-pub reads_section : ReadsBack section as_is canonical_section Any
+pub keeps_section : SpellsAndReadsBack section as_is canonical_section spells_section Any
 unfolding section
-reads_section =
-    takes-text "[" ▹ʳ
-    reads-before
-    (reads-opt {l = as_is} {c = canonical_spec} {F = Begins 93} refl (reads-follow reads_section_spec (begun _ (λ u. refl))) (begun _ none_denied) (λ x. refl) refl)
-    (takes-text "]") (λ t g. (t, refl))
+keeps_section =
+    keeps-tag "["
+    (keeps-before "]"
+    (keeps-opt {l = as_is} {c = canonical_spec} {T = spells_spec} {F = Begins 93} refl refl (keeps-follow keeps_section_spec (begun _ (λ u. refl))) (begun _ none_denied) (λ x. refl) refl)
+    (λ t. (t, refl)))
 
--- ---- spelling
-
-header_names_spell : Spells (otherwise header_names tt) (λ _. spells_header_names)
-unfolding header_names
-header_names_spell = spells-gives _ (spells-wider (spells-list1 (spells-tag " ") spells-astring) (λ v c h. (v, some-between _ _ v c h))) orˢ spells-nothing tt ([], refl)
-
-header_list_spells : Spells header_list (λ _. spells_header_list)
-unfolding header_list
-header_list_spells = spells-tag "(" ▹ˢ header_names_spell ◃ˢ (spells-maybe_space ⨾ˢ spells-tag ")")
-
-header_fields_spells : Spells header_fields spells_message_text
-unfolding header_fields fields_word not_word
-header_fields_spells =
-    spells-where header_yields
-    (spells-word "HEADER.FIELDS" ▹ˢ spells-maybe (spells-word ".NOT") ▹ˢ spells-tag " " ▹ˢ spells-names {T = λ _. spells_header_list} Header header_list_spells)
-    (λ v c e h. subst (λ w. spells_message_text w c) (sym e) (inr h))
-
-pub section_msgtext_spells : Spells section_msgtext spells_message_text
-unfolding section_msgtext
-section_msgtext_spells =
-    header_fields_spells
-    orˢ spells-names Header (spells-wider (spells-word "HEADER") (λ v c h. inl h))
-    orˢ spells-names Text (spells-word "TEXT")
-
--- what names a text of a message names one of a part
-of_part : (what : MessageSection) (c : Bytes) → spells_message_text what c → spells_section_text what c
-of_part Header c h = h
-of_part Mime c h = absurd h
-of_part Text c h = h
-
-pub section_text_spells : Spells section_text spells_section_text
-unfolding section_text
-section_text_spells = spells-wider section_msgtext_spells of_part orˢ spells-names Mime (spells-word "MIME")
-
-pub section_part_spells : Spells section_part spells_part
-unfolding section_part
-section_part_spells = spells-list1 (spells-tag ".") spells-number
-
-pub part_path_spells : Spells part_path spells_path
-unfolding part_path part_text
-part_path_spells =
-    spells-gives _ (section_part_spells ⨾ˢ (spells-gives Some (spells-tag "." ▹ˢ section_text_spells) orˢ spells-nothing None refl))
-
-pub section_spec_spells : Spells section_spec spells_path
-unfolding section_spec
-section_spec_spells = spells-gives Full section_msgtext_spells orˢ part_path_spells
-
-pub section_spells : Spells section spells_section
-unfolding section
-section_spells = spells-tag "[" ▹ˢ (spells-gives Some section_spec_spells orˢ spells-nothing None refl) ◃ˢ spells-tag "]"
-
--- ---- both laws
-
-closes_section : (t : Bytes) → Closes t → EndsSection t
+pub closes_section : (t : Bytes) → Closes t → EndsSection t
 closes_section = closes-in ends_section refl refl
-
-pub keeps_section_msgtext : SpellsAndReadsBack section_msgtext as_is canonical_section_text spells_message_text Closes
-keeps_section_msgtext = record { spelled = section_msgtext_spells; back = reads-follow reads_section_msgtext closes_section }
-
-pub keeps_section_text : SpellsAndReadsBack section_text as_is canonical_section_text spells_section_text Closes
-keeps_section_text = record { spelled = section_text_spells; back = reads-follow reads_section_text closes_section }
-
-pub keeps_section_part : SpellsAndReadsBack section_part as_is canonical_part spells_part Closes
-keeps_section_part = record {
-  spelled = section_part_spells;
-  back = reads-follow reads_section_part (λ t g. let ends = closes_section t g in (in_all not_digit refl refl refl t ends, denies-after _ _ _ (dot_denied t ends)));
-}
-
-pub keeps_section_spec : SpellsAndReadsBack section_spec as_is canonical_path spells_path Closes
-keeps_section_spec = record { spelled = section_spec_spells; back = reads-follow reads_section_spec closes_section }
-
-pub keeps_section : SpellsAndReadsBack section as_is canonical_section spells_section Closes
-keeps_section = record { spelled = section_spells; back = reads-follow reads_section (λ t g. tt) }

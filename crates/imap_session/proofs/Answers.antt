@@ -1,13 +1,13 @@
 -- What `next` answers, by what the feed gives.
-use Rattle.std.proofs.Common.{◌≡◌, false, Option, None, Some, Result, Ok, Err, refl, sym, ap, subst, ◌∙◌, inr}
-use Rattle.std.specs.Prelude.{IfOk, IfErr, OnErr, not}
+use Rattle.std.proofs.Common.{◌≡◌, false, Option, None, Some, Result, Ok, Err, refl, ap, ◌∙◌, inr}
+use Rattle.std.specs.Prelude.{IfOk, IfErr, OnErr}
 use Rattle.imap_grammar.specs.Text.{Bytes}
 use Rattle.imap_proto.specs.declared.response.Response.{Response as Given}
 use Rattle.imap_proto.specs.declared.stream.FeedError.{FeedError}
 use Rattle.imap_proto.specs.declared.stream.FeedError.TheVariants as fault
 use Rattle.imap_proto.specs.Feeds.{Gave, RefusesAs}
 use Rattle.imap_proto.specs.Owned.{owned_response}
-use Rattle.imap_proto.specs.Responses.{ResponseValue, Capabilities, Continue, Done, Data, Expunge, Vanished, Fetch, MailboxData, Quota, QuotaRoot, Id, Acl, ListRights, MyRights, response_value}
+use Rattle.imap_proto.specs.Responses.{ResponseValue, Done}
 use Rattle.imap_session.specs.declared.event.Event.{Event}
 use Rattle.imap_session.specs.declared.errors.SessionError.{SessionError}
 use Rattle.imap_session.specs.declared.errors.SessionError.TheVariants as error
@@ -17,20 +17,8 @@ use Rattle.imap_session.specs.Answers.{AnswersNext, NextMayWant, JudgesFront, Se
 
 -- owned texts move nothing else
 took_owned : (v : ResponseValue) (left : Bytes) (a : Machine) → took (owned_response v) left a ≡ took v left a
-took_owned (Capabilities cs) left a = refl
-took_owned (Continue o) left a = refl
 took_owned (Done t s o) left a = refl
-took_owned (Data s o) left a = refl
-took_owned (Expunge n) left a = refl
-took_owned (Vanished e rs) left a = refl
-took_owned (Fetch n vs) left a = refl
-took_owned (MailboxData d) left a = refl
-took_owned (Quota q) left a = refl
-took_owned (QuotaRoot q) left a = refl
-took_owned (Id ps) left a = refl
-took_owned (Acl l) left a = refl
-took_owned (ListRights l) left a = refl
-took_owned (MyRights l) left a = refl
+took_owned other left a = refl
 
 abbrev with_held : Bytes → Machine → Machine
 with_held h a = record a { held = h }

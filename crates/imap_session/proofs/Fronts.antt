@@ -1,5 +1,5 @@
 -- What stands in front of the held bytes, and whether it is expected.
-use Rattle.std.proofs.Common.{◌≡◌, ◌≢◌, ℕ, ◌<◌, Bool, true, false, not, [], ◌∷◌, ◌++◌, Option, None, Some, Ok, Err, length, refl, sym, ap, subst, ◌∙◌, append_assoc, arith, inl, inr}
+use Rattle.std.proofs.Common.{◌≡◌, ◌≢◌, ℕ, ◌<◌, Bool, true, false, not, [], ◌∷◌, ◌++◌, Option, Ok, Err, length, refl, sym, ap, subst, ◌∙◌, append_assoc, arith, inl, inr}
 use Rattle.std.specs.Prelude.{IsTrue, ◌↔◌}
 use Rattle.std.specs.List.{list_all}
 use Rattle.std.proofs.lemmas.Bool.{false≢true, and_parts}
@@ -15,7 +15,7 @@ use Rattle.imap_grammar.specs.Text.{Bytes}
 use Rattle.imap_grammar.proofs.Agreement.{agrees}
 use Rattle.imap_shared.specs.declared.types.statuses.Status.{Status}
 use Rattle.imap_proto.specs.Lines.{is_tag_char, response}
-use Rattle.imap_proto.specs.Responses.{OutcomeValue, ResponseValue, Capabilities, Continue, Done, Data, Expunge, Vanished, Fetch, MailboxData, Quota, QuotaRoot, Id, Acl, ListRights, MyRights}
+use Rattle.imap_proto.specs.Responses.{OutcomeValue, ResponseValue, Done}
 use Rattle.imap_proto.proofs.LineTexts.{response_spells}
 use Rattle.imap_proto.proofs.Streams.{stable}
 use Rattle.imap_session.specs.Machine.{Pending, IsExpected}
@@ -66,16 +66,4 @@ untagged pending held un = λ v left y. go v left y
   where
     go : (v : ResponseValue) (left : Bytes) → (meaning response).yields held v left → IsExpected pending v
     go (Done t s o) left y = absurd (false≢true (sym un ∙ tagged_begins held left t s o y))
-    go (Capabilities cs) left y = tt
-    go (Continue o) left y = tt
-    go (Data s o) left y = tt
-    go (Expunge n) left y = tt
-    go (Vanished e rs) left y = tt
-    go (Fetch n vs) left y = tt
-    go (MailboxData d) left y = tt
-    go (Quota q) left y = tt
-    go (QuotaRoot q) left y = tt
-    go (Id ps) left y = tt
-    go (Acl l) left y = tt
-    go (ListRights l) left y = tt
-    go (MyRights l) left y = tt
+    go other left y = tt

@@ -1,5 +1,5 @@
 -- Runs of the machine.
-use Rattle.std.proofs.Common.{◌≡◌, Bool, true, false, not, List, [], ◌∷◌, ◌++◌, reverse, Option, None, Some, refl, sym, ap, subst, ◌∙◌, append_assoc, inl, inr}
+use Rattle.std.proofs.Common.{◌≡◌, Bool, not, List, [], ◌∷◌, ◌++◌, reverse, Option, None, Some, refl, sym, ap, subst, ◌∙◌, append_assoc, inl, inr}
 use Rattle.std.proofs.lemmas.List.{append-nil, reverse-append}
 use Rattle.imap_grammar.specs.Meaning.{Cuts}
 use Rattle.imap_grammar.specs.Rule.{meaning}
@@ -7,14 +7,13 @@ use Rattle.imap_grammar.specs.Stable.{Stable}
 use Rattle.imap_grammar.specs.Text.{Bytes}
 use Rattle.imap_grammar.proofs.Stability.{is_stable}
 use Rattle.imap_command.specs.declared.command.State.{State}
-use Rattle.imap_shared.specs.declared.types.statuses.Status.{Status}
 use Rattle.imap_proto.specs.Lines.{response}
 use Rattle.imap_proto.specs.LogicalLines.{logical_line}
-use Rattle.imap_proto.specs.Responses.{ResponseValue, OutcomeValue, Capabilities, Continue, Done, Data, Expunge, Vanished, Fetch, MailboxData, Quota, QuotaRoot, Id, Acl, ListRights, MyRights}
+use Rattle.imap_proto.specs.Responses.{ResponseValue, Done}
 use Rattle.imap_proto.specs.Skipping as item
 use Rattle.imap_proto.proofs.Cuts.{both}
 use Rattle.imap_proto.proofs.Streams.{stable}
-use Rattle.imap_session.specs.Machine.{Pending, Machine, new, Sending, Sent, Busy, Exhausted, Sends, judged, after_sending, fed, Taking, Takes, Waits, Stops, StopsFor, IsExpected, left_pending, leads_to, took, Nexts, Skips, Keeps, went_on}
+use Rattle.imap_session.specs.Machine.{Pending, Machine, new, Sent, Busy, Exhausted, after_sending, Takes, Waits, Stops, StopsFor, IsExpected, left_pending, leads_to, took, Skips, Keeps, went_on}
 use Rattle.imap_session.specs.Runs.{Step, Send, Feed, Next, Skip, Goes, Runs, all_fed, happened, IsTagged, IsStopping, Passes, SkipsNone, SkipsDenied, passed, AllIsPassed, NoneIsLost, OutcomeFollows, StateFollows, CuttingsAlike}
 use Rattle.imap_session.specs.States.{Stop, Denied, StrangeTag, Happening, Accepted, Took, Skipped, is_first, led_to, moved, state_behind, after, taken, Mark, Command, Response, Line, outline}
 
@@ -60,19 +59,7 @@ stopping_more StrangeTag m t d = (d.0, d.1 ++ t, stable.yields_more m d.0 d.1 t 
 -- only a tagged line is not expected
 unexpected_tagged : (v : ResponseValue) (pending : Option Pending) → ¬ (IsExpected pending v) → IsTagged v
 unexpected_tagged (Done t s o) pending n = tt
-unexpected_tagged (Capabilities cs) pending n = absurd (n tt)
-unexpected_tagged (Continue o) pending n = absurd (n tt)
-unexpected_tagged (Data s o) pending n = absurd (n tt)
-unexpected_tagged (Expunge k) pending n = absurd (n tt)
-unexpected_tagged (Vanished e rs) pending n = absurd (n tt)
-unexpected_tagged (Fetch k vs) pending n = absurd (n tt)
-unexpected_tagged (MailboxData d) pending n = absurd (n tt)
-unexpected_tagged (Quota q) pending n = absurd (n tt)
-unexpected_tagged (QuotaRoot q) pending n = absurd (n tt)
-unexpected_tagged (Id ps) pending n = absurd (n tt)
-unexpected_tagged (Acl l) pending n = absurd (n tt)
-unexpected_tagged (ListRights l) pending n = absurd (n tt)
-unexpected_tagged (MyRights l) pending n = absurd (n tt)
+unexpected_tagged other pending n = absurd (n tt)
 
 stops_stuck : (why : Stop) (a : Machine) → StopsFor a why → IsStopping a.held why
 stops_stuck Denied a d = d
@@ -177,36 +164,12 @@ record Knows (hs : List Happening) (a : Machine) : Type 0 where
 moved_alike : (v : ResponseValue) (first : Bool) (pending : Option Pending) (next : Option State) (state : State) → IsExpected pending v → ((p : Pending) → pending ≡ Some p → p.next_state ≡ next) → moved v first (leads_to pending) state ≡ moved v first next state
 moved_alike (Done t s o) first None next state x h = absurd x
 moved_alike (Done t s o) first (Some p) next state x h = ap (λ (n : Option State). moved (Done t s o) first n state) (h p refl)
-moved_alike (Capabilities cs) first pending next state x h = refl
-moved_alike (Continue o) first pending next state x h = refl
-moved_alike (Data s o) first pending next state x h = refl
-moved_alike (Expunge n) first pending next state x h = refl
-moved_alike (Vanished e rs) first pending next state x h = refl
-moved_alike (Fetch n vs) first pending next state x h = refl
-moved_alike (MailboxData d) first pending next state x h = refl
-moved_alike (Quota q) first pending next state x h = refl
-moved_alike (QuotaRoot q) first pending next state x h = refl
-moved_alike (Id ps) first pending next state x h = refl
-moved_alike (Acl l) first pending next state x h = refl
-moved_alike (ListRights l) first pending next state x h = refl
-moved_alike (MyRights l) first pending next state x h = refl
+moved_alike other first pending next state x h = refl
 
 -- what is pending behind a response was pending before
 still_pending : (v : ResponseValue) (pending : Option Pending) (p : Pending) → left_pending v pending ≡ Some p → pending ≡ Some p
 still_pending (Done t s o) pending p e = cc
-still_pending (Capabilities cs) pending p e = e
-still_pending (Continue o) pending p e = e
-still_pending (Data s o) pending p e = e
-still_pending (Expunge n) pending p e = e
-still_pending (Vanished b rs) pending p e = e
-still_pending (Fetch n vs) pending p e = e
-still_pending (MailboxData d) pending p e = e
-still_pending (Quota q) pending p e = e
-still_pending (QuotaRoot q) pending p e = e
-still_pending (Id ps) pending p e = e
-still_pending (Acl l) pending p e = e
-still_pending (ListRights l) pending p e = e
-still_pending (MyRights l) pending p e = e
+still_pending other pending p e = e
 
 knows_sent : (args line : Bytes) (next : Option State) (hs : List Happening) (a : Machine) → Knows hs a → Knows (Accepted next ∷ hs) (after_sending (Sent line) next a)
 knows_sent args line next hs a k = record { state = k.state; first = k.first; next = λ p e. cc }

@@ -11,7 +11,7 @@ use Rattle.imap_grammar.specs.Text.{Bytes, as_text, lent_text}
 use Rattle.imap_grammar.specs.Tags.{tag}
 use Rattle.imap_grammar.specs.Pieces.{raw, plain}
 use Rattle.imap_grammar.specs.ReadBack.{ReadsBack, Spells, SpellsAndReadsBack, Any, BeginsWith, EndsItem, ends_item, as_is}
-use Rattle.imap_grammar.proofs.Reading.{raw_on, test-has, test-on, run1-has, first, reads-gives, reads-word, reads-follow, denies-after, denies-tag, denials, ends_item-in, names-denied, tag-denied}
+use Rattle.imap_grammar.proofs.Reading.{raw_on, test-has, test-on, run1-has, first, reads-gives, reads-word, denies-after, denies-tag, denials, ends_item-in, names-denied, tag-denied}
 use Rattle.imap_grammar.proofs.ReadingWords.{exact, apart_byte, run-apart}
 use Rattle.imap_grammar.proofs.ReadingLists.{reads-list_of}
 use Rattle.imap_grammar.proofs.Yields.{Yields}
@@ -120,7 +120,7 @@ pub reads_flag_text : ReadsBack flag_text lent_text plain EndsItem
 unfolding flag_text
 reads_flag_text = reads-gives as_text reads_flag_perm (λ x. refl)
 
-pub reads_flag_list : ReadsBack flag_list (map lent_text) canonical_flag_list Any
+reads_flag_list : ReadsBack flag_list (map lent_text) canonical_flag_list Any
 unfolding flag_list flag_text flag_perm flag backslashed_text backslashed keyword
 reads_flag_list = reads-list_of reads_flag_text (λ t. refl) (λ t. refl) (λ t. search denials depth 20)
 
@@ -138,7 +138,7 @@ flag_perm_spells =
     spells-names (codes "\\*") (spells-wider (spells-bytes (codes "\\*")) (λ v c h. inl (refl, h)))
     orˢ spells-wider flag_spells (λ v c h. inr h)
 
-pub flag_list_spells : Spells flag_list spells_flag_list
+flag_list_spells : Spells flag_list spells_flag_list
 unfolding flag_list flag_text
 flag_list_spells = spells-list_of (spells-gives as_text flag_perm_spells)
 
@@ -148,5 +148,5 @@ keeps_flag = record { spelled = flag_spells; back = reads_flag }
 pub keeps_flag_perm : SpellsAndReadsBack flag_perm as_is canonical_flag spells_flag_perm EndsItem
 keeps_flag_perm = record { spelled = flag_perm_spells; back = reads_flag_perm }
 
-pub keeps_flag_list : SpellsAndReadsBack flag_list (map lent_text) canonical_flag_list spells_flag_list EndsItem
-keeps_flag_list = record { spelled = flag_list_spells; back = reads-follow reads_flag_list (λ t g. tt) }
+pub keeps_flag_list : SpellsAndReadsBack flag_list (map lent_text) canonical_flag_list spells_flag_list Any
+keeps_flag_list = record { spelled = flag_list_spells; back = reads_flag_list }

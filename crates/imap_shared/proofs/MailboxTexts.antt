@@ -7,9 +7,8 @@ use Rattle.imap_grammar.specs.Rule.{meaning}
 use Rattle.imap_grammar.specs.Text.{Bytes, Text, decoded, as_text, lent_text}
 use Rattle.imap_grammar.specs.Tags.{same_letter}
 use Rattle.imap_grammar.specs.Pieces.{literal_of}
-use Rattle.imap_grammar.specs.ReadBack.{ReadsBack, Spells, SpellsAndReadsBack, Any, Closes}
+use Rattle.imap_grammar.specs.ReadBack.{ReadsBack, Spells, SpellsAndReadsBack, Any}
 use Rattle.imap_grammar.specs.Spelling.{spells_astring_text}
-use Rattle.imap_grammar.proofs.Reading.{reads-follow}
 use Rattle.imap_grammar.proofs.Spelling.{spells-gives, spells-wider}
 use Rattle.imap_bytes.specs.Strings.{astring}
 use Rattle.imap_bytes.specs.Texts.{astring_utf8}
@@ -42,7 +41,7 @@ mailbox_decoded b t h = elim (mailbox-is t) [
   | inr e ↦ subst (λ u. decoded u.bytes ≡ lent_text u) (sym e.0) (decoded_twice b t h)
 ]
 
-pub reads_mailbox : ReadsBack mailbox lent_text canonical_mailbox Any
+reads_mailbox : ReadsBack mailbox lent_text canonical_mailbox Any
 unfolding meaning mailbox astring_utf8
 reads_mailbox = record {
   again = λ m v rest y f t g. (
@@ -62,9 +61,9 @@ inbox_spells t c h = elim (mailbox-is t) [
   | inr e ↦ inr (subst (λ u. (is_inbox u.bytes ≡ false) × spells_astring_text u c) (sym e.0) (e.1, h))
 ]
 
-pub mailbox_spells : Spells mailbox spells_mailbox
+mailbox_spells : Spells mailbox spells_mailbox
 unfolding mailbox
 mailbox_spells = spells-gives mailbox_of (spells-wider spells-astring_utf8 inbox_spells)
 
-pub keeps_mailbox : SpellsAndReadsBack mailbox lent_text canonical_mailbox spells_mailbox Closes
-keeps_mailbox = record { spelled = mailbox_spells; back = reads-follow reads_mailbox (λ t g. tt) }
+pub keeps_mailbox : SpellsAndReadsBack mailbox lent_text canonical_mailbox spells_mailbox Any
+keeps_mailbox = record { spelled = mailbox_spells; back = reads_mailbox }

@@ -3,9 +3,9 @@ use Rattle.std.proofs.Common.{◌≡◌, ℕ, List, [], ◌∷◌, sym, ◌∙�
 use Rattle.std.proofs.lemmas.Str.{encodes-chars}
 use Rattle.imap_grammar.specs.Text.{Bytes, Text}
 use Rattle.imap_grammar.specs.Pieces.{lit}
-use Rattle.imap_grammar.specs.ReadBack.{ReadsBack, Spells, SpellsAndReadsBack, Any, Closes, as_is}
+use Rattle.imap_grammar.specs.ReadBack.{SpellsAndReadsBack, Any, as_is}
 use Rattle.imap_grammar.proofs.Yields.{Yields}
-use Rattle.imap_grammar.proofs.Reading.{reads-gives, reads-where, reads-follow}
+use Rattle.imap_grammar.proofs.Reading.{reads-gives, reads-where}
 use Rattle.imap_grammar.proofs.Spelling.{spells-gives, spells-where}
 use Rattle.imap_bytes.specs.Texts.{astring_utf8}
 use Rattle.imap_bytes.proofs.ReadingTexts.{reads-astring_utf8, utf8_yields}
@@ -28,13 +28,9 @@ astrings_yield : Yields (λ (t : Text). IsUtf8 t.bytes) astring_utf8
 unfolding astring_utf8
 astrings_yield = utf8_yields
 
-pub reads_rights : ReadsBack rights as_is canonical_rights Any
+pub keeps_rights : SpellsAndReadsBack rights as_is canonical_rights spells_rights Any
 unfolding rights
-reads_rights = reads-gives rights_in (reads-where astrings_yield reads-astring_utf8 (λ t u. ap lit (sym (text_kept t.bytes u)))) (λ x. refl)
-
-pub rights_spell : Spells rights spells_rights
-unfolding rights
-rights_spell = spells-gives rights_in (spells-where astrings_yield spells-astring_utf8 (λ t c u h. (ap rights_of (text_kept t.bytes u), (h.0, h.1, h.2 ∙ sym (text_kept t.bytes u)))))
-
-pub keeps_rights : SpellsAndReadsBack rights as_is canonical_rights spells_rights Closes
-keeps_rights = record { spelled = rights_spell; back = reads-follow reads_rights (λ t g. tt) }
+keeps_rights = record {
+  spelled = spells-gives rights_in (spells-where astrings_yield spells-astring_utf8 (λ t c u h. (ap rights_of (text_kept t.bytes u), (h.0, h.1, h.2 ∙ sym (text_kept t.bytes u)))));
+  back = reads-gives rights_in (reads-where astrings_yield reads-astring_utf8 (λ t u. ap lit (sym (text_kept t.bytes u)))) (λ x. refl);
+}

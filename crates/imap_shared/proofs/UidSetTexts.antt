@@ -9,8 +9,8 @@ use Rattle.imap_grammar.specs.Ranges.{Range, fresh}
 use Rattle.imap_grammar.specs.Spelling.{spells_ends}
 use Rattle.imap_grammar.specs.Tags.{tag}
 use Rattle.imap_grammar.specs.Pieces.{written}
-use Rattle.imap_grammar.specs.ReadBack.{ReadsBack, Spells, SpellsAndReadsBack, Apart, BeginsWith, Closes, as_is}
-use Rattle.imap_grammar.proofs.Reading.{raw_on, reads-gives, reads-follow, reads-list1, reads-as, first, denies-gives, denies-after, closes-in}
+use Rattle.imap_grammar.specs.ReadBack.{ReadsBack, Spells, SpellsAndReadsBack, Apart, BeginsWith, as_is}
+use Rattle.imap_grammar.proofs.Reading.{raw_on, reads-gives, reads-follow, reads-list1, reads-as, first, denies-gives, denies-after}
 use Rattle.imap_grammar.proofs.ReadingLists.{takes-text}
 use Rattle.imap_grammar.proofs.Spelling.{◌orˢ◌, spells-gives, spells-wider, spells-list1, spells-tag}
 use Rattle.imap_bytes.specs.Numbers.{number}
@@ -61,7 +61,7 @@ pub reads_member : ReadsBack uid_set_member as_is canonical_member RangeEnds
 unfolding uid_set_member
 reads_member = first reads_range uid_apart (reads-gives Uid (reads-follow reads-number range_digits) (λ x. refl))
 
-pub reads_uid_set : ReadsBack uid_set as_is canonical_uid_set SetEnds
+reads_uid_set : ReadsBack uid_set as_is canonical_uid_set SetEnds
 unfolding uid_set
 reads_uid_set = reads-as (reads-list1 (takes-text ",") reads_member (λ y t. tt) (λ t. refl) set_range set_comma) map-id
 
@@ -83,9 +83,9 @@ member_spells : Spells uid_set_member spells_member
 unfolding uid_set_member
 member_spells = spells-gives in_order (spells-wider spells-sequence_range (λ r c h. range_spells r c h.1)) orˢ spells-gives Uid spells-number
 
-pub uid_set_spells : Spells uid_set spells_uid_set
+uid_set_spells : Spells uid_set spells_uid_set
 unfolding uid_set
 uid_set_spells = spells-list1 (spells-tag ",") member_spells
 
-pub keeps_uid_set : SpellsAndReadsBack uid_set as_is canonical_uid_set spells_uid_set Closes
-keeps_uid_set = record { spelled = uid_set_spells; back = reads-follow reads_uid_set (closes-in (outside in_set) refl refl) }
+pub keeps_uid_set : SpellsAndReadsBack uid_set as_is canonical_uid_set spells_uid_set SetEnds
+keeps_uid_set = record { spelled = uid_set_spells; back = reads_uid_set }

@@ -1,14 +1,12 @@
 -- A login is finished by a tagged `OK`, and by nothing else.
-use Rattle.std.proofs.Common.{◌≡◌, Option, None, Some, Ok, refl, sym, ap, subst, ◌∙◌}
-use Rattle.std.specs.Prelude.{◌↔◌}
-use Rattle.imap_shared.specs.declared.types.statuses.Status.{Status}
+use Rattle.std.proofs.Common.{◌≡◌, Option, None, Some, Ok, refl, sym, ap, ◌∙◌}
 use Rattle.imap_shared.specs.declared.types.statuses.Status.TheVariants as status
 use Rattle.imap_command.specs.declared.command.State.TheVariants.{Authenticated}
 use Rattle.imap_proto.specs.Owned.{owned_response}
-use Rattle.imap_proto.specs.Responses.{ResponseValue, Capabilities, Continue, Done, Data, Expunge, Vanished, Fetch, MailboxData, Quota, QuotaRoot, Id, Acl, ListRights, MyRights}
+use Rattle.imap_proto.specs.Responses.{ResponseValue, Done}
 use Rattle.imap_proto.proofs.Streams.{stable}
 use Rattle.imap_session.specs.declared.event.Event.{Event}
-use Rattle.imap_session.specs.Answers.{EventValue, event_value, event_of, AnswersNext}
+use Rattle.imap_session.specs.Answers.{event_of, AnswersNext}
 use Rattle.imap_session.specs.Machine.{Machine, Takes, Nexts}
 use Rattle.imap_uses.specs.Sessions.{AwaitsLogin, Succeeds, status_of, finished_with}
 
