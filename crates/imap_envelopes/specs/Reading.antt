@@ -16,7 +16,7 @@ Reads r view m p result =
       rests : RestsOn view result;
     }
 
--- It is, by a reader that takes no memory.
+-- The same of a reader that takes no memory.
 abbrev pub ReadsExactly :
     {A V : Type 0} → Rule V → (Lookup → A → V) → Bytes → ℕ → Reached A → Type 0
 ReadsExactly r view m p result =

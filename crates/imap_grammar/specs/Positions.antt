@@ -65,7 +65,7 @@ Ahead m p (Err e) = Unit {0}
 abbrev pub ReadsAt : {A V : Type 0} → Rule V → (A → V) → List ℕ → ℕ → Reached A → Type 0
 ReadsAt r view m p result = StepsAt r view m p result × Ahead m p result
 
--- It is, by a reader that takes no memory.
+-- The same of a reader that takes no memory.
 abbrev pub ReadsExactlyAt : {A V : Type 0} → Rule V → (A → V) → List ℕ → ℕ → Reached A → Type 0
 ReadsExactlyAt r view m p result = StepsExactlyAt r view m p result × Ahead m p result
 
